@@ -1,0 +1,3 @@
+pub mod Battery
+pub mod Call
+pub mod Answer

@@ -1,0 +1,276 @@
+// The battery by value, the seven kinds of call, and what a call answers: document 01's types and refusal 10's tests.
+use card::Card;
+ghost use mathlib.Core.Path.{_≡_};
+ghost use Prim.Native.Nat.{_≤_};
+ghost use Rattle.battery.specs.Battery.{fresh as freshOf, zonesFinite, totalsFinite, batteryAccepted};
+ghost use Rattle.battery.specs.Call.{isLevel, isGivenTemperature, demandInRange, hydronicInRange, callInRange};
+ghost use Rattle.battery.specs.Answer.{refusedWith, plainAnswer, answerFinite};
+
+pub struct Battery {
+    pub card: Card,
+    // °C, the first `count` of 64 places; those above it are never read or written
+    pub zones: [f64; 64],
+    pub count: u8,
+    // hours in this timestep: total, pump and direct running time
+    pub total: f64,
+    pub pump: f64,
+    pub direct: f64,
+    // kWh: charged total, charged electric
+    pub charged: f64,
+    pub electric: f64,
+}
+
+// A mark and a value.
+pub enum Given {
+    Absent,
+    Value(f64),
+}
+
+pub struct Demand {
+    // 0 combi, 1 regular, 2 space, 3 direct
+    pub service: u8,
+    // the Rust's update_heat_source_state; a trial where it is false
+    pub commit: bool,
+    pub control: bool,
+    // kWh
+    pub required: f64,
+    // hours
+    pub start: f64,
+    // °C of the return
+    pub feed: Given,
+}
+
+pub struct Hydronic {
+    pub inlet: f64,
+    pub hours: f64,
+    pub flow: f64,
+    pub target: f64,
+    // kWh
+    pub limit: f64,
+    pub a: f64,
+    pub b: f64,
+    pub velocity: f64,
+    // metres
+    pub diameter: f64,
+}
+
+// Document 01's kinds 1 to 7.
+pub enum Call {
+    DemandEnergy(Demand),
+    // power, target
+    ChargeElectric(f64, f64),
+    ChargeHydronic(Hydronic),
+    HeatLoss,
+    CloseTimestep,
+    ReadStateOfCharge,
+    // flow maximum, target
+    ChargeEnergyDemand(Given, f64),
+}
+
+pub struct Answer {
+    // 0 for none
+    pub refusal: u8,
+    // kWh, or the state of charge
+    pub energy: f64,
+    // 1 where there is an outlet temperature
+    pub mark: u8,
+    pub outlet: f64,
+    // seconds
+    pub time: f64,
+    pub substeps: u32,
+    // the battery afterwards
+    pub battery: Battery,
+}
+
+pub fn fresh(card: Card) -> Battery
+    requires { ⌜ card .layers ≤ 64 ⌝ }
+    ensures { λ r. ⌜ r ≡ freshOf card ⌝ }
+{
+    let mut zones = [0.0; 64];
+    let n = card.layers as usize;
+    let start = card.start;
+    for k in 0..n {
+        zones[k] = start;
+    }
+    Battery {
+        card,
+        zones,
+        count: card.layers,
+        total: 0.0,
+        pump: 0.0,
+        direct: 0.0,
+        charged: 0.0,
+        electric: 0.0,
+    }
+}
+
+// Whether the first n zones are finite.
+pub fn zones_finite(zones: [f64; 64], n: usize) -> bool
+    requires { ⌜ n ≤ 64 ⌝ }
+    ensures { λ r. ⌜ r ≡ zonesFinite zones n ⌝ }
+{
+    let mut ok = true;
+    for k in 0..n {
+        ok = floats::both(ok, floats::is_finite(zones[k]));
+    }
+    ok
+}
+
+pub fn totals_finite(b: Battery) -> bool
+    ensures { λ r. ⌜ r ≡ totalsFinite b ⌝ }
+{
+    floats::both(
+        floats::is_finite(b.total),
+        floats::both(
+            floats::is_finite(b.pump),
+            floats::both(
+                floats::is_finite(b.direct),
+                floats::both(floats::is_finite(b.charged), floats::is_finite(b.electric)),
+            ),
+        ),
+    )
+}
+
+// Refusal 10's test of a battery: false where it is refused.
+pub fn is_accepted(version: u8, b: Battery) -> bool
+    ensures { λ r. ⌜ r ≡ batteryAccepted version b ⌝ }
+{
+    let c = b.card;
+    if card::refusal(version, c) == 0 {
+        if b.count == c.layers {
+            let zones = b.zones;
+            let n = c.layers as usize;
+            return floats::both(zones_finite(zones, n), totals_finite(b));
+        }
+        return false;
+    }
+    false
+}
+
+fn is_level(x: f64) -> bool
+    ensures { λ r. ⌜ r ≡ isLevel x ⌝ }
+{
+    card::ranges::within(0.0, 1.0, x)
+}
+
+fn is_given_temperature(given: Given) -> bool
+    ensures { λ r. ⌜ r ≡ isGivenTemperature given ⌝ }
+{
+    match given {
+        Given::Absent => true,
+        Given::Value(t) => card::ranges::is_temperature(t),
+    }
+}
+
+fn demand_in_range(card: Card, d: Demand) -> bool
+    ensures { λ r. ⌜ r ≡ demandInRange card d ⌝ }
+{
+    let feed = d.feed;
+    floats::both(
+        d.service <= 3,
+        floats::both(
+            card::ranges::within(-1000000.0, 1000000.0, d.required),
+            floats::both(
+                card::ranges::within(0.0, card.timestep, d.start),
+                is_given_temperature(feed),
+            ),
+        ),
+    )
+}
+
+fn hydronic_in_range(h: Hydronic) -> bool
+    ensures { λ r. ⌜ r ≡ hydronicInRange h ⌝ }
+{
+    let exchanger = floats::both(
+        card::ranges::is_coefficient(h.a),
+        floats::both(
+            card::ranges::is_coefficient(h.b),
+            floats::both(
+                card::ranges::is_velocity(h.velocity),
+                card::ranges::within(0.00001, 1.0, h.diameter),
+            ),
+        ),
+    );
+    floats::both(
+        card::ranges::is_temperature(h.inlet),
+        floats::both(
+            card::ranges::within(0.0, 24.0, h.hours),
+            floats::both(
+                card::ranges::is_flow(h.flow),
+                floats::both(
+                    is_level(h.target),
+                    floats::both(card::ranges::within(0.0, 1000000.0, h.limit), exchanger),
+                ),
+            ),
+        ),
+    )
+}
+
+// Refusal 10's test of a call's fields: false where it is refused.
+pub fn call_in_range(version: u8, card: Card, call: Call) -> bool
+    ensures { λ r. ⌜ r ≡ callInRange version card call ⌝ }
+{
+    match call {
+        Call::DemandEnergy(d) => demand_in_range(card, d),
+        Call::ChargeElectric(power, target) => {
+            floats::both(card::ranges::is_power(power), is_level(target))
+        }
+        Call::ChargeHydronic(h) => hydronic_in_range(h),
+        Call::HeatLoss => true,
+        Call::CloseTimestep => true,
+        Call::ReadStateOfCharge => true,
+        Call::ChargeEnergyDemand(most, target) => {
+            floats::both(is_given_temperature(most), is_level(target))
+        }
+    }
+}
+
+// A refusal line: the battery stays.
+pub fn refused(refusal: u8, b: Battery) -> Answer
+    ensures { λ r. ⌜ r ≡ refusedWith refusal b ⌝ }
+{
+    Answer {
+        refusal,
+        energy: 0.0,
+        mark: 0,
+        outlet: 0.0,
+        time: 0.0,
+        substeps: 0,
+        battery: b,
+    }
+}
+
+// An answer that ran no substep and has no outlet.
+pub fn plain_answer(energy: f64, b: Battery) -> Answer
+    ensures { λ r. ⌜ r ≡ plainAnswer energy b ⌝ }
+{
+    Answer {
+        refusal: 0,
+        energy,
+        mark: 0,
+        outlet: 0.0,
+        time: 0.0,
+        substeps: 0,
+        battery: b,
+    }
+}
+
+// Whether every reported number and total is finite.
+pub fn answer_finite(a: Answer) -> bool
+    requires { ⌜ a .battery .card .layers ≤ 64 ⌝ }
+    ensures { λ r. ⌜ r ≡ answerFinite a ⌝ }
+{
+    let b = a.battery;
+    let zones = b.zones;
+    let n = b.card.layers as usize;
+    floats::both(
+        floats::is_finite(a.energy),
+        floats::both(
+            floats::is_finite(a.outlet),
+            floats::both(
+                floats::is_finite(a.time),
+                floats::both(zones_finite(zones, n), totals_finite(b)),
+            ),
+        ),
+    )
+}

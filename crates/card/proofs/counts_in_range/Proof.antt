@@ -1,0 +1,34 @@
+use Rattle.card.specs.Card.{countsInRange}
+use borrow.Author.Needs.{needs}
+use Rattle.card.proofs.counts_in_range.Statement.{statement}
+use Rattle.card.proofs.counts_in_range.Tie as tie
+
+both-requires : tie.Need-both-requires
+both-requires c κs = search needs
+
+both-requires-2 : tie.Need-both-requires-2
+both-requires-2 c κs = search needs
+
+both-requires-3 : tie.Need-both-requires-3
+both-requires-3 c κs = search needs
+
+both-requires-4 : tie.Need-both-requires-4
+both-requires-4 c κs = search needs
+
+both-requires-5 : tie.Need-both-requires-5
+both-requires-5 c κs = search needs
+
+returns : tie.Need-returns
+unfolding countsInRange
+returns c = rw (← (c .before .before .before .before .both .ensures), ← (c .before .before .before .both2 .ensures), ← (c .before .before .both3 .ensures), ← (c .before .both4 .ensures), ← (c .both5 .ensures))
+
+pub counts-in-range-spec : {M : Type 1} → statement M
+counts-in-range-spec =
+    tie.close
+    (tie.spec
+    both-requires
+    both-requires-2
+    both-requires-3
+    both-requires-4
+    both-requires-5
+    returns)

@@ -1,0 +1,245 @@
+// The card: document 01's fields, refusals 1 to 4, and what HeatBatteryPcm::new derives.
+pub mod ranges;
+
+use zone::Kilojoules;
+use zone::Salt;
+ghost use mathlib.Core.Path.{_≡_};
+ghost use mathlib.Core.Bool.{_&&_};
+ghost use Rattle.card.specs.Card.{countsInRange, timesInRange, temperaturesInRange, capacitiesInRange, exchangerInRange, powersInRange, cardInRange, cardVerdict, cardRefusal};
+ghost use Rattle.card.specs.Derived.{saltOf, energyAt, derived as derivedOf};
+
+pub struct Card {
+    pub layers: u8,
+    pub units: u16,
+    // 1 where the battery is charged during a demand
+    pub simultaneous: u8,
+    // substeps that one call may take
+    pub budget: u16,
+    // seconds
+    pub substep: f64,
+    // hours
+    pub timestep: f64,
+    // °C: initial inlet, estimated outlet, max, ref, lower and upper end of the melting range
+    pub inlet: f64,
+    pub outlet: f64,
+    pub max: f64,
+    pub reference: f64,
+    pub lower: f64,
+    pub upper: f64,
+    // kJ/K of all layers
+    pub below: f64,
+    pub during: f64,
+    pub above: f64,
+    // m/s at 1 l/min, mm
+    pub velocity: f64,
+    pub diameter: f64,
+    pub a: f64,
+    pub b: f64,
+    // l/min
+    pub flow: f64,
+    // kW
+    pub losses: f64,
+    // °C of a fresh battery
+    pub start: f64,
+    // kW, 0: no charger
+    pub power: f64,
+}
+
+// Refusals 1 to 4.
+pub enum CardVerdict {
+    Accepted,
+    OutOfRange,
+    LowerAboveUpper,
+    MaxTooLow,
+    NothingToStore,
+}
+
+// What HeatBatteryPcm::new derives from a card.
+pub struct HeatBatteryPcm {
+    pub salt: Salt,
+    // the stored maximum
+    pub stored: Kilojoules,
+    // temperature difference of the rated losses
+    pub rated: f64,
+    // metres
+    pub diameter: f64,
+}
+
+// Every count in its range.
+fn counts_in_range(card: Card) -> bool
+    ensures { λ r. ⌜ r ≡ countsInRange card ⌝ }
+{
+    floats::both(
+        1 <= card.layers,
+        floats::both(
+            card.layers <= 64,
+            floats::both(
+                1 <= card.units,
+                floats::both(
+                    card.units <= 1000,
+                    floats::both(card.simultaneous <= 1, 1 <= card.budget),
+                ),
+            ),
+        ),
+    )
+}
+
+fn times_in_range(card: Card) -> bool
+    ensures { λ r. ⌜ r ≡ timesInRange card ⌝ }
+{
+    floats::both(
+        ranges::is_substep(card.substep),
+        ranges::is_timestep(card.timestep),
+    )
+}
+
+fn temperatures_in_range(card: Card) -> bool
+    ensures { λ r. ⌜ r ≡ temperaturesInRange card ⌝ }
+{
+    let salt = floats::both(
+        ranges::is_temperature(card.lower),
+        floats::both(
+            ranges::is_temperature(card.upper),
+            ranges::is_temperature(card.start),
+        ),
+    );
+    floats::both(
+        ranges::is_temperature(card.inlet),
+        floats::both(
+            ranges::is_temperature(card.outlet),
+            floats::both(
+                ranges::is_temperature(card.max),
+                floats::both(ranges::is_temperature(card.reference), salt),
+            ),
+        ),
+    )
+}
+
+fn capacities_in_range(card: Card) -> bool
+    ensures { λ r. ⌜ r ≡ capacitiesInRange card ⌝ }
+{
+    floats::both(
+        ranges::is_capacity(card.below),
+        floats::both(
+            ranges::is_capacity(card.during),
+            ranges::is_capacity(card.above),
+        ),
+    )
+}
+
+fn exchanger_in_range(card: Card) -> bool
+    ensures { λ r. ⌜ r ≡ exchangerInRange card ⌝ }
+{
+    floats::both(
+        ranges::is_velocity(card.velocity),
+        floats::both(
+            ranges::is_diameter(card.diameter),
+            floats::both(
+                ranges::is_coefficient(card.a),
+                floats::both(ranges::is_coefficient(card.b), ranges::is_flow(card.flow)),
+            ),
+        ),
+    )
+}
+
+fn powers_in_range(card: Card) -> bool
+    ensures { λ r. ⌜ r ≡ powersInRange card ⌝ }
+{
+    floats::both(ranges::is_power(card.losses), ranges::is_power(card.power))
+}
+
+fn card_in_range(card: Card) -> bool
+    ensures { λ r. ⌜ r ≡ cardInRange card ⌝ }
+{
+    floats::both(
+        counts_in_range(card),
+        floats::both(
+            times_in_range(card),
+            floats::both(
+                temperatures_in_range(card),
+                floats::both(
+                    capacities_in_range(card),
+                    floats::both(exchanger_in_range(card), powers_in_range(card)),
+                ),
+            ),
+        ),
+    )
+}
+
+// Refusals 1 to 4, in document 01's order.
+pub fn check(version: u8, card: Card) -> CardVerdict
+    ensures { λ r. ⌜ r ≡ cardVerdict version card ⌝ }
+{
+    if card_in_range(card) {
+        if card.lower <= card.upper {
+            if card.max <= floats::TEMP_AMBIENT_RATED_LOSSES_C {
+                return CardVerdict::MaxTooLow;
+            }
+            if card.max < card.reference {
+                return CardVerdict::NothingToStore;
+            }
+            if floats::nearly_equal(
+                card.max,
+                card.reference,
+                floats::TOLERANCE,
+                floats::MAX_RELATIVE,
+            ) {
+                return CardVerdict::NothingToStore;
+            }
+            return CardVerdict::Accepted;
+        }
+        return CardVerdict::LowerAboveUpper;
+    }
+    CardVerdict::OutOfRange
+}
+
+// Document 01's number of the verdict, 0 for an accepted card.
+pub fn refusal(version: u8, card: Card) -> u8
+    ensures { λ r. ⌜ r ≡ cardRefusal version card ⌝ }
+{
+    let verdict = check(version, card);
+    match verdict {
+        CardVerdict::Accepted => 0,
+        CardVerdict::OutOfRange => 1,
+        CardVerdict::LowerAboveUpper => 2,
+        CardVerdict::MaxTooLow => 3,
+        CardVerdict::NothingToStore => 4,
+    }
+}
+
+// The salt of a layer: its capacities are the card's divided by the layers.
+pub fn salt_of(card: Card) -> Salt
+    ensures { λ r. ⌜ r ≡ saltOf card ⌝ }
+{
+    let layers = card.layers as f64;
+    Salt {
+        lower: card.lower,
+        upper: card.upper,
+        below: card.below / layers,
+        during: card.during / layers,
+        above: card.above / layers,
+    }
+}
+
+// The energy above ref of the whole battery at one temperature.
+pub fn energy_at(card: Card, temperature: f64) -> Kilojoules
+    ensures { λ r. ⌜ r ≡ energyAt card temperature ⌝ }
+{
+    let salt = salt_of(card);
+    let layer = zone::layer::calculate_layer_energy_stored(temperature, card.reference, salt);
+    let layers = card.layers as f64;
+    Kilojoules(layer.0 * layers)
+}
+
+pub fn derived(card: Card) -> HeatBatteryPcm
+    ensures { λ r. ⌜ r ≡ derivedOf card ⌝ }
+{
+    let salt = salt_of(card);
+    let stored = energy_at(card, card.max);
+    HeatBatteryPcm {
+        salt,
+        stored,
+        rated: card.max - floats::TEMP_AMBIENT_RATED_LOSSES_C,
+        diameter: card.diameter / floats::MILLIMETRES_IN_METRE,
+    }
+}

@@ -1,0 +1,3 @@
+pub mod Laws
+pub mod Puts
+pub mod Places

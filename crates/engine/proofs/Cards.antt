@@ -1,0 +1,19 @@
+-- No step changes the card.
+use mathlib.Core.Path.{_≡_, refl}
+use mathlib.Core.Bool.{Bool, true, false, cond}
+use Rattle.battery.specs.declared.Battery.{Battery}
+use Rattle.battery.specs.declared.Demand.{Demand}
+use Rattle.engine.specs.declared.Ended.{Ended}
+use Rattle.engine.specs.Steps.{serviceClass, served, demandKept, demandAnswer}
+
+pub kept-card : (b : Battery) (d : Demand) (r : Ended) → demandKept b d r .card ≡ b .card
+unfolding demandKept served
+kept-card b d r = by (d .commit)
+  where
+    by : (t : Bool) → cond t (served b (serviceClass (b .card) (d .service)) r) b .card ≡ b .card
+    by true = refl
+    by false = refl
+
+pub answer-card : (b : Battery) (d : Demand) (r : Ended) → demandAnswer b d r .battery .card ≡ b .card
+unfolding demandAnswer
+answer-card b d r = kept-card b d r

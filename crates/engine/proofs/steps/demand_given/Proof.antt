@@ -1,0 +1,29 @@
+use Rattle.engine.specs.Steps.{demandGiven}
+use borrow.Author.Needs.{needs}
+use Rattle.engine.proofs.steps.demand_given.Statement.{statement}
+use Rattle.engine.proofs.steps.demand_given.Tie as tie
+
+enum-told : tie.Need-enum-told
+enum-told c = search needs
+
+refused-requires : tie.Need-refused-requires
+refused-requires c κs = search needs
+
+enum-known-given : tie.Need-enum-known-given
+enum-known-given c = search needs
+
+demand-from-requires : tie.Need-demand-from-requires
+demand-from-requires c κs = search needs
+
+returns : tie.Need-returns
+unfolding demandGiven
+returns c = rw (c .before .enum-told .given .1, ← (c .refused .ensures))
+
+returns-2 : tie.Need-returns-2
+unfolding demandGiven
+returns-2 c = rw (c .before .before .given .given .1, ← (c .demand-from .ensures))
+
+pub demand-given-spec : {M : Type 1} → statement M
+demand-given-spec =
+    tie.close
+    (tie.spec enum-told refused-requires enum-known-given demand-from-requires returns returns-2)

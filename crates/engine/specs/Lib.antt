@@ -1,0 +1,5 @@
+pub mod Runs
+pub mod Demand
+pub mod Hydronic
+pub mod Charge
+pub mod Steps

@@ -1,0 +1,8 @@
+pub mod Lengths
+pub mod Good
+pub mod Back
+pub mod AnswerBack
+pub mod Agreement
+pub mod CallLaws
+pub mod CallExact
+pub mod LineLaws

@@ -1,0 +1,83 @@
+-- Document 01, 'Call line': what follows the call's own bytes, and when two answers agree.
+use Prim.Native.Nat.{ℕ, zero, suc, _+_, _<_}
+use mathlib.Core.Path.{_≡_}
+use mathlib.Core.List.{List, _++_}
+use mathlib.Core.Bool.{Bool, true, _&&_}
+use mathlib.Core.Logic.{_⊎_}
+use lib.Dec.{eqb}
+use lib.ListN.{getD}
+use lib.Ieee.{Float, nan, eq}
+use Rattle.floats.specs.Constants as Constants
+use Rattle.floats.specs.Standins.{finite64}
+use Rattle.codec.specs.Bytes.{beAt, f64At, beBytes, f64Bytes}
+use Rattle.card.specs.declared.Card.{Card}
+use Rattle.battery.specs.declared.Battery.{Battery}
+use Rattle.battery.specs.declared.Answer.{Answer}
+use Rattle.battery.specs.Battery.{GoodBattery}
+use Rattle.sheet.specs.Records.{stateLength, stateAt, stateBytes}
+use Rattle.sheet.specs.Calls.{markOk}
+
+-- 'refusal (u8, 0 none), energy kWh, outlet mark (u8) and f64, time run s, substeps (u32)'
+unfoldable pub headLength : ℕ → ℕ
+headLength version = 30
+
+-- the place of the outlet's mark
+abbrev pub markPlace : ℕ
+markPlace = 9
+
+-- the head, then zones and totals
+unfoldable pub answerLength : ℕ → Card → ℕ
+answerLength version card = headLength version + stateLength version card
+
+unfoldable pub answerAt : ℕ → Card → List ℕ → Answer
+answerAt version card bs =
+    record {
+      refusal = getD bs 0 0;
+      energy = f64At bs 1;
+      mark = getD bs markPlace 0;
+      outlet = f64At bs (markPlace + 1);
+      time = f64At bs 18;
+      substeps = beAt bs 26 4;
+      battery = stateAt version card bs (headLength version);
+    }
+
+unfoldable pub headBytes : Answer → List ℕ
+headBytes a =
+    beBytes 1 (a .refusal) ++ f64Bytes (a .energy) ++ beBytes 1 (a .mark) ++ f64Bytes (a .outlet) ++ f64Bytes (a .time) ++ beBytes 4 (a .substeps)
+
+unfoldable pub answerBytes : ℕ → Answer → List ℕ
+answerBytes version a = headBytes a ++ stateBytes version (a .battery)
+
+-- refusal 42's test: 'a flag or mark, the outlet's too, other than 0 or 1, nonzero bytes under an absent mark'
+unfoldable pub marksOk : ℕ → List ℕ → Bool
+marksOk version bs = markOk bs markPlace
+
+-- 'Numbers agree when f64 equality holds'
+unfoldable pub sameNumber : Float → Float → Bool
+sameNumber x y = eq x y
+
+-- the first n zones agree
+unfoldable pub sameZones : List Float → List Float → ℕ → Bool
+sameZones xs ys zero = true
+sameZones xs ys (suc n) = sameZones xs ys n && sameNumber (getD xs n nan) (getD ys n nan)
+
+unfoldable pub sameTotals : Battery → Battery → Bool
+sameTotals x y =
+    sameNumber (x .total) (y .total) && (sameNumber (x .pump) (y .pump) && (sameNumber (x .direct) (y .direct) && (sameNumber (x .charged) (y .charged) && sameNumber (x .electric) (y .electric))))
+
+-- 'A call line agrees when its refusal, mark, substeps and f64 agree with those of the steps'
+unfoldable pub agrees : Answer → Answer → Bool
+agrees x y =
+    eqb (x .refusal) (y .refusal) && (sameNumber (x .energy) (y .energy) && (eqb (x .mark) (y .mark) && (sameNumber (x .outlet) (y .outlet)
+    && (sameNumber (x .time) (y .time) && (eqb (x .substeps) (y .substeps)
+    && (sameZones (x .battery .zones) (y .battery .zones) (x .battery .card .layers) && sameTotals (x .battery) (y .battery)))))))
+
+-- What a line can show: numbers that fit their fields, an absent outlet with zero bytes, a good battery.
+pub record GoodAnswer (version : ℕ) (a : Answer) : Type 0 where
+  pub refusal-fits : a .refusal < 256
+  pub substeps-fit : a .substeps < 4294967296
+  pub energy-finite : finite64 (a .energy) ≡ true
+  pub outlet-finite : finite64 (a .outlet) ≡ true
+  pub time-finite : finite64 (a .time) ≡ true
+  pub marked : ((a .mark ≡ 0) × (a .outlet ≡ Constants.zero)) ⊎ (a .mark ≡ 1)
+  pub battery-good : GoodBattery version (a .battery)

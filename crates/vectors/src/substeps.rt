@@ -1,0 +1,80 @@
+// Id 40: one substep over the zones, module 5.
+use crate::cards;
+use crate::water;
+use crate::words;
+use substep::Drive;
+use substep::Fault;
+use substep::Substep;
+ghost use Prim.Native.Nat.{_≤_};
+
+const FIRST_ZONE: usize = 24;
+
+// What the substep is asked, behind n zones.
+fn drive(s: &[u8], n: usize) -> Drive
+    requires { ⌜ n ≤ 64 ⌝ }
+{
+    let at = n + FIRST_ZONE;
+    let mode = water::mode_of(words::word(s, at));
+    Drive {
+        mode,
+        inlet: words::number(s, at + 1),
+        seconds: words::number(s, at + 2),
+        reynold: words::number(s, at + 3),
+        flow: words::number(s, at + 4),
+        power: words::number(s, at + 5),
+        target: words::number(s, at + 6),
+        a: words::number(s, at + 7),
+        b: words::number(s, at + 8),
+    }
+}
+
+// The outputs from word `at` on.
+fn answer_is(s: &[u8], at: usize, n: usize, r: Substep) -> bool
+    requires { ⌜ (at ≤ 256) × (n ≤ 64) ⌝ }
+{
+    let zones = r.zones;
+    let water = floats::both(
+        words::number_is(s, at + 1, r.outlet),
+        words::number_is(s, at + 2, r.delivered.0),
+    );
+    let heat = floats::both(
+        words::number_is(s, at + 3, r.charged.0),
+        words::numbers_are(s, at + 4, zones, n),
+    );
+    floats::both(words::word_is(s, at, 0), floats::both(water, heat))
+}
+
+// A refusal, and zeros behind it.
+fn refusal_is(s: &[u8], at: usize, n: usize, refusal: u64) -> bool
+    requires { ⌜ (at ≤ 256) × (n ≤ 64) ⌝ }
+{
+    let zeros = floats::both(
+        words::numbers_are(s, at + 1, [0.0; 64], 3),
+        words::numbers_are(s, at + 4, [0.0; 64], n),
+    );
+    floats::both(words::word_is(s, at, refusal), zeros)
+}
+
+fn outputs_are(s: &[u8], at: usize, n: usize, r: Substep) -> bool
+    requires { ⌜ (at ≤ 256) × (n ≤ 64) ⌝ }
+{
+    let fault = r.fault;
+    match fault {
+        Fault::Nothing => answer_is(s, at, n, r),
+        Fault::Logarithm => refusal_is(s, at, n, 24),
+        Fault::NotFinite => refusal_is(s, at, n, 23),
+    }
+}
+
+pub fn substep(s: &[u8]) -> bool {
+    let card = cards::read(s);
+    if card.layers <= 64 {
+        let n = card.layers as usize;
+        let zones = words::numbers(s, FIRST_ZONE, n);
+        let d = drive(s, n);
+        let r = substep::process_heat_battery_zones(card, card::derived(card), d, zones);
+        let shape = floats::both(words::has(s, 37 + 2 * n), words::word_is(s, 23, n as u64));
+        return floats::both(shape, outputs_are(s, n + 33, n, r));
+    }
+    false
+}

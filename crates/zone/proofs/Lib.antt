@@ -1,0 +1,5 @@
+pub mod Sums
+pub mod Falls
+pub mod Directions
+pub mod Charges
+pub mod Points

@@ -1,0 +1,83 @@
+-- Document 01, module 1: what a layer holds above ref, the temperature of a level, the state of charge, and what a zone needs to its target.
+use mathlib.Core.Bool.{cond}
+use mathlib.Core.List.{List}
+use Prim.Native.Nat.{ℕ, zero, suc}
+use lib.ListN.{getD}
+use lib.Ieee.{Float, nan, lt, le}
+use Rattle.floats.specs.F64.{_⊕_, _⊖_, _⊗_, _⊘_}
+use Rattle.floats.specs.Constants as Constants
+use Rattle.floats.specs.Constants.{one, tolerance}
+use Rattle.floats.specs.Standins.{min}
+use Rattle.zone.specs.Heat.{kj}
+use Rattle.zone.specs.declared.Kilojoules.{Kilojoules}
+use Rattle.zone.specs.declared.Salt.{Salt}
+use Rattle.zone.specs.declared.StateOfCharge.{StateOfCharge}
+use Rattle.zone.specs.declared.StateOfCharge.the-variants.{Level, Above}
+
+-- `calculate_layer_energy_stored`: the energy of a layer at t above ref
+unfoldable pub layerEnergyStored : Float → Float → Salt → Kilojoules
+layerEnergyStored t ref s =
+    cond (le t ref)
+    (kj Constants.zero)
+    (cond (le t (s .lower))
+    (kj ((t ⊖ ref) ⊗ s .below))
+    (cond (le (s .upper) ref)
+    (kj ((t ⊖ ref) ⊗ s .above))
+    (cond (le (s .lower) ref)
+    (cond (le t (s .upper))
+    (kj ((t ⊖ ref) ⊗ s .during))
+    (kj ((s .upper ⊖ ref) ⊗ s .during ⊕ (t ⊖ s .upper) ⊗ s .above)))
+    (cond (le t (s .upper))
+    (kj ((s .lower ⊖ ref) ⊗ s .below ⊕ (t ⊖ s .lower) ⊗ s .during))
+    (kj ((s .lower ⊖ ref) ⊗ s .below ⊕ (s .upper ⊖ s .lower) ⊗ s .during ⊕ (t ⊖ s .upper) ⊗ s .above))))))
+
+-- the temperature at which a layer holds e, from its energies at lower and at upper
+unfoldable pub tempAt : Salt → Float → Kilojoules → Kilojoules → Kilojoules → Float
+tempAt s ref e atLower atUpper =
+    cond (le (e .0) (atLower .0))
+    (ref ⊕ e .0 ⊘ s .below)
+    (cond (le (e .0) (atUpper .0))
+    (s .lower ⊕ (e .0 ⊖ atLower .0) ⊘ s .during)
+    (s .upper ⊕ (e .0 ⊖ atUpper .0) ⊘ s .above))
+
+-- `soc_to_temp`: ref at level 0, max at level 1
+unfoldable pub socToTemp : Salt → Float → Float → Float → Float
+socToTemp s ref max soc =
+    cond (le soc Constants.zero)
+    ref
+    (cond (le one soc)
+    max
+    (tempAt s ref (kj (soc ⊗ layerEnergyStored max ref s .0)) (layerEnergyStored (s .lower) ref s) (layerEnergyStored (s .upper) ref s)))
+
+-- the salt of zone i
+unfoldable pub zoneSalt : Salt → ℕ → Salt
+zoneSalt s i = s
+
+-- the stored energy of the first k zones: the plain sum in zone order
+unfoldable pub storedEnergy : Salt → Float → List Float → ℕ → Kilojoules
+storedEnergy s ref zones zero = kj Constants.zero
+storedEnergy s ref zones (suc k) =
+    kj (storedEnergy s ref zones k .0 ⊕ layerEnergyStored (getD zones k nan) ref (zoneSalt s k) .0)
+
+-- 'state of charge above 1.0 + 1e-10' is refused; up to there it is at most 1
+unfoldable pub levelOf : Float → StateOfCharge
+levelOf soc = cond (lt (one ⊕ tolerance) soc) Above (Level (min soc one))
+
+-- `calc_state_of_charge` of n zones, from the stored maximum
+unfoldable pub stateOfCharge : Salt → Float → Kilojoules → List Float → ℕ → StateOfCharge
+stateOfCharge s ref most zones n = levelOf (storedEnergy s ref zones n .0 ⊘ most .0)
+
+-- `calculate_zone_energy_required`: what a zone at t gives up on the way to its target, so below 0 where it takes heat
+unfoldable pub zoneEnergyRequired : Salt → Float → Float → Kilojoules
+zoneEnergyRequired s t target =
+    cond (le (s .upper) t)
+    (kj (s .above ⊗ (t ⊖ target)))
+    (cond (le (s .lower) t)
+    (cond (lt (s .upper) target)
+    (kj (s .above ⊗ (s .upper ⊖ target) ⊕ s .during ⊗ (t ⊖ s .upper)))
+    (kj (s .during ⊗ (t ⊖ target))))
+    (cond (lt (s .upper) target)
+    (kj (s .above ⊗ (s .upper ⊖ target) ⊕ s .during ⊗ (s .lower ⊖ s .upper) ⊕ s .below ⊗ (t ⊖ s .lower)))
+    (cond (lt (s .lower) target)
+    (kj (s .during ⊗ (s .lower ⊖ target) ⊕ s .below ⊗ (t ⊖ s .lower)))
+    (kj (s .below ⊗ (t ⊖ target))))))

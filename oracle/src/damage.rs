@@ -1,0 +1,429 @@
+//! Sheets as the entries write them, and damaged copies with the verdict that the damage settles.
+
+use crate::auditor::{Verdict, MOST_BYTES};
+use crate::entries;
+use crate::fields::{self, Line};
+use crate::generate;
+use crate::model::Card;
+use crate::plain;
+use crate::random::Random;
+use crate::raw::garbage;
+use crate::reading;
+use crate::sheet::{self, OPENING_BYTES};
+
+/// A sheet for an auditor without a limit of length.
+pub struct Sheet {
+    /// How it was made.
+    pub what: &'static str,
+    pub bytes: Vec<u8>,
+    pub known: Known,
+}
+
+/// Which verdict the making of a sheet settles.
+#[derive(Clone, Copy, Debug, PartialEq, Eq)]
+pub enum Known {
+    Exactly(Verdict),
+    /// No line before this one is refused.
+    From(u64),
+}
+
+impl Known {
+    pub fn allows(&self, verdict: &Verdict) -> bool {
+        match (self, verdict) {
+            (Known::Exactly(known), verdict) => known == verdict,
+            (Known::From(_), Verdict::Accepted(_)) => true,
+            (Known::From(first), Verdict::Refused { line, .. }) => line >= first,
+        }
+    }
+}
+
+fn refused(refusal: u8, line: u64) -> Known {
+    Known::Exactly(Verdict::refused(refusal, line))
+}
+
+// ---- Sheets as the entries write them
+
+/// A sheet, and how many of the calls 10 and 11 spared.
+pub struct Written {
+    pub bytes: Vec<u8>,
+    pub lines: u64,
+}
+
+/// Opens a sheet of `room` bytes and makes up to `calls` random calls, some of them broken.
+pub fn write(random: &mut Random, card: &Card, calls: u64, room: usize) -> Written {
+    let mut lent = garbage(random, room);
+    let mut record = vec![0; sheet::record_length(card.layers)];
+    let opened = entries::open(&sheet::card_bytes(card), &mut record, &mut lent);
+    assert_eq!(opened, 0, "an accepted card with room opens a sheet");
+    let mut written = Written { bytes: Vec::new(), lines: 0 };
+    let mut used = OPENING_BYTES;
+    for _ in 0..calls {
+        let battery = reading::battery(&record).expect("an entry leaves a good battery");
+        let mut call = sheet::call_bytes(&generate::next_call(random, &battery));
+        if random.one_in(10) {
+            fields::break_call(random, &mut call, card.timestep);
+        }
+        let result = entries::call(&mut record, &call, &mut lent[used..]);
+        if result != 10 && result != 11 {
+            used += 2 + call.len() + sheet::answer_length(card.layers);
+            written.lines += 1;
+        }
+    }
+    lent.truncate(used);
+    written.bytes = lent;
+    written
+}
+
+/// A sheet of an ordinary list; the room is at times too small for all of it.
+fn ordinary(random: &mut Random) -> Written {
+    let card = generate::card(random);
+    let calls = generate::list_length(random) - 1;
+    let room = match random.below(4) {
+        0 => OPENING_BYTES + random.below(3000) as usize,
+        _ => 40_000,
+    };
+    write(random, &card, calls, room)
+}
+
+/// A sheet of more bytes than the program takes.
+fn long(random: &mut Random) -> Written {
+    let card = Card { layers: 64, ..generate::card(random) };
+    write(random, &card, 140, 2 * MOST_BYTES)
+}
+
+// ---- Damage that is tried everywhere
+
+/// One bit flipped in one byte of an accepted sheet, with its verdict.
+pub fn flipped(sheet: &[u8], lines: &[Line], at: usize, bit: u8) -> Sheet {
+    let mut bytes = sheet.to_vec();
+    bytes[at] ^= bit;
+    let known = match lines.iter().find(|line| line.whole().contains(&at)) {
+        Some(line) => line_known(sheet, &bytes, line, at, lines.len() as u64),
+        None if at == 0 => refused(40, 0),
+        None if at < 3 => refused(41, 0),
+        None => card_known(&bytes),
+    };
+    Sheet { what: "flipped bit", bytes, known }
+}
+
+/// The card of a sheet was changed.
+fn card_known(bytes: &[u8]) -> Known {
+    let card = reading::card(&bytes[3..OPENING_BYTES]).expect("a card's length");
+    match plain::card_refusal(&card) {
+        0 => Known::From(0),
+        _ => refused(41, 0),
+    }
+}
+
+/// Byte `at` of a line was changed, nothing else.
+fn line_known(before: &[u8], after: &[u8], line: &Line, at: usize, lines: u64) -> Known {
+    let index = line.index;
+    if at < line.call() {
+        refused(42, index)
+    } else if at < line.answer() {
+        // Kinds 4, 5 and 6 have one length; another call in range can have the same answer.
+        match sheet::call_length(after[line.call()]) == sheet::call_length(line.kind) {
+            true => Known::From(index),
+            false => refused(42, index),
+        }
+    } else if at == line.outlet_mark() {
+        let absent = after[at] == 0 && fields::number_at(after, line.outlet()).to_bits() == 0;
+        match absent || after[at] == 1 {
+            true => refused(43, index),
+            false => refused(42, index),
+        }
+    } else if (line.outlet()..line.time()).contains(&at) && after[line.outlet_mark()] == 0 {
+        refused(42, index)
+    } else if at == line.answer() || (line.substeps()..line.state()).contains(&at) {
+        refused(43, index)
+    } else {
+        number_known(before, after, line, at, lines)
+    }
+}
+
+/// A number that is present was changed: accepted where f64 equality still holds.
+fn number_known(before: &[u8], after: &[u8], line: &Line, at: usize, lines: u64) -> Known {
+    let start =
+        [line.energy(), line.outlet(), line.time()].into_iter().find(|p| (*p..p + 8).contains(&at));
+    let start = start.unwrap_or_else(|| at - (at - line.state()) % 8);
+    match fields::number_at(before, start) == fields::number_at(after, start) {
+        true => Known::Exactly(Verdict::Accepted(lines)),
+        false => refused(43, line.index),
+    }
+}
+
+/// An accepted sheet cut to a length, with its verdict.
+pub fn cut(sheet: &[u8], lines: &[Line], length: usize) -> Sheet {
+    let known = match lines.iter().find(|line| line.end() > length) {
+        _ if length == 0 => refused(40, 0),
+        _ if length < OPENING_BYTES => refused(41, 0),
+        Some(line) if line.at == length => Known::Exactly(Verdict::Accepted(line.index - 1)),
+        Some(line) => refused(42, line.index),
+        None => Known::Exactly(Verdict::Accepted(lines.len() as u64)),
+    };
+    Sheet { what: "cut", bytes: sheet[..length].to_vec(), known }
+}
+
+/// A bit flipped in every byte, and the sheet cut at every length.
+pub fn everywhere(random: &mut Random, sheet: &[u8]) -> Vec<Sheet> {
+    let lines = fields::lines(sheet);
+    let mut copies = Vec::with_capacity(2 * sheet.len());
+    for at in 0..sheet.len() {
+        copies.push(flipped(sheet, &lines, at, 1 << random.below(8)));
+        copies.push(cut(sheet, &lines, at));
+    }
+    copies
+}
+
+/// The sign of every zero of every line flipped, in copies of their own.
+pub fn zero_signs(sheet: &[u8]) -> Vec<Sheet> {
+    let lines = fields::lines(sheet);
+    let mut copies = Vec::new();
+    for line in &lines {
+        let mut places = line.numbers();
+        places.push(line.outlet());
+        places.retain(|at| fields::number_at(sheet, *at) == 0.0);
+        for at in places {
+            copies.push(Sheet { what: "sign of a zero", ..flipped(sheet, &lines, at, 128) });
+        }
+        let call = &sheet[line.call_bytes()];
+        if let Some(mark) = fields::mark(line.kind).filter(|mark| call[*mark] == 0) {
+            let mut bytes = sheet.to_vec();
+            bytes[line.call() + mark + 1] = 128;
+            let known = refused(42, line.index);
+            copies.push(Sheet { what: "sign of an absent zero", bytes, known });
+        }
+    }
+    copies
+}
+
+// ---- Damage that is drawn
+
+/// A sheet under damage: its bytes, and the lines that it had.
+struct Copy<'a> {
+    random: &'a mut Random,
+    bytes: Vec<u8>,
+    lines: Vec<Line>,
+}
+
+impl Copy<'_> {
+    fn line(&mut self) -> Option<Line> {
+        match self.lines.len() as u64 {
+            0 => None,
+            n => Some(self.lines[self.random.below(n) as usize]),
+        }
+    }
+
+    fn done(self, what: &'static str, known: Known) -> Option<Sheet> {
+        Some(Sheet { what, bytes: self.bytes, known })
+    }
+
+    fn behind(&self) -> u64 {
+        self.lines.len() as u64 + 1
+    }
+
+    /// Changes a line's answer so that it disagrees and keeps the layout.
+    fn disagree(&mut self, line: &Line) {
+        match self.random.below(5) {
+            0 => self.bytes[line.answer()] ^= 1 + self.random.below(255) as u8,
+            1 => self.bytes[line.substeps() + 3] ^= 1 + self.random.below(255) as u8,
+            2 => {
+                let at = self.random.pick(&line.numbers());
+                fields::put_number(&mut self.bytes, at, fields::not_finite(self.random));
+            }
+            3 => {
+                let at = self.random.pick(&line.numbers());
+                let next = fields::number_at(&self.bytes, at).next_up().next_up();
+                fields::put_number(&mut self.bytes, at, next);
+            }
+            _ => self.swap_outlet(line),
+        }
+    }
+
+    /// Shows an outlet where none is due, and none where one is.
+    fn swap_outlet(&mut self, line: &Line) {
+        self.bytes[line.outlet_mark()] ^= 1;
+        if self.bytes[line.outlet_mark()] == 0 {
+            fields::put_number(&mut self.bytes, line.outlet(), 0.0);
+        } else if self.random.one_in(2) {
+            let outlet = self.random.between(0.0, 90.0);
+            fields::put_number(&mut self.bytes, line.outlet(), outlet);
+        }
+    }
+
+    /// Changes a line so that refusal 42 applies to it.
+    fn break_layout(&mut self, line: &Line, timestep: f64) {
+        match self.random.below(4) {
+            0 => self.bytes[line.at + 1] ^= 1 + self.random.below(255) as u8,
+            1 => self.bytes[line.outlet_mark()] = self.random.pick(&[2, 3, 128, 255]),
+            2 if self.bytes[line.outlet_mark()] == 0 => {
+                let at = line.outlet() + self.random.below(8) as usize;
+                self.bytes[at] = self.random.pick(&[1, 128, 255]);
+            }
+            _ => {
+                let call = &mut self.bytes[line.call_bytes()];
+                fields::break_call(self.random, call, timestep);
+            }
+        }
+    }
+
+    /// A refusal line in the place of an answer, or with another number.
+    fn refuse_without_case(&mut self, line: &Line) {
+        let numbers = [1, 10, 11, 20, 21, 22, 23, 24, 25, 40, 43, 255];
+        let shown = self.bytes[line.answer()];
+        let refusal = self.random.pick(&numbers);
+        self.bytes[line.answer()] = if refusal == shown { refusal + 1 } else { refusal };
+        self.bytes[line.energy()..line.state()].fill(0);
+    }
+
+    fn remove(&mut self, line: &Line) {
+        self.bytes.drain(line.whole());
+    }
+
+    fn repeat(&mut self, line: &Line) {
+        let copy = self.bytes[line.whole()].to_vec();
+        self.bytes.splice(line.at..line.at, copy);
+    }
+
+    fn put_card(&mut self, card: &Card) {
+        self.bytes[3..OPENING_BYTES].copy_from_slice(&sheet::card_bytes(card));
+    }
+}
+
+/// Damage to version, card line or what stands behind the last line.
+fn damage_ends(mut copy: Copy) -> Option<Sheet> {
+    let behind = copy.behind();
+    match copy.random.below(8) {
+        0 => {
+            copy.bytes[0] = copy.random.pick(&[0, 2, 2, 3, 49, 128, 255]);
+            copy.done("version", refused(40, 0))
+        }
+        1 => {
+            let length = copy.random.pick(&[0, 1, 157, 159, 0x9e00, 0xffff]);
+            copy.bytes[1..3].copy_from_slice(&u16::to_be_bytes(length));
+            copy.done("card's length", refused(41, 0))
+        }
+        2 | 3 => {
+            let card = generate::any_card(copy.random);
+            copy.put_card(&card);
+            let known = card_known(&copy.bytes);
+            copy.done("another card", known)
+        }
+        4 => {
+            let length = 1 + copy.random.below(80) as usize;
+            let more = garbage(copy.random, length);
+            copy.bytes.extend(more);
+            copy.done("bytes behind", refused(42, behind))
+        }
+        5 => {
+            let length = copy.random.below(400) as usize;
+            let more = garbage(copy.random, length);
+            copy.bytes.truncate(OPENING_BYTES);
+            copy.bytes.extend(more);
+            let first =
+                if length == 0 { Known::Exactly(Verdict::Accepted(0)) } else { refused(42, 1) };
+            copy.done("garbage behind the card", first)
+        }
+        6 => {
+            let length = copy.random.below(400) as usize;
+            copy.bytes = garbage(copy.random, length);
+            copy.done("garbage", Known::From(0))
+        }
+        _ => {
+            let at = copy.random.below(copy.bytes.len() as u64) as usize;
+            let lines = std::mem::take(&mut copy.lines);
+            Some(flipped(&copy.bytes, &lines, at, 1 << copy.random.below(8)))
+        }
+    }
+}
+
+/// Damage to one line.
+fn damage_line(mut copy: Copy, timestep: f64) -> Option<Sheet> {
+    let line = copy.line()?;
+    let index = line.index;
+    match copy.random.below(9) {
+        0 | 1 => {
+            copy.disagree(&line);
+            copy.done("answer", refused(43, index))
+        }
+        2 | 3 => {
+            copy.break_layout(&line, timestep);
+            copy.done("layout", refused(42, index))
+        }
+        4 => {
+            copy.refuse_without_case(&line);
+            copy.done("refusal without its case", refused(43, index))
+        }
+        5 => {
+            copy.disagree(&line);
+            copy.break_layout(&line, timestep);
+            copy.done("42 and 43 on one line", refused(42, index))
+        }
+        6 => {
+            copy.remove(&line);
+            copy.done("line removed", Known::From(index))
+        }
+        7 => {
+            copy.repeat(&line);
+            copy.done("line repeated", Known::From(index + 1))
+        }
+        _ => {
+            let length = copy.random.below(copy.bytes.len() as u64) as usize;
+            Some(cut(&copy.bytes, &copy.lines, length))
+        }
+    }
+}
+
+/// Damage to two lines: the lower one wins.
+fn damage_two(mut copy: Copy, timestep: f64) -> Option<Sheet> {
+    let (one, other) = (copy.line()?, copy.line()?);
+    if one.index == other.index {
+        return None;
+    }
+    copy.disagree(&one);
+    copy.break_layout(&other, timestep);
+    let known =
+        if one.index < other.index { refused(43, one.index) } else { refused(42, other.index) };
+    copy.done("43 and 42 on two lines", known)
+}
+
+/// A damaged copy of an accepted sheet; None where the sheet has no place for the damage drawn.
+pub fn damaged(random: &mut Random, sheet: &[u8]) -> Option<Sheet> {
+    let timestep = reading::card(&sheet[3..OPENING_BYTES])?.timestep;
+    let which = random.below(10);
+    let copy = Copy { random, bytes: sheet.to_vec(), lines: fields::lines(sheet) };
+    match which {
+        0..=2 => damage_ends(copy),
+        3..=8 => damage_line(copy, timestep),
+        _ => damage_two(copy, timestep),
+    }
+}
+
+// ---- Families
+
+/// The most bytes of a sheet that is damaged everywhere.
+const SMALL: usize = 900;
+/// Damaged copies that are drawn for one sheet.
+const DRAWN: u64 = 24;
+
+/// Which families are of a sheet with more bytes than the program takes.
+const LONG_EVERY: u64 = 100;
+
+/// A sheet as the entries write it, with damaged copies: all of `everywhere` for a small one
+/// now and then.
+pub fn family(random: &mut Random, index: u64) -> Vec<Sheet> {
+    let is_long = index.is_multiple_of(LONG_EVERY);
+    let written = if is_long { long(random) } else { ordinary(random) };
+    let sheet = written.bytes;
+    let mut family = Vec::new();
+    for _ in 0..if is_long { 4 } else { DRAWN } {
+        family.extend(damaged(random, &sheet));
+    }
+    if sheet.len() <= SMALL && random.one_in(8) {
+        family.extend(everywhere(random, &sheet));
+        family.extend(zero_signs(&sheet));
+    }
+    let known = Known::Exactly(Verdict::Accepted(written.lines));
+    family.push(Sheet { what: "as written", bytes: sheet, known });
+    family
+}

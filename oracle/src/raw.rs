@@ -1,0 +1,222 @@
+//! Random bytes for the entries: valid ones, every refusal, damaged ones, any room.
+
+use crate::fields;
+use crate::generate;
+use crate::model::{Battery, Card};
+use crate::plain;
+use crate::random::Random;
+use crate::ranges;
+use crate::sheet::{self, CARD_BYTES, OPENING_BYTES};
+
+/// What is lent to `open`.
+pub struct Opening {
+    pub card: Vec<u8>,
+    pub record: Vec<u8>,
+    pub sheet: Vec<u8>,
+    /// What the making settles.
+    pub known: Known,
+}
+
+/// What is lent to `call`.
+pub struct Calling {
+    pub record: Vec<u8>,
+    pub call: Vec<u8>,
+    pub sheet: Vec<u8>,
+    pub known: Known,
+}
+
+/// Which result the making of an input settles.
+#[derive(Clone, Copy, Debug, PartialEq, Eq)]
+pub enum Known {
+    Nothing,
+    /// 0, or for a call one of 20 to 25 as well.
+    Line,
+    Refusal(u8),
+}
+
+impl Known {
+    pub fn allows(&self, result: u8) -> bool {
+        match *self {
+            Known::Nothing => true,
+            Known::Line => result == 0 || (20..=25).contains(&result),
+            Known::Refusal(refusal) => result == refusal,
+        }
+    }
+}
+
+pub fn garbage(random: &mut Random, length: usize) -> Vec<u8> {
+    match random.below(4) {
+        0 => vec![0; length],
+        1 => vec![0xff; length],
+        _ => (0..length).map(|_| random.word() as u8).collect(),
+    }
+}
+
+/// Another length than `right`.
+fn wrong_length(random: &mut Random, right: usize) -> usize {
+    let lengths = [right - 1, right + 1, right + 8, right / 2, 0, 1, random.below(900) as usize];
+    match random.pick(&lengths) {
+        length if length == right => right + 1,
+        length => length,
+    }
+}
+
+/// The same bytes, cut or continued.
+fn resized(random: &mut Random, bytes: &[u8], length: usize) -> Vec<u8> {
+    let kept = bytes.len().min(length);
+    let mut resized = bytes[..kept].to_vec();
+    resized.extend(garbage(random, length - kept));
+    resized
+}
+
+/// Free bytes, from 0 to more than enough.
+fn room(random: &mut Random, needed: usize) -> usize {
+    match random.below(16) {
+        0 => needed - 1,
+        1 => random.below(needed as u64) as usize,
+        2 => random.pick(&[0, 1, 2]),
+        3..=8 => needed,
+        9 => needed + 1,
+        _ => needed + random.below(300) as usize,
+    }
+}
+
+fn flip(random: &mut Random, bytes: &mut [u8]) {
+    let at = random.below(bytes.len() as u64) as usize;
+    bytes[at] ^= 1 << random.below(8);
+}
+
+/// A card with one number outside its range, or a whole field.
+fn refused_card(random: &mut Random) -> Card {
+    loop {
+        let mut card = generate::any_card(random);
+        if random.one_in(2) {
+            let at = random.below(19) as usize;
+            *card.numbers_mut()[at] = fields::outside(random, ranges::CARD[at]);
+        }
+        if plain::card_refusal(&card) != 0 {
+            return card;
+        }
+    }
+}
+
+/// A card's bytes, and which of 1 to 4 they get where that is known.
+fn raw_card(random: &mut Random) -> (Vec<u8>, Option<u8>) {
+    let card = generate::card(random);
+    let mut bytes = sheet::card_bytes(&card);
+    match random.below(16) {
+        0 => {
+            let length = wrong_length(random, CARD_BYTES);
+            (resized(random, &bytes, length), Some(1))
+        }
+        1 => (garbage(random, CARD_BYTES), None),
+        2 => {
+            flip(random, &mut bytes);
+            (bytes, None)
+        }
+        3..=6 => {
+            let refused = refused_card(random);
+            (sheet::card_bytes(&refused), Some(plain::card_refusal(&refused)))
+        }
+        _ => (bytes, Some(0)),
+    }
+}
+
+pub fn opening(random: &mut Random) -> Opening {
+    let (card, refusal) = raw_card(random);
+    let layers = card.first().copied().unwrap_or(1);
+    let right = sheet::record_length(layers);
+    let length = if random.one_in(8) { wrong_length(random, right) } else { right };
+    let room = room(random, OPENING_BYTES);
+    let known = match refusal {
+        None => Known::Nothing,
+        Some(0) if length != right => Known::Refusal(10),
+        Some(0) if room < OPENING_BYTES => Known::Refusal(11),
+        Some(0) => Known::Line,
+        Some(refusal) => Known::Refusal(refusal),
+    };
+    Opening { card, record: garbage(random, length), sheet: garbage(random, room), known }
+}
+
+/// A damaged record, and whether 10 is certain.
+fn damaged_record(random: &mut Random, record: &[u8]) -> (Vec<u8>, bool) {
+    let mut damaged = record.to_vec();
+    match random.below(8) {
+        0 => {
+            let length = wrong_length(random, record.len());
+            (resized(random, record, length), true)
+        }
+        1 => {
+            damaged[0] = damaged[0].wrapping_add(random.pick(&[1, 255, 64, 200]));
+            (damaged, true)
+        }
+        2 | 3 => {
+            let card = refused_card(random);
+            let mut damaged = sheet::card_bytes(&card);
+            damaged.extend(vec![0; sheet::state_length(card.layers)]);
+            (damaged, true)
+        }
+        4 | 5 => {
+            let numbers = (record.len() - CARD_BYTES) as u64 / 8;
+            let at = CARD_BYTES + 8 * random.below(numbers) as usize;
+            fields::put_number(&mut damaged, at, fields::not_finite(random));
+            (damaged, true)
+        }
+        6 => {
+            flip(random, &mut damaged);
+            (damaged, false)
+        }
+        _ => (garbage(random, record.len()), false),
+    }
+}
+
+/// A damaged call, and whether 10 is certain.
+fn damaged_call(random: &mut Random, call: &[u8], timestep: f64) -> (Vec<u8>, bool) {
+    let mut damaged = call.to_vec();
+    match random.below(8) {
+        0 => {
+            let length = wrong_length(random, call.len());
+            (resized(random, call, length), true)
+        }
+        1 => {
+            flip(random, &mut damaged);
+            (damaged, false)
+        }
+        2 => {
+            let kind = 1 + random.below(7) as u8;
+            let length = sheet::call_length(kind).expect("a known kind");
+            let mut damaged = garbage(random, length);
+            damaged[0] = kind;
+            (damaged, false)
+        }
+        3 => {
+            let length = random.below(100) as usize;
+            (garbage(random, length), false)
+        }
+        _ => {
+            fields::break_call(random, &mut damaged, timestep);
+            (damaged, true)
+        }
+    }
+}
+
+/// An input of `call` for a battery that is good.
+pub fn calling(random: &mut Random, battery: &Battery) -> Calling {
+    let record = sheet::battery_bytes(battery);
+    let call = sheet::call_bytes(&generate::next_call(random, battery));
+    let needed = 2 + call.len() + sheet::answer_length(battery.card.layers);
+    let free = room(random, needed);
+    let (record, call, known) = match random.below(8) {
+        0 => {
+            let (record, certain) = damaged_record(random, &record);
+            (record, call, if certain { Known::Refusal(10) } else { Known::Nothing })
+        }
+        1 => {
+            let (call, certain) = damaged_call(random, &call, battery.card.timestep);
+            (record, call, if certain { Known::Refusal(10) } else { Known::Nothing })
+        }
+        _ if free < needed => (record, call, Known::Refusal(11)),
+        _ => (record, call, Known::Line),
+    };
+    Calling { record, call, sheet: garbage(random, free), known }
+}

@@ -1,0 +1,127 @@
+//! The bytes of document 01's sheet, written from document 01: card, call, battery and line.
+
+use crate::model::{Answer, Battery, Call, Card, State};
+
+pub const VERSION: u8 = 1;
+/// Line 0 after its length.
+pub const CARD_BYTES: usize = 158;
+/// Version, length of line 0, line 0.
+pub const OPENING_BYTES: usize = 1 + 2 + CARD_BYTES;
+/// Call fields of kinds 1 to 7.
+const FIELD_BYTES: [usize; 7] = [28, 16, 72, 0, 0, 0, 17];
+/// Refusal, energy, outlet's mark, outlet, time, substeps.
+pub const ANSWER_HEAD_BYTES: usize = 1 + 8 + 1 + 8 + 8 + 4;
+
+/// Kind and call fields; None for an unknown kind.
+pub fn call_length(kind: u8) -> Option<usize> {
+    let at = usize::from(kind).checked_sub(1)?;
+    FIELD_BYTES.get(at).map(|fields| 1 + fields)
+}
+
+/// Zones and five totals.
+pub fn state_length(layers: u8) -> usize {
+    8 * usize::from(layers) + 40
+}
+
+/// A battery: card, zones and totals.
+pub fn record_length(layers: u8) -> usize {
+    CARD_BYTES + state_length(layers)
+}
+
+/// What follows kind and call fields on a call line.
+pub fn answer_length(layers: u8) -> usize {
+    ANSWER_HEAD_BYTES + state_length(layers)
+}
+
+fn float(bytes: &mut Vec<u8>, x: f64) {
+    bytes.extend(x.to_bits().to_be_bytes());
+}
+
+fn floats(bytes: &mut Vec<u8>, items: &[f64]) {
+    for x in items {
+        float(bytes, *x);
+    }
+}
+
+/// A mark, and the number or zero bytes.
+fn optional(bytes: &mut Vec<u8>, x: Option<f64>) {
+    bytes.push(u8::from(x.is_some()));
+    float(bytes, x.unwrap_or(0.0));
+}
+
+fn state(bytes: &mut Vec<u8>, state: &State) {
+    floats(bytes, &state.zones);
+    floats(bytes, &state.totals.numbers());
+}
+
+/// The card as in line 0.
+pub fn card_bytes(card: &Card) -> Vec<u8> {
+    let mut bytes = vec![card.layers];
+    bytes.extend(card.units.to_be_bytes());
+    bytes.push(card.simultaneous);
+    bytes.extend(card.budget.to_be_bytes());
+    floats(&mut bytes, &card.numbers());
+    bytes
+}
+
+/// Card, zones and totals.
+pub fn battery_bytes(battery: &Battery) -> Vec<u8> {
+    let mut bytes = card_bytes(&battery.card);
+    state(&mut bytes, &battery.state);
+    bytes
+}
+
+/// The kind and the call fields.
+pub fn call_bytes(call: &Call) -> Vec<u8> {
+    let mut bytes = vec![call.kind()];
+    match call {
+        Call::Demand(d) => {
+            bytes.extend([d.service_type, d.commit, d.control_on]);
+            floats(&mut bytes, &[d.required, d.start]);
+            optional(&mut bytes, d.return_temperature);
+        }
+        Call::Electric { power, target } => floats(&mut bytes, &[*power, *target]),
+        Call::Hydronic(h) => {
+            floats(&mut bytes, &[h.inlet, h.hours, h.flow, h.target, h.limit]);
+            floats(&mut bytes, &[h.hex_a, h.hex_b, h.velocity, h.diameter]);
+        }
+        Call::StandingLoss | Call::CloseTimestep | Call::StateOfCharge => {}
+        Call::ChargeEnergyDemand { flow_maximum, target } => {
+            optional(&mut bytes, *flow_maximum);
+            float(&mut bytes, *target);
+        }
+    }
+    bytes
+}
+
+/// A line: the length of what follows it, then that.
+fn line(content: Vec<u8>) -> Vec<u8> {
+    let length = u16::try_from(content.len()).expect("a line is shorter than 65,536 bytes");
+    let mut bytes = length.to_be_bytes().to_vec();
+    bytes.extend(content);
+    bytes
+}
+
+/// What opening leaves on a sheet: the version and line 0.
+pub fn opening(card: &Card) -> Vec<u8> {
+    let mut bytes = vec![VERSION];
+    bytes.extend(line(card_bytes(card)));
+    bytes
+}
+
+/// A call line with its length.
+pub fn call_line(call: &Call, answer: &Answer) -> Vec<u8> {
+    line_with(&call_bytes(call), answer)
+}
+
+/// A call line with its length and the call's own bytes.
+pub fn line_with(call: &[u8], answer: &Answer) -> Vec<u8> {
+    let mut content = call.to_vec();
+    content.push(answer.refusal);
+    float(&mut content, answer.energy);
+    optional(&mut content, answer.outlet);
+    float(&mut content, answer.time);
+    content.extend(answer.substeps.to_be_bytes());
+    state(&mut content, &answer.state);
+    line(content)
+}

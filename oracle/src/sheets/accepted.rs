@@ -1,0 +1,150 @@
+//! Sheets that are accepted, and those of the limit of length.
+
+use super::{card, demand, hydronic, one_of_each, run, written, Named};
+use crate::auditor::MOST_BYTES;
+use crate::fields;
+use crate::model::{Call, Card, Demand, Hydronic};
+use crate::sheet::{self, OPENING_BYTES};
+
+const KINDS: [&str; 7] = [
+    "demand",
+    "electric",
+    "hydronic",
+    "standing_loss",
+    "close_timestep",
+    "state_of_charge",
+    "charge_energy_demand",
+];
+
+pub fn all() -> Vec<Named> {
+    let mut sheets = vec![Named::accepted("opening", written(&card(1), &[]), 0), all_kinds()];
+    for (name, call) in KINDS.iter().zip(one_of_each()) {
+        sheets.push(Named::accepted(&format!("kind_{name}"), written(&card(1), &[call]), 1));
+    }
+    sheets.extend([layers_64(), layers_64_charging(), zero_signs()]);
+    sheets.extend(of_length(64, "longest_64_layers"));
+    sheets.extend(of_length(1, "longest_1_layer"));
+    sheets.push(too_long());
+    sheets
+}
+
+/// b at which the outlet's denominator of one of 25 layers vanishes at 6 l/min.
+const SINGULAR_B: f64 = -20920.0;
+
+/// Calls that end in 23 and in 24 on 25 layers at 60 °C or about it.
+fn unbounded(hex_b: f64) -> Call {
+    Call::Hydronic(Hydronic { hex_a: 0.0, hex_b, limit: 0.0, ..hydronic() })
+}
+
+/// All seven kinds, and each of 20 to 25.
+fn all_kinds() -> Named {
+    let salt = Card { below: 400.0, during: 3200.0, above: 200.0, ..card(25) };
+    let card = Card { budget: 60, max: 59.0, power: 3.0, simultaneous: 1, ..salt };
+    let list = [
+        (Call::StateOfCharge, 25),
+        (Call::ChargeEnergyDemand { flow_maximum: None, target: 0.0 }, 25),
+        (unbounded(SINGULAR_B), 23),
+        (unbounded(SINGULAR_B * (1.0 + 1e-10)), 24),
+        (Call::Demand(Demand { return_temperature: None, ..demand(0.1) }), 20),
+        (Call::Demand(Demand { service_type: 0, ..demand(0.1) }), 21),
+        (Call::Demand(Demand { service_type: 0, commit: 0, ..demand(0.02) }), 0),
+        (Call::Demand(Demand { service_type: 0, return_temperature: None, ..demand(1e-10) }), 0),
+        (Call::Demand(demand(0.05)), 0),
+        (Call::Demand(Demand { service_type: 3, control_on: 0, start: 0.5, ..demand(0.01) }), 0),
+        (Call::Demand(demand(1000.0)), 22),
+        (Call::Hydronic(Hydronic { hours: 24.0, limit: 1e6, ..hydronic() }), 22),
+        (Call::StandingLoss, 0),
+        (Call::Electric { power: 0.05, target: 0.9 }, 0),
+        (Call::Hydronic(hydronic()), 0),
+        (Call::CloseTimestep, 0),
+        (Call::StateOfCharge, 0),
+        (Call::ChargeEnergyDemand { flow_maximum: Some(55.0), target: 1.0 }, 0),
+        (Call::ChargeEnergyDemand { flow_maximum: None, target: 1.0 }, 0),
+    ];
+    let (bytes, results) = run(&card, &list.map(|(call, _)| call));
+    assert_eq!(results, list.map(|(_, result)| result));
+    Named::accepted("all_kinds", bytes, list.len() as u64)
+}
+
+fn layers_64() -> Named {
+    Named::accepted("layers_64", written(&card(64), &one_of_each()), 7)
+}
+
+/// Two units that charge while they give heat, called twice in two timesteps.
+fn layers_64_charging() -> Named {
+    let card = Card { units: 2, simultaneous: 1, power: 20.0, start: 45.0, ..card(64) };
+    let calls = [one_of_each(), one_of_each()].concat();
+    Named::accepted("layers_64_charging", written(&card, &calls), 14)
+}
+
+/// Zeros of answers with the other sign: energy, time and totals of a closing line.
+fn zero_signs() -> Named {
+    let mut bytes = written(&card(1), &[Call::CloseTimestep]);
+    let line = fields::lines(&bytes)[0];
+    for at in line.numbers() {
+        let x = fields::number_at(&bytes, at);
+        fields::put_number(&mut bytes, at, if x == 0.0 { -0.0 } else { x });
+    }
+    Named::accepted("zero_signs", bytes, 1)
+}
+
+// ---- Lengths
+
+/// How many lines of kinds 1, 2, 3 and 7 make up a length that lines without fields don't.
+fn fill(rest: usize, extra: [usize; 4]) -> Option<[usize; 4]> {
+    let counts = |extra| 1..=rest / extra;
+    for demands in counts(extra[0]) {
+        for electrics in counts(extra[1]) {
+            for hydronics in counts(extra[2]) {
+                let used = demands * extra[0] + electrics * extra[1] + hydronics * extra[2];
+                let left = rest.saturating_sub(used);
+                if left > 0 && left.is_multiple_of(extra[3]) {
+                    return Some([demands, electrics, hydronics, left / extra[3]]);
+                }
+            }
+        }
+    }
+    None
+}
+
+/// A list with all kinds whose sheet has the most bytes that the program takes.
+fn filling_list(layers: u8) -> Vec<Call> {
+    let [demand, electric, hydronic, loss, close, level, charge] = one_of_each();
+    let shortest = 2 + 1 + sheet::answer_length(layers);
+    let extra = [1, 2, 3, 7].map(|kind| sheet::call_length(kind).expect("a known kind") - 1);
+    let room = MOST_BYTES - OPENING_BYTES;
+    let mut lines = room / shortest;
+    let counts = loop {
+        match fill(room - lines * shortest, extra) {
+            Some(counts) => break counts,
+            None => lines -= 1,
+        }
+    };
+    let mut calls = Vec::new();
+    for (call, count) in [demand, electric, hydronic, charge].into_iter().zip(counts) {
+        calls.extend(vec![call; count]);
+    }
+    while calls.len() < lines {
+        calls.push([loss, close, level][calls.len() % 3]);
+    }
+    calls
+}
+
+/// A sheet of exactly the most bytes, and the same with one byte more.
+fn of_length(layers: u8, name: &str) -> [Named; 2] {
+    let calls = filling_list(layers);
+    let bytes = written(&card(layers), &calls);
+    assert_eq!(bytes.len(), MOST_BYTES);
+    let longer = [&bytes[..], &[0]].concat();
+    [
+        Named::accepted(name, bytes, calls.len() as u64),
+        Named::refused(&format!("{name}_and_a_byte"), longer, 44, 0),
+    ]
+}
+
+/// Lines that agree, but too many.
+fn too_long() -> Named {
+    let mut calls = filling_list(64);
+    calls.push(Call::CloseTimestep);
+    Named::refused("too_long", written(&card(64), &calls), 44, 0)
+}

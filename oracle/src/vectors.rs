@@ -1,0 +1,120 @@
+//! Vector files: inputs and expected outputs of single functions and of whole lists of calls.
+//! Functions of the published file are answered by the judge.
+
+mod stand_in_records;
+mod zone_records;
+
+use crate::generate;
+use crate::judge;
+use crate::random::Random;
+use crate::record::{self, Record, START};
+use std::fs;
+use std::path::Path;
+
+type Make = fn(&mut Random) -> Record;
+
+/// Files with one record after another of one function.
+const FUNCTIONS: [(&str, Make); 21] = [
+    ("finite", stand_in_records::finite),
+    ("nearly_equal", stand_in_records::nearly_equal),
+    ("max_zero", stand_in_records::max_zero),
+    ("min", stand_in_records::min),
+    ("square", stand_in_records::square),
+    ("sum2", stand_in_records::sum2),
+    ("ln", stand_in_records::ln),
+    ("truncate", stand_in_records::truncate),
+    ("layer_energy", zone_records::layer_energy),
+    ("soc_to_temp", zone_records::soc_to_temp),
+    ("state_of_charge", zone_records::state_of_charge),
+    ("energy_required", zone_records::energy_required),
+    ("new_temperature", zone_records::new_temperature),
+    ("simultaneous", zone_records::simultaneous),
+    ("viscosity", zone_records::viscosity),
+    ("reynolds", zone_records::reynolds),
+    ("heat_transfer", zone_records::heat_transfer),
+    ("outlet", zone_records::outlet),
+    ("zone_properties", zone_records::zone_properties),
+    ("card", zone_records::card),
+    ("substep", zone_records::substep),
+];
+
+const LISTS: &str = "lists";
+
+/// Bytes of `count` records of one function.
+fn function_file(make: Make, count: u64, mut random: Random) -> Vec<u8> {
+    let mut bytes = Vec::new();
+    for _ in 0..count {
+        make(&mut random).write(&mut bytes);
+    }
+    bytes
+}
+
+/// Bytes of lists with `count` calls in all, each list after its start record.
+fn lists_file(count: u64, mut random: Random) -> Vec<u8> {
+    let mut bytes = Vec::new();
+    let mut left = count;
+    while left > 0 {
+        let card = generate::card(&mut random);
+        let mut battery = generate::battery(&mut random, &card);
+        Record::new(START).battery(&battery).write(&mut bytes);
+        let calls = generate::list_length(&mut random).min(left);
+        for _ in 0..calls {
+            let call = generate::next_call(&mut random, &battery);
+            let (answer, after) = judge::step(&battery, &call);
+            Record::new(51).call(&call).answer(&answer).write(&mut bytes);
+            battery = after;
+        }
+        left -= calls;
+    }
+    bytes
+}
+
+/// The same file for the same seed, whichever others are written.
+fn random_for(seed: u64, file: usize) -> Random {
+    Random::new(Random::new(seed).word().wrapping_add(file as u64))
+}
+
+/// Writes the files, or only those named.
+pub fn write(folder: &Path, count: u64, seed: u64, only: Option<&[&str]>) -> Result<(), String> {
+    let known = |name: &&str| *name == LISTS || FUNCTIONS.iter().any(|(file, _)| file == name);
+    if let Some(name) = only.into_iter().flatten().find(|name| !known(name)) {
+        return Err(format!("no vector file is called {name}"));
+    }
+    let wanted = |name: &str| only.is_none_or(|names| names.contains(&name));
+    fs::create_dir_all(folder).map_err(|error| format!("{}: {error}", folder.display()))?;
+    for (at, (name, make)) in FUNCTIONS.iter().enumerate() {
+        if wanted(name) {
+            save(folder, name, function_file(*make, count, random_for(seed, at)), count)?;
+        }
+    }
+    if wanted(LISTS) {
+        let random = random_for(seed, FUNCTIONS.len());
+        save(folder, LISTS, lists_file(count, random), count)?;
+    }
+    Ok(())
+}
+
+fn save(folder: &Path, name: &str, bytes: Vec<u8>, count: u64) -> Result<(), String> {
+    let path = folder.join(name).with_extension("vec");
+    println!("{name}: {count} records, {} bytes", bytes.len());
+    fs::write(&path, bytes).map_err(|error| format!("{}: {error}", path.display()))
+}
+
+/// Copies a vector file with one bit of the last output of a record changed. Records are
+/// counted from 0; one without outputs cannot be chosen.
+pub fn alter(from: &Path, to: &Path, record: usize) -> Result<(), String> {
+    let bytes = fs::read(from).map_err(|error| format!("{}: {error}", from.display()))?;
+    let mut records = record::read_all(&bytes).ok_or("not a vector file")?;
+    let chosen = records.get_mut(record).ok_or("the file has no such record")?;
+    if chosen.function == START {
+        return Err("this record has no output".to_string());
+    }
+    let word = chosen.words.last_mut().ok_or("the record is empty")?;
+    // Another NaN would be no other answer.
+    *word ^= if *word == record::NAN { 1 << 62 } else { 1 };
+    let mut altered = Vec::new();
+    for record in &records {
+        record.write(&mut altered);
+    }
+    fs::write(to, altered).map_err(|error| format!("{}: {error}", to.display()))
+}
