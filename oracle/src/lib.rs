@@ -4,6 +4,7 @@
 
 pub mod arguments;
 pub mod auditor;
+pub mod cases;
 pub mod compare;
 pub mod cross;
 pub mod damage;

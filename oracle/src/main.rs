@@ -2,7 +2,7 @@
 
 use oracle::arguments::{show, Arguments};
 use oracle::library::Independent;
-use oracle::{compare, cross, judge, plain, sheets, vectors};
+use oracle::{cases, compare, cross, judge, plain, sheets, vectors};
 use std::path::Path;
 use std::process::ExitCode;
 
@@ -11,6 +11,7 @@ const USAGE: &str = "usage:
   oracle entries [--count N] [--seed S]
   oracle audit [--count N] [--seed S]
   oracle sheets OUTDIR
+  oracle cases FILE [--count N] [--seed S]
   oracle vectors OUTDIR [--count N] [--seed S] [--only NAME,NAME]
   oracle alter IN OUT K";
 
@@ -49,6 +50,10 @@ fn run() -> Result<(), String> {
         ["cross"] => cross(&arguments),
         ["entries"] => entries(&arguments),
         ["audit"] => audit(&arguments),
+        ["cases", file] => {
+            let count = arguments.number("--count", 100_000)?;
+            cases::write(Path::new(file), count, arguments.number("--seed", 1)?)
+        }
         ["sheets", folder] => sheets::write(Path::new(folder)),
         ["vectors", folder] => write_vectors(&arguments, folder),
         ["alter", from, to, record] => {

@@ -1,3 +1,5 @@
 pub mod Battery
 pub mod Call
 pub mod Answer
+pub mod Kinds
+pub mod Shape

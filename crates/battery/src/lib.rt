@@ -6,6 +6,7 @@ ghost use Rattle.battery.specs.Battery.{fresh as freshOf, zonesFinite, t
 ghost use Rattle.battery.specs.Call.{isLevel, isGivenTemperature, demandInRange, hydronicInRange, callInRange};
 ghost use Rattle.battery.specs.Answer.{refusedWith, plainAnswer, answerFinite};
 
+#[repr(C)]
 pub struct Battery {
     pub card: Card,
     // °C, the first `count` of 64 places; those above it are never read or written

@@ -1,2 +1,4 @@
 pub mod Tests
 pub mod Accepted
+pub mod Salt
+pub mod Within

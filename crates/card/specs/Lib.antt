@@ -1,3 +1,4 @@
 pub mod Ranges
 pub mod Card
 pub mod Derived
+pub mod Fits

@@ -8,6 +8,7 @@ ghost use mathlib.Core.Bool.{_&&_};
 ghost use Rattle.card.specs.Card.{countsInRange, timesInRange, temperaturesInRange, capacitiesInRange, exchangerInRange, powersInRange, cardInRange, cardVerdict, cardRefusal};
 ghost use Rattle.card.specs.Derived.{saltOf, energyAt, derived as derivedOf};
 
+#[repr(C)]
 pub struct Card {
     pub layers: u8,
     pub units: u16,

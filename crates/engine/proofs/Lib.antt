@@ -1,3 +1,13 @@
-pub mod Runs
 pub mod Cards
 pub mod Accepted
+pub mod AdvanceKeeps
+pub mod AdvanceWarmth
+pub mod Ends
+pub mod Inductions
+pub mod Outcomes
+pub mod OverBudget
+pub mod Promises
+pub mod StepKeeps
+pub mod StepOutcomes
+pub mod Turns
+pub mod Warmth

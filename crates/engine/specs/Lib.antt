@@ -1,5 +1,2 @@
-pub mod Runs
-pub mod Demand
-pub mod Hydronic
-pub mod Charge
 pub mod Steps
+pub mod Budget

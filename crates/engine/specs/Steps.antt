@@ -25,14 +25,14 @@ use Rattle.battery.specs.declared.Call.the-variants.{DemandEnergy, ChargeElectr
 use Rattle.battery.specs.declared.Answer.{Answer}
 use Rattle.engine.specs.declared.ServiceClass.{ServiceClass}
 use Rattle.engine.specs.declared.ServiceClass.the-variants.{Combi, Regular, Space, Direct}
-use Rattle.engine.specs.declared.Source.{Source}
-use Rattle.engine.specs.declared.Source.the-variants.{Electric, Wet}
-use Rattle.engine.specs.declared.DemandTask.{DemandTask}
-use Rattle.engine.specs.declared.Run.{Run}
-use Rattle.engine.specs.declared.Ended.{Ended}
-use Rattle.engine.specs.Runs.{endRefusal, reynoldBetween, timeAvailable}
-use Rattle.engine.specs.Demand.{demandRun, demandEnded}
-use Rattle.engine.specs.Charge.{chargeBattery, batteryHeatLoss, chargeEnergyDemand}
+use Rattle.runs.specs.declared.Source.{Source}
+use Rattle.runs.specs.declared.Source.the-variants.{Electric, Wet}
+use Rattle.runs.specs.declared.DemandTask.{DemandTask}
+use Rattle.runs.specs.declared.Run.{Run}
+use Rattle.runs.specs.declared.Ended.{Ended}
+use Rattle.runs.specs.Runs.{endRefusal, reynoldBetween, timeAvailable}
+use Rattle.runs.specs.Demand.{demandRun, demandEnded}
+use Rattle.runs.specs.Charge.{chargeBattery, batteryHeatLoss, chargeEnergyDemand}
 
 -- '23 .. or a reported number or total isn't' finite: the refusal line with the battery b as before
 unfoldable pub checked : Battery → Answer → Answer

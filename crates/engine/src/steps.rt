@@ -1,10 +1,5 @@
 // Document 01's steps: what each kind of call answers, and the battery that it leaves.
-use crate::DemandTask;
-use crate::Ended;
-use crate::Exchanger;
-use crate::Run;
 use crate::ServiceClass;
-use crate::Source;
 use battery::Answer;
 use battery::Battery;
 use battery::Call;
@@ -12,6 +7,11 @@ use battery::Demand;
 use battery::Given;
 use battery::Hydronic;
 use card::Card;
+use runs::DemandTask;
+use runs::Ended;
+use runs::Exchanger;
+use runs::Run;
+use runs::Source;
 use zone::KilowattHours;
 use zone::StateOfCharge;
 ghost use mathlib.Core.Path.{_≡_};
@@ -34,7 +34,7 @@ fn unless_refused(b: Battery, r: Ended, a: Answer) -> Answer
     ensures { λ x. ⌜ x ≡ unlessRefused b r a ⌝ }
 {
     let end = r.end;
-    let refusal = crate::end_refusal(end);
+    let refusal = runs::end_refusal(end);
     if refusal == 0 {
         return checked(b, a);
     }
@@ -106,7 +106,7 @@ fn demand_task(b: Battery, d: Demand, feed: f64) -> DemandTask
     let pcm = card::derived(card);
     let power = demand_power(card, d.control);
     let units = card.units as f64;
-    let hours = crate::time_available(b, d.start);
+    let hours = runs::time_available(b, d.start);
     DemandTask {
         card,
         pcm,
@@ -123,7 +123,7 @@ fn demand_start(b: Battery) -> Run
     let card = b.card;
     let pcm = card::derived(card);
     let zones = b.zones;
-    let reynold = crate::reynold_between(card.inlet, card.outlet, card.velocity, pcm.diameter);
+    let reynold = runs::reynold_between(card.inlet, card.outlet, card.velocity, pcm.diameter);
     Run {
         zones,
         step: 1.0,
@@ -194,8 +194,8 @@ fn demand_from(b: Battery, d: Demand, feed: f64) -> Answer
     }
     let task = demand_task(b, d, feed);
     let start = demand_start(b);
-    let e = crate::demand::demand_run(task, card.budget, start);
-    let r = crate::demand::demand_ended(e);
+    let e = runs::demand::demand_run(task, card.budget, start);
+    let r = runs::demand::demand_ended(e);
     let a = demand_answer(b, d, r);
     unless_refused(b, r, a)
 }
@@ -266,7 +266,7 @@ fn charge(b: Battery, source: Source, target: f64) -> Answer
     requires { ⌜ b .card .layers ≤ 64 ⌝ }
     ensures { λ r. ⌜ r ≡ chargeOf b source target ⌝ }
 {
-    let r = crate::charge::charge_battery(b, source, target);
+    let r = runs::charge::charge_battery(b, source, target);
     let after = charged_battery(b, r);
     let a = run_answer(r, after);
     unless_refused(b, r, a)
@@ -276,7 +276,7 @@ fn heat_loss(b: Battery) -> Answer
     requires { ⌜ b .card .layers ≤ 64 ⌝ }
     ensures { λ r. ⌜ r ≡ heatLoss b ⌝ }
 {
-    let r = crate::charge::battery_heat_loss(b);
+    let r = runs::charge::battery_heat_loss(b);
     let after = cooled_battery(b, r);
     let a = run_answer(r, after);
     unless_refused(b, r, a)
@@ -325,7 +325,7 @@ fn demand_to_level(b: Battery, most: Given, target: f64, level: StateOfCharge) -
     match level {
         StateOfCharge::Above => battery::refused(25, b),
         StateOfCharge::Level(soc) => {
-            let energy = crate::charge::calculate_charge_energy_demand(b, most, target, soc);
+            let energy = runs::charge::calculate_charge_energy_demand(b, most, target, soc);
             let a = battery::plain_answer(energy.0, b);
             checked(b, a)
         }

@@ -96,3 +96,9 @@ mul-inf-not-zero f s t n d p = go (eqb n 0) p
     go : (b : Bool) → T (number (cond b nan (inf (unlike s t)))) → T (not b)
     go true q = q
     go false q = tt
+
+-- a product that is a number has a number on its left
+pub mul-number-left : (f : Format) (x y : Float) → T (number (mul f x y)) → T (number x)
+mul-number-left f nan y h = absurd (mul-nan f y h)
+mul-number-left f (inf s) y h = tt
+mul-number-left f (fin s m e) y h = tt

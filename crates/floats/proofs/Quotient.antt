@@ -131,3 +131,9 @@ div-nonpos f (fin s m e) (fin t n d) p h k =
     le-trans (div f x y) (signed f (plus x * den y) (minus x * den y) (plus y * den x)) zero
     (le-of-eq (div f x y) (signed f (plus x * den y) (minus x * den y) (plus y * den x)) (div-is f x y tt tt k))
     (signed-nonpos f (plus x * den y) (minus x * den y) (plus y * den x) (mul-pos (plus-pos y tt k) (den-pos x)) (mul-le-mul-right (den y) (nonpos-parts x tt h)))
+
+-- a quotient that is a number has a number on its left
+pub div-number-left : (f : Format) (x y : Float) → T (number (div f x y)) → T (number x)
+div-number-left f nan y h = absurd (div-nan-l f y h)
+div-number-left f (inf s) y h = tt
+div-number-left f (fin s m e) y h = tt

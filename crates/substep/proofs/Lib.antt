@@ -1,1 +1,5 @@
 pub mod Passes
+pub mod Above
+pub mod Charger
+pub mod EachZone
+pub mod Warmth

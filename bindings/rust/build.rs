@@ -1,0 +1,45 @@
+//! Links libheat_battery.a: from the folder that HEAT_BATTERY_LIB names, else proved and made
+//! by `rt staticlib heat_battery` at the repository's root.
+
+use std::env;
+use std::path::{Path, PathBuf};
+use std::process::{exit, Command};
+
+const ARCHIVE: &str = "libheat_battery.a";
+
+fn stop(words: String) -> ! {
+    eprintln!("{words}");
+    exit(1)
+}
+
+/// The folder of an archive made at the repository's root.
+fn make(root: &Path) -> PathBuf {
+    println!("cargo:rerun-if-changed={}", root.join("crates").display());
+    println!("cargo:rerun-if-changed={}", root.join("crates.txt").display());
+    let run = Command::new("rt").args(["staticlib", "heat_battery"]).current_dir(root).status();
+    match run {
+        Ok(status) if status.success() => root.join("target/staticlib"),
+        Ok(status) => stop(format!("rt staticlib heat_battery: {status}")),
+        Err(error) => stop(format!(
+            "rt staticlib heat_battery: {error}. \
+             Install the Rattle kit, or set HEAT_BATTERY_LIB to the folder that holds {ARCHIVE}"
+        )),
+    }
+}
+
+fn main() {
+    println!("cargo:rerun-if-env-changed=HEAT_BATTERY_LIB");
+    println!("cargo:rerun-if-changed=build.rs");
+    let manifest = PathBuf::from(env::var_os("CARGO_MANIFEST_DIR").unwrap_or_default());
+    let folder = match env::var_os("HEAT_BATTERY_LIB") {
+        Some(folder) => manifest.join(folder),
+        None => make(&manifest.join("../..")),
+    };
+    let archive = folder.join(ARCHIVE);
+    if !archive.is_file() {
+        stop(format!("no {}: HEAT_BATTERY_LIB names the folder that holds it", archive.display()));
+    }
+    println!("cargo:rerun-if-changed={}", archive.display());
+    println!("cargo:rustc-link-search=native={}", folder.display());
+    println!("cargo:rustc-link-lib=static=heat_battery");
+}

@@ -1,0 +1,93 @@
+//! A sheet as JSON. Numbers are written so that they read back exactly; one that is not finite,
+//! which only a damaged sheet has, is a string.
+
+use heat_battery::{Call, Card, Damage, Line, Totals, Value, Verdict, VERSION};
+use std::fmt::Write;
+
+pub fn sheet(card: &Card, lines: &[Line], damage: Option<&Damage>, verdict: Verdict) -> String {
+    let mut text =
+        format!("{{\"version\":{VERSION},\n\"card\":{},\n\"lines\":[", card_object(card));
+    for (at, one) in lines.iter().enumerate() {
+        text.push_str(if at == 0 { "\n" } else { ",\n" });
+        text.push_str(&line(one));
+    }
+    text.push_str("],\n");
+    if let Some(damage) = damage {
+        let _ = writeln!(text, "\"damage\":{},", string(&damage.to_string()));
+    }
+    let _ = writeln!(text, "\"verdict\":{}}}", string(&verdict.to_string()));
+    text
+}
+
+fn line(line: &Line) -> String {
+    let answer = &line.answer;
+    let refusal = answer.refusal.map_or(0, |refusal| refusal.number());
+    let words = answer.refusal.map_or("null".into(), |refusal| string(refusal.words()));
+    let zones: Vec<String> = answer.zones.iter().map(|zone| number(*zone)).collect();
+    let members = [
+        ("line", line.index.to_string()),
+        ("kind", string(line.call.kind().name())),
+        ("call", call_object(&line.call)),
+        ("refusal", refusal.to_string()),
+        ("refusal_words", words),
+        ("energy", number(answer.energy)),
+        ("outlet", answer.outlet.map_or("null".into(), number)),
+        ("time", number(answer.time)),
+        ("substeps", answer.substeps.to_string()),
+        ("zones", format!("[{}]", zones.join(","))),
+        ("totals", totals_object(&answer.totals)),
+    ];
+    object(members)
+}
+
+fn card_object(card: &Card) -> String {
+    let fields = Card::FIELDS.iter().map(|field| field.name);
+    object(fields.zip(card.values().iter().map(value)))
+}
+
+fn call_object(call: &Call) -> String {
+    object(call.fields().iter().map(|(field, one)| (field.name, value(one))))
+}
+
+fn totals_object(totals: &Totals) -> String {
+    let names = Totals::NAMES.iter().map(|(name, _)| *name);
+    object(names.zip(totals.numbers().map(number)))
+}
+
+fn object<'a>(members: impl IntoIterator<Item = (&'a str, String)>) -> String {
+    let members: Vec<String> =
+        members.into_iter().map(|(name, value)| format!("\"{name}\":{value}")).collect();
+    format!("{{{}}}", members.join(","))
+}
+
+fn value(value: &Value) -> String {
+    match *value {
+        Value::Byte(_) | Value::Short(_) => value.to_string(),
+        Value::Flag(flag) => flag.to_string(),
+        Value::Service(service) => string(service.name()),
+        Value::Number(x) | Value::Optional(Some(x)) => number(x),
+        Value::Optional(None) => "null".into(),
+    }
+}
+
+fn number(x: f64) -> String {
+    match x.is_finite() {
+        true => format!("{x:?}"),
+        false => string(&format!("{x:?}")),
+    }
+}
+
+fn string(text: &str) -> String {
+    let mut quoted = String::from('"');
+    for c in text.chars() {
+        match c {
+            '"' | '\\' => quoted.extend(['\\', c]),
+            c if c.is_control() => {
+                let _ = write!(quoted, "\\u{:04x}", u32::from(c));
+            }
+            c => quoted.push(c),
+        }
+    }
+    quoted.push('"');
+    quoted
+}

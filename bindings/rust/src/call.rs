@@ -1,0 +1,388 @@
+//! The seven kinds of call.
+
+use crate::bytes::{Buffer, Cursor};
+use crate::card::Card;
+use crate::field::{Fault, Field, ServiceType, Shape, Value};
+use crate::refusal::Refusal;
+
+/// One call on a battery. [`Kind::fields`] has each field's unit and range.
+///
+/// ```
+/// use heat_battery::{Call, ServiceType};
+///
+/// let bath = Call::Demand {
+///     service: ServiceType::Direct,
+///     commit: true,
+///     control_on: false,
+///     required: 3.5,
+///     start: 0.0,
+///     return_temperature: Some(10.0),
+/// };
+/// let text = "demand service=direct commit=yes control_on=no required=3.5 start=0 return_temperature=10";
+/// assert_eq!(text.parse(), Ok(bath));
+/// ```
+#[derive(Clone, Copy, Debug, PartialEq)]
+pub enum Call {
+    /// 1: heat for a service.
+    Demand {
+        /// Which service.
+        service: ServiceType,
+        /// Whether the battery gives the heat; a trial only asks what it would give.
+        commit: bool,
+        /// Whether the charger's control is on.
+        control_on: bool,
+        /// Energy that is wanted, kWh.
+        required: f64,
+        /// When in the timestep, h.
+        start: f64,
+        /// Temperature of the water that comes back, °C.
+        return_temperature: Option<f64>,
+    },
+    /// 2: charge by the heater for the rest of the timestep.
+    Electric {
+        /// kW.
+        power: f64,
+        /// Level to charge to, 0 to 1.
+        target: f64,
+    },
+    /// 3: charge by warm water.
+    Hydronic {
+        /// Temperature of the water that comes in, °C.
+        inlet: f64,
+        /// How long, h.
+        hours: f64,
+        /// l/min.
+        flow: f64,
+        /// Held to its range; no more.
+        target: f64,
+        /// Most energy to take, kWh.
+        limit: f64,
+        /// Exchanger figure a.
+        hex_a: f64,
+        /// Exchanger figure b.
+        hex_b: f64,
+        /// Velocity in the tube at 1 l/min, m/s.
+        velocity: f64,
+        /// Diameter of the tube, m.
+        diameter: f64,
+    },
+    /// 4: the losses of a timestep.
+    StandingLoss,
+    /// 5: sets the three running times to 0.
+    CloseTimestep,
+    /// 6: asks for the state of charge.
+    StateOfCharge,
+    /// 7: asks how much energy a charge would take.
+    ChargeEnergyDemand {
+        /// Warmest water that the source gives, °C.
+        flow_maximum: Option<f64>,
+        /// Level to charge to, 0 to 1.
+        target: f64,
+    },
+}
+
+/// The kind of a call.
+#[derive(Clone, Copy, Debug, PartialEq, Eq, Hash)]
+pub enum Kind {
+    /// 1
+    Demand = 1,
+    /// 2
+    Electric,
+    /// 3
+    Hydronic,
+    /// 4
+    StandingLoss,
+    /// 5
+    CloseTimestep,
+    /// 6
+    StateOfCharge,
+    /// 7
+    ChargeEnergyDemand,
+}
+
+const CELSIUS: (f64, f64) = (-50.0, 250.0);
+const LEVEL: (f64, f64) = (0.0, 1.0);
+const FLAG: (f64, f64) = (0.0, 1.0);
+const EXCHANGER: (f64, f64) = (-1e6, 1e6);
+/// A start lies in the card's timestep, which is at most this.
+const DAY: (f64, f64) = (0.0, 24.0);
+
+const fn number(
+    name: &'static str,
+    unit: &'static str,
+    range: (f64, f64),
+    about: &'static str,
+) -> Field {
+    Field::new(name, unit, Shape::Number, range, about)
+}
+
+const TARGET: Field = number("target", "", LEVEL, "level to charge to");
+
+const DEMAND: [Field; 6] = [
+    Field::new("service", "", Shape::Service, (0.0, 3.0), "which service"),
+    Field::new("commit", "", Shape::Flag, FLAG, "no: a trial"),
+    Field::new("control_on", "", Shape::Flag, FLAG, "the charger's control"),
+    number("required", "kWh", (-1e6, 1e6), "energy wanted"),
+    number("start", "h", DAY, "when in the timestep"),
+    Field::new("return_temperature", "°C", Shape::Optional, CELSIUS, "water that comes back"),
+];
+
+const ELECTRIC: [Field; 2] = [number("power", "kW", (0.0, 1000.0), "of the heater"), TARGET];
+
+const HYDRONIC: [Field; 9] = [
+    number("inlet", "°C", CELSIUS, "water that comes in"),
+    number("hours", "h", DAY, "how long"),
+    number("flow", "l/min", (0.001, 1000.0), "of the water"),
+    TARGET,
+    number("limit", "kWh", (0.0, 1e6), "most energy to take"),
+    number("hex_a", "", EXCHANGER, "exchanger, before the logarithm"),
+    number("hex_b", "", EXCHANGER, "exchanger, added"),
+    number("velocity", "m/s", (0.0001, 100.0), "in the tube at 1 l/min"),
+    number("diameter", "m", (0.00001, 1.0), "of the tube"),
+];
+
+const CHARGE_ENERGY_DEMAND: [Field; 2] = [
+    Field::new("flow_maximum", "°C", Shape::Optional, CELSIUS, "warmest water of the source"),
+    TARGET,
+];
+
+impl Kind {
+    /// All seven in document 01's order.
+    pub const ALL: [Kind; 7] = [
+        Kind::Demand,
+        Kind::Electric,
+        Kind::Hydronic,
+        Kind::StandingLoss,
+        Kind::CloseTimestep,
+        Kind::StateOfCharge,
+        Kind::ChargeEnergyDemand,
+    ];
+
+    /// Document 01's number.
+    pub fn number(&self) -> u8 {
+        *self as u8
+    }
+
+    /// The kind of a number.
+    pub fn from_number(number: u8) -> Option<Kind> {
+        Kind::ALL.into_iter().find(|kind| kind.number() == number)
+    }
+
+    /// The name in text and JSON.
+    pub fn name(&self) -> &'static str {
+        match self {
+            Kind::Demand => "demand",
+            Kind::Electric => "electric",
+            Kind::Hydronic => "hydronic",
+            Kind::StandingLoss => "standing_loss",
+            Kind::CloseTimestep => "close_timestep",
+            Kind::StateOfCharge => "state_of_charge",
+            Kind::ChargeEnergyDemand => "charge_energy_demand",
+        }
+    }
+
+    /// The call fields in the order of the sheet.
+    pub fn fields(&self) -> &'static [Field] {
+        match self {
+            Kind::Demand => &DEMAND,
+            Kind::Electric => &ELECTRIC,
+            Kind::Hydronic => &HYDRONIC,
+            Kind::StandingLoss | Kind::CloseTimestep | Kind::StateOfCharge => &[],
+            Kind::ChargeEnergyDemand => &CHARGE_ENERGY_DEMAND,
+        }
+    }
+
+    /// Bytes of the kind and its call fields.
+    pub fn bytes(&self) -> usize {
+        1 + self.fields().iter().map(Field::bytes).sum::<usize>()
+    }
+}
+
+/// The most bytes of a kind and its call fields.
+pub(crate) const MOST_BYTES: usize = 73;
+/// The most call fields.
+const MOST_FIELDS: usize = 9;
+
+/// A call's values, in place.
+struct Values {
+    places: [Value; MOST_FIELDS],
+    count: usize,
+}
+
+impl Values {
+    fn new(values: &[Value]) -> Values {
+        let mut places = [Value::Number(0.0); MOST_FIELDS];
+        for (place, value) in places.iter_mut().zip(values) {
+            *place = *value;
+        }
+        Values { places, count: values.len() }
+    }
+
+    fn numbers(numbers: &[f64]) -> Values {
+        let mut values = Values::new(&[]);
+        values.count = numbers.len();
+        for (place, number) in values.places.iter_mut().zip(numbers) {
+            *place = Value::Number(*number);
+        }
+        values
+    }
+
+    fn iter(&self) -> impl Iterator<Item = Value> + '_ {
+        self.places.iter().take(self.count).copied()
+    }
+}
+
+impl Call {
+    /// The kind.
+    pub fn kind(&self) -> Kind {
+        match self {
+            Call::Demand { .. } => Kind::Demand,
+            Call::Electric { .. } => Kind::Electric,
+            Call::Hydronic { .. } => Kind::Hydronic,
+            Call::StandingLoss => Kind::StandingLoss,
+            Call::CloseTimestep => Kind::CloseTimestep,
+            Call::StateOfCharge => Kind::StateOfCharge,
+            Call::ChargeEnergyDemand { .. } => Kind::ChargeEnergyDemand,
+        }
+    }
+
+    /// Whether it is a demand that commits to nothing.
+    pub fn is_trial(&self) -> bool {
+        matches!(self, Call::Demand { commit: false, .. })
+    }
+
+    fn places(&self) -> Values {
+        match *self {
+            Call::Demand { service, commit, control_on, required, start, return_temperature } => {
+                Values::new(&[
+                    Value::Service(service),
+                    Value::Flag(commit),
+                    Value::Flag(control_on),
+                    Value::Number(required),
+                    Value::Number(start),
+                    Value::Optional(return_temperature),
+                ])
+            }
+            Call::Electric { power, target } => Values::numbers(&[power, target]),
+            Call::Hydronic {
+                inlet,
+                hours,
+                flow,
+                target,
+                limit,
+                hex_a,
+                hex_b,
+                velocity,
+                diameter,
+            } => Values::numbers(&[
+                inlet, hours, flow, target, limit, hex_a, hex_b, velocity, diameter,
+            ]),
+            Call::StandingLoss | Call::CloseTimestep | Call::StateOfCharge => Values::new(&[]),
+            Call::ChargeEnergyDemand { flow_maximum, target } => {
+                Values::new(&[Value::Optional(flow_maximum), Value::Number(target)])
+            }
+        }
+    }
+
+    /// The fields with their values, in the order of the sheet.
+    pub fn fields(&self) -> Vec<(&'static Field, Value)> {
+        self.kind().fields().iter().zip(self.places().iter()).collect()
+    }
+
+    /// The call of a kind with values in the order of [`Kind::fields`]; None where their
+    /// number or a shape is another.
+    pub fn from_values(kind: Kind, values: &[Value]) -> Option<Call> {
+        use Value::{Flag, Number, Optional, Service};
+        match (kind, values) {
+            (
+                Kind::Demand,
+                &[Service(service), Flag(commit), Flag(control_on), Number(required), Number(start), Optional(return_temperature)],
+            ) => Some(Call::Demand {
+                service,
+                commit,
+                control_on,
+                required,
+                start,
+                return_temperature,
+            }),
+            (Kind::Electric, &[Number(power), Number(target)]) => {
+                Some(Call::Electric { power, target })
+            }
+            (
+                Kind::Hydronic,
+                &[Number(inlet), Number(hours), Number(flow), Number(target), Number(limit), Number(hex_a), Number(hex_b), Number(velocity), Number(diameter)],
+            ) => Some(Call::Hydronic {
+                inlet,
+                hours,
+                flow,
+                target,
+                limit,
+                hex_a,
+                hex_b,
+                velocity,
+                diameter,
+            }),
+            (Kind::StandingLoss, []) => Some(Call::StandingLoss),
+            (Kind::CloseTimestep, []) => Some(Call::CloseTimestep),
+            (Kind::StateOfCharge, []) => Some(Call::StateOfCharge),
+            (Kind::ChargeEnergyDemand, &[Optional(flow_maximum), Number(target)]) => {
+                Some(Call::ChargeEnergyDemand { flow_maximum, target })
+            }
+            _ => None,
+        }
+    }
+
+    /// Every reason for which refusal 10 applies to the call with this card; none where it
+    /// doesn't.
+    pub fn faults(&self, card: &Card) -> Vec<Fault> {
+        let fields = self.fields();
+        let words = fields.iter().filter_map(|(field, value)| on_card(field, card).fault(value));
+        words.map(|words| Fault { refusal: Refusal::CallField, words }).collect()
+    }
+
+    pub(crate) fn buffer(&self) -> Buffer<MOST_BYTES> {
+        let mut bytes = Buffer::new();
+        bytes.push(&[self.kind().number()]);
+        for value in self.places().iter() {
+            value.write(&mut bytes);
+        }
+        bytes
+    }
+
+    /// The kind and the call fields as on the sheet.
+    pub fn to_bytes(&self) -> Vec<u8> {
+        self.buffer().to_vec()
+    }
+
+    /// A call of any numbers. Refusal 10 for an unknown kind, another length, a type or flag
+    /// or mark out of range and nonzero bytes under an absent mark; [`Call::faults`] has the
+    /// rest.
+    pub fn from_bytes(bytes: &[u8]) -> Result<Call, Refusal> {
+        let mut cursor = Cursor(bytes);
+        let call = Call::read(&mut cursor).map_err(|_| Refusal::CallField)?;
+        match cursor.0.is_empty() {
+            true => Ok(call),
+            false => Err(Refusal::CallField),
+        }
+    }
+
+    /// Reads a call from the front of bytes; the error in words.
+    pub(crate) fn read(bytes: &mut Cursor) -> Result<Call, String> {
+        let number = bytes.byte().ok_or("no kind")?;
+        let kind = Kind::from_number(number).ok_or(format!("kind {number}, not 1 to 7"))?;
+        let length = kind.bytes() - 1;
+        let fields = bytes.slice(length).ok_or(format!("cut short in a {}", kind.name()))?;
+        let mut cursor = Cursor(fields);
+        let values: Result<Vec<Value>, String> =
+            kind.fields().iter().map(|field| field.read(&mut cursor)).collect();
+        Call::from_values(kind, &values?).ok_or_else(|| "no call".into())
+    }
+}
+
+/// The field as a card bounds it: a start lies within the timestep.
+fn on_card(field: &Field, card: &Card) -> Field {
+    match field.name {
+        "start" => Field { high: card.timestep, ..*field },
+        _ => *field,
+    }
+}

@@ -1,0 +1,307 @@
+//! The fields of cards and calls, described once: name, unit, shape and range. Bytes, text,
+//! JSON and explanations all follow these descriptions.
+
+use crate::bytes::{Buffer, Cursor};
+use crate::refusal::Refusal;
+use std::fmt;
+
+/// Which service a demand is for.
+#[derive(Clone, Copy, Debug, PartialEq, Eq, Hash)]
+pub enum ServiceType {
+    /// 0; only in trials.
+    Combi,
+    /// 1: hot water through a cylinder.
+    Regular,
+    /// 2: space heating.
+    Space,
+    /// 3: hot water straight from the battery.
+    Direct,
+}
+
+impl ServiceType {
+    /// All four, each at its number.
+    pub const ALL: [ServiceType; 4] =
+        [ServiceType::Combi, ServiceType::Regular, ServiceType::Space, ServiceType::Direct];
+
+    /// Document 01's number.
+    pub fn number(&self) -> u8 {
+        *self as u8
+    }
+
+    /// The name in text and JSON.
+    pub fn name(&self) -> &'static str {
+        match self {
+            ServiceType::Combi => "combi",
+            ServiceType::Regular => "regular",
+            ServiceType::Space => "space",
+            ServiceType::Direct => "direct",
+        }
+    }
+}
+
+/// How a field stands in bytes and text.
+#[derive(Clone, Copy, Debug, PartialEq, Eq)]
+pub enum Shape {
+    /// A u8.
+    Byte,
+    /// A u16.
+    Short,
+    /// A u8, 0 or 1.
+    Flag,
+    /// A u8, 0 to 3.
+    Service,
+    /// An f64 by its bits.
+    Number,
+    /// A mark, 0 or 1, and an f64.
+    Optional,
+}
+
+/// A field's value.
+#[derive(Clone, Copy, Debug, PartialEq)]
+pub enum Value {
+    /// A u8.
+    Byte(u8),
+    /// A u16.
+    Short(u16),
+    /// A flag.
+    Flag(bool),
+    /// A service type.
+    Service(ServiceType),
+    /// A number.
+    Number(f64),
+    /// A number or none.
+    Optional(Option<f64>),
+}
+
+/// A field of a card or a call.
+#[derive(Clone, Copy, Debug, PartialEq)]
+pub struct Field {
+    /// As in Rust, text and JSON.
+    pub name: &'static str,
+    /// Empty where it has none.
+    pub unit: &'static str,
+    /// How it stands in bytes and text.
+    pub shape: Shape,
+    /// The least value.
+    pub low: f64,
+    /// The greatest value.
+    pub high: f64,
+    /// What it is.
+    pub about: &'static str,
+}
+
+/// One reason why a card or a call is refused.
+#[derive(Clone, Debug, PartialEq, Eq)]
+pub struct Fault {
+    /// 1 to 4 for a card, 10 for a call.
+    pub refusal: Refusal,
+    /// The field, what it is and its range.
+    pub words: String,
+}
+
+impl fmt::Display for Fault {
+    fn fmt(&self, f: &mut fmt::Formatter<'_>) -> fmt::Result {
+        f.write_str(&self.words)
+    }
+}
+
+impl Value {
+    pub(crate) fn write<const N: usize>(&self, bytes: &mut Buffer<N>) {
+        match *self {
+            Value::Byte(byte) => bytes.push(&[byte]),
+            Value::Short(short) => bytes.push(&short.to_be_bytes()),
+            Value::Flag(flag) => bytes.push(&[u8::from(flag)]),
+            Value::Service(service) => bytes.push(&[service.number()]),
+            Value::Number(x) => bytes.push_number(x),
+            Value::Optional(x) => {
+                bytes.push(&[u8::from(x.is_some())]);
+                bytes.push_number(x.unwrap_or(0.0));
+            }
+        }
+    }
+
+    /// The number of the shape Number.
+    pub(crate) fn number(&self) -> Option<f64> {
+        match *self {
+            Value::Number(x) => Some(x),
+            _ => None,
+        }
+    }
+
+    /// The value as a number, to be held to a range; None where nothing is to be held.
+    fn measure(&self) -> Option<f64> {
+        match *self {
+            Value::Byte(byte) => Some(f64::from(byte)),
+            Value::Short(short) => Some(f64::from(short)),
+            Value::Flag(_) | Value::Service(_) => None,
+            Value::Number(x) => Some(x),
+            Value::Optional(x) => x,
+        }
+    }
+}
+
+/// As in text; numbers so that they read back exactly.
+impl fmt::Display for Value {
+    fn fmt(&self, f: &mut fmt::Formatter<'_>) -> fmt::Result {
+        match *self {
+            Value::Byte(byte) => write!(f, "{byte}"),
+            Value::Short(short) => write!(f, "{short}"),
+            Value::Flag(true) => f.write_str("yes"),
+            Value::Flag(false) => f.write_str("no"),
+            Value::Service(service) => f.write_str(service.name()),
+            Value::Number(x) | Value::Optional(Some(x)) => write!(f, "{x:?}"),
+            Value::Optional(None) => f.write_str("none"),
+        }
+    }
+}
+
+impl Field {
+    pub(crate) const fn new(
+        name: &'static str,
+        unit: &'static str,
+        shape: Shape,
+        (low, high): (f64, f64),
+        about: &'static str,
+    ) -> Field {
+        Field { name, unit, shape, low, high, about }
+    }
+
+    /// Its bytes in a card or a call.
+    pub const fn bytes(&self) -> usize {
+        match self.shape {
+            Shape::Byte | Shape::Flag | Shape::Service => 1,
+            Shape::Short => 2,
+            Shape::Number => 8,
+            Shape::Optional => 9,
+        }
+    }
+
+    /// Its range in words, with the unit.
+    pub fn range(&self) -> String {
+        match self.shape {
+            Shape::Flag => "yes or no".into(),
+            Shape::Service => "combi, regular, space or direct".into(),
+            Shape::Byte | Shape::Short | Shape::Number => self.numbers(),
+            Shape::Optional => format!("{}, or none", self.numbers()),
+        }
+    }
+
+    fn numbers(&self) -> String {
+        let gap = if self.unit.is_empty() { "" } else { " " };
+        format!("{} to {}{gap}{}", short(self.low), short(self.high), self.unit)
+    }
+
+    /// Why a value is refused, in words; None where it is in range.
+    pub fn fault(&self, value: &Value) -> Option<String> {
+        let x = value.measure()?;
+        if self.low <= x && x <= self.high {
+            return None;
+        }
+        Some(self.out_of_range(&value.to_string()))
+    }
+
+    fn out_of_range(&self, value: &str) -> String {
+        format!("{} is {value}, out of its range {}", self.name, self.range())
+    }
+
+    /// Reads the value from bytes; an error in words for another flag, type or mark and for
+    /// nonzero bytes under an absent mark.
+    pub(crate) fn read(&self, bytes: &mut Cursor) -> Result<Value, String> {
+        let value = match self.shape {
+            Shape::Byte => bytes.byte().map(Value::Byte).ok_or(0),
+            Shape::Short => bytes.short().map(Value::Short).ok_or(0),
+            Shape::Flag => bytes.byte().ok_or(0).and_then(flag).map(Value::Flag),
+            Shape::Service => bytes.byte().ok_or(0).and_then(service).map(Value::Service),
+            Shape::Number => bytes.number().map(Value::Number).ok_or(0),
+            Shape::Optional => return self.read_optional(bytes),
+        };
+        value
+            .map_err(|number| format!("{} is the number {number}, not {}", self.name, self.bound()))
+    }
+
+    /// What a flag or type may be in bytes.
+    fn bound(&self) -> &'static str {
+        match self.shape {
+            Shape::Service => "0 to 3",
+            _ => "0 or 1",
+        }
+    }
+
+    fn read_optional(&self, bytes: &mut Cursor) -> Result<Value, String> {
+        optional(bytes).map(Value::Optional).map_err(|words| format!("{}: {words}", self.name))
+    }
+
+    /// Reads the value from text.
+    pub(crate) fn parse(&self, text: &str) -> Result<Value, String> {
+        let other = || format!("{} is {}, not {}", self.name, quoted(text), self.range());
+        match self.shape {
+            Shape::Byte => self.whole(text).map(|n| n.try_into().map(Value::Byte)),
+            Shape::Short => self.whole(text).map(|n| n.try_into().map(Value::Short)),
+            Shape::Flag => match text {
+                "yes" | "1" => Ok(Ok(Value::Flag(true))),
+                "no" | "0" => Ok(Ok(Value::Flag(false))),
+                _ => Err(other()),
+            },
+            Shape::Service => {
+                let found = ServiceType::ALL.into_iter().find(|service| service.name() == text);
+                found.map(|service| Ok(Value::Service(service))).ok_or_else(other)
+            }
+            Shape::Optional if text == "none" => Ok(Ok(Value::Optional(None))),
+            Shape::Optional => self.number(text).map(|x| Ok(Value::Optional(Some(x)))),
+            Shape::Number => self.number(text).map(|x| Ok(Value::Number(x))),
+        }?
+        .map_err(|_| self.out_of_range(text))
+    }
+
+    fn whole(&self, text: &str) -> Result<i128, String> {
+        text.parse().map_err(|_| format!("{} is {}, no whole number", self.name, quoted(text)))
+    }
+
+    fn number(&self, text: &str) -> Result<f64, String> {
+        text.parse().map_err(|_| {
+            let comma = if text.contains(',') { " (write a point, not a comma)" } else { "" };
+            format!("{} is {}, no number{comma}", self.name, quoted(text))
+        })
+    }
+}
+
+fn flag(byte: u8) -> Result<bool, u8> {
+    match byte {
+        0 => Ok(false),
+        1 => Ok(true),
+        other => Err(other),
+    }
+}
+
+fn service(byte: u8) -> Result<ServiceType, u8> {
+    ServiceType::ALL.get(usize::from(byte)).copied().ok_or(byte)
+}
+
+/// A mark and its number.
+pub(crate) fn optional(bytes: &mut Cursor) -> Result<Option<f64>, String> {
+    let (Some(mark), Some(number)) = (bytes.byte(), bytes.number()) else {
+        return Err("cut short".into());
+    };
+    match mark {
+        0 if number.to_bits() == 0 => Ok(None),
+        0 => Err("nonzero bytes under an absent mark".into()),
+        1 => Ok(Some(number)),
+        other => Err(format!("the mark is {other}, not 0 or 1")),
+    }
+}
+
+/// A range's end as one would write it.
+fn short(x: f64) -> String {
+    match x.abs() {
+        size if size != 0.0 && !(1e-4..1e6).contains(&size) => format!("{x:e}"),
+        _ => format!("{x}"),
+    }
+}
+
+/// Text of a file inside quotation marks, cut and free of control characters.
+pub(crate) fn quoted(text: &str) -> String {
+    const MOST: usize = 40;
+    let cut: String = text.chars().take(MOST).collect();
+    let dots = if text.chars().nth(MOST).is_some() { "..." } else { "" };
+    format!("'{}{dots}'", cut.escape_debug())
+}

@@ -1,0 +1,118 @@
+//! A sheet's bytes read as its card and its lines, by document 01's layout. What is found
+//! here explains; the verdict is the auditor's.
+
+use crate::answer::{Answer, Line};
+use crate::bytes::Cursor;
+use crate::call::Call;
+use crate::card::Card;
+use crate::refusal::Refusal;
+use std::fmt;
+
+/// The only version there is.
+pub const VERSION: u8 = 1;
+
+/// Where a sheet leaves the layout: refusal 40, 41 or 42.
+#[derive(Clone, Debug, PartialEq, Eq)]
+pub struct Damage {
+    /// The refusal that the auditor gives.
+    pub refusal: Refusal,
+    /// The line, 0 for the card's.
+    pub line: u64,
+    /// What is wrong with it.
+    pub words: String,
+}
+
+impl Damage {
+    fn new(refusal: Refusal, line: u64, words: impl Into<String>) -> Damage {
+        Damage { refusal, line, words: words.into() }
+    }
+}
+
+impl fmt::Display for Damage {
+    fn fmt(&self, f: &mut fmt::Formatter<'_>) -> fmt::Result {
+        write!(f, "line {}: {} (refusal {})", self.line, self.words, self.refusal.number())
+    }
+}
+
+impl std::error::Error for Damage {}
+
+/// The card of a sheet, and its lines to be gone through.
+///
+/// ```
+/// use heat_battery::{read, Call, Card, Sheet};
+///
+/// let mut sheet = Sheet::open(&Card::example()).unwrap();
+/// sheet.call(&Call::StandingLoss).unwrap();
+/// let (card, lines) = read(sheet.as_bytes()).unwrap();
+/// assert_eq!(card, Card::example());
+/// for line in lines {
+///     assert_eq!(line.unwrap().call, Call::StandingLoss);
+/// }
+/// ```
+pub fn read(sheet: &[u8]) -> Result<(Card, Lines<'_>), Damage> {
+    let version = |words: String| Damage::new(Refusal::Version, 0, words);
+    let (first, rest) = sheet.split_first().ok_or_else(|| version("no bytes at all".into()))?;
+    if *first != VERSION {
+        return Err(version(format!("the first byte is {first}, not the version {VERSION}")));
+    }
+    let mut bytes = Cursor(rest);
+    let card = card_line(&mut bytes).map_err(|words| Damage::new(Refusal::CardLine, 0, words))?;
+    Ok((card, Lines { card, bytes: bytes.0, index: 0 }))
+}
+
+/// The content of the next line; the error in words.
+fn content<'a>(bytes: &mut Cursor<'a>) -> Result<&'a [u8], String> {
+    let left = bytes.0.len();
+    let length = bytes.short().ok_or(format!("{left} bytes left, too few for a length"))?;
+    let after = bytes.0.len();
+    let cut = || format!("cut short: its length is {length}, but {after} bytes are left");
+    bytes.slice(usize::from(length)).ok_or_else(cut)
+}
+
+fn card_line(bytes: &mut Cursor) -> Result<Card, String> {
+    let card = Card::read(content(bytes)?)?;
+    match card.faults().first() {
+        Some(fault) => Err(format!("{fault} (the card's refusal {})", fault.refusal.number())),
+        None => Ok(card),
+    }
+}
+
+/// The call lines of a sheet; ends after the first damage.
+#[derive(Clone, Debug)]
+pub struct Lines<'a> {
+    card: Card,
+    bytes: &'a [u8],
+    index: u64,
+}
+
+impl Lines<'_> {
+    fn line(&self, content: &[u8]) -> Result<Line, String> {
+        let mut bytes = Cursor(content);
+        let call = Call::read(&mut bytes)?;
+        let right = call.buffer().len() + Answer::bytes(self.card.layers);
+        if content.len() != right {
+            let kind = call.kind().name();
+            return Err(format!("a {kind} line has {right} bytes, this one {}", content.len()));
+        }
+        if let Some(fault) = call.faults(&self.card).first() {
+            return Err(fault.words.clone());
+        }
+        let answer = Answer::read(self.card.layers, &mut bytes)?;
+        Ok(Line { index: self.index, call, answer })
+    }
+}
+
+impl Iterator for Lines<'_> {
+    type Item = Result<Line, Damage>;
+
+    fn next(&mut self) -> Option<Result<Line, Damage>> {
+        if self.bytes.is_empty() {
+            return None;
+        }
+        self.index += 1;
+        let mut bytes = Cursor(self.bytes);
+        let line = content(&mut bytes).and_then(|content| self.line(content));
+        self.bytes = if line.is_ok() { bytes.0 } else { &[] };
+        Some(line.map_err(|words| Damage::new(Refusal::CallLine, self.index, words)))
+    }
+}

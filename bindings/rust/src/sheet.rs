@@ -1,0 +1,101 @@
+//! A battery and the sheet of its calls.
+
+use crate::answer::{Answer, Line};
+use crate::battery::{line_bytes, Battery, OPENING_BYTES};
+use crate::call::Call;
+use crate::card::Card;
+use crate::reading::Lines;
+use crate::refusal::Refusal;
+
+/// A fresh battery with the sheet of all calls made on it.
+///
+/// The two stay together, so that the sheet is one that the auditor accepts. Each call gets
+/// the free bytes behind the last line and the bytes that it used are kept.
+///
+/// ```
+/// use heat_battery::{audit, Call, Card, Refusal, Sheet, Verdict};
+///
+/// let mut sheet = Sheet::open(&Card::example())?;
+/// sheet.call(&Call::Electric { power: 3.0, target: 1.0 })?;
+/// sheet.call(&Call::CloseTimestep)?;
+/// assert_eq!(audit(sheet.as_bytes()), Verdict::Accepted(2));
+/// # Ok::<(), Refusal>(())
+/// ```
+#[derive(Clone, Debug)]
+pub struct Sheet {
+    battery: Battery,
+    bytes: Vec<u8>,
+    most: usize,
+    lines: u64,
+}
+
+impl Sheet {
+    /// Opens a battery and a sheet that grows with its lines. Refusals 1 to 4. The C audit
+    /// takes sheets of at most [`MOST_AUDITED`](crate::MOST_AUDITED) bytes.
+    pub fn open(card: &Card) -> Result<Sheet, Refusal> {
+        Sheet::open_within(card, usize::MAX)
+    }
+
+    /// Opens a battery and a sheet of at most `most` bytes: 11 where a line has no room.
+    pub fn open_within(card: &Card, most: usize) -> Result<Sheet, Refusal> {
+        let mut bytes = vec![0; OPENING_BYTES.min(most)];
+        let battery = Battery::open_on(card, &mut bytes)?;
+        Ok(Sheet { battery, bytes, most, lines: 0 })
+    }
+
+    /// Makes a call. 10 and 11 leave battery and sheet as they were; 20 to 25 leave the
+    /// battery as it was and stand on the sheet as a line; all are errors.
+    pub fn call(&mut self, call: &Call) -> Result<Answer, Refusal> {
+        self.line(call)?.answer.result()
+    }
+
+    /// Makes a call and gives its line: one of 20 to 25 is a line too, only 10 and 11 are
+    /// errors.
+    pub fn line(&mut self, call: &Call) -> Result<Line, Refusal> {
+        let used = self.bytes.len();
+        let needed = line_bytes(&call.buffer(), self.battery.card().layers);
+        self.bytes.resize(used + needed.min(self.most - used), 0);
+        let free = self.bytes.get_mut(used..).unwrap_or_default();
+        match self.battery.answer_on(call, free) {
+            Ok(answer) => {
+                self.lines += 1;
+                Ok(Line { index: self.lines, call: *call, answer })
+            }
+            Err(refusal) => {
+                self.bytes.truncate(used);
+                Err(refusal)
+            }
+        }
+    }
+
+    /// The battery as the last call left it.
+    pub fn battery(&self) -> &Battery {
+        &self.battery
+    }
+
+    /// The sheet's bytes.
+    pub fn as_bytes(&self) -> &[u8] {
+        &self.bytes
+    }
+
+    /// The sheet's bytes, by value.
+    pub fn into_bytes(self) -> Vec<u8> {
+        self.bytes
+    }
+
+    /// The number of call lines.
+    pub fn len(&self) -> u64 {
+        self.lines
+    }
+
+    /// Whether there is no call line yet.
+    pub fn is_empty(&self) -> bool {
+        self.lines == 0
+    }
+
+    /// The call lines.
+    pub fn lines(&self) -> impl Iterator<Item = Line> + '_ {
+        let lines = crate::read(&self.bytes).ok().map(|(_, lines): (Card, Lines)| lines);
+        lines.into_iter().flatten().flatten()
+    }
+}

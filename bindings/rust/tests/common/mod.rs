@@ -1,0 +1,55 @@
+//! The oracle's cards, calls and answers beside the crate's.
+#![allow(dead_code)]
+
+use heat_battery::{Answer, Battery, Call, Card, Totals};
+use oracle::{model, sheet};
+
+pub fn card(card: &model::Card) -> Card {
+    let bytes = sheet::card_bytes(card);
+    let read = Card::from_bytes(&bytes).expect("an accepted card");
+    assert_eq!(read.to_bytes().as_slice(), bytes);
+    read
+}
+
+pub fn call(call: &model::Call) -> Call {
+    let bytes = sheet::call_bytes(call);
+    let read = Call::from_bytes(&bytes).expect("a call in range");
+    assert_eq!(read.to_bytes(), bytes);
+    read
+}
+
+/// The battery by its state and by its bytes, which are the same.
+pub fn battery(battery: &model::Battery) -> Battery {
+    let [running_hours, pump_hours, direct_hours, charged, charged_electric] =
+        battery.state.totals.numbers();
+    let totals = Totals { running_hours, pump_hours, direct_hours, charged, charged_electric };
+    let card = card(&battery.card);
+    let read = Battery::with_state(&card, &battery.state.zones, &totals).expect("a good battery");
+    let bytes = sheet::battery_bytes(battery);
+    assert_eq!(read.as_bytes(), bytes);
+    let again = Battery::from_bytes(&bytes).expect("a good battery");
+    assert_eq!(again.as_bytes(), bytes);
+    read
+}
+
+fn bits(numbers: &[f64]) -> Vec<u64> {
+    numbers.iter().map(|x| x.to_bits()).collect()
+}
+
+/// The same answer, zones and totals, bit for bit.
+pub fn assert_same(ours: &Answer, theirs: &model::Answer, what: &dyn std::fmt::Debug) {
+    let refusal = ours.refusal.map_or(0, |refusal| refusal.number());
+    assert_eq!(refusal, theirs.refusal, "refusal of {what:?}");
+    assert_eq!(ours.substeps, theirs.substeps, "substeps of {what:?}");
+    let outlet = |x: Option<f64>| x.map(f64::to_bits);
+    assert_eq!(outlet(ours.outlet), outlet(theirs.outlet), "outlet of {what:?}");
+    let pairs = [
+        (bits(&[ours.energy]), bits(&[theirs.energy]), "energy"),
+        (bits(&[ours.time]), bits(&[theirs.time]), "time"),
+        (bits(&ours.zones), bits(&theirs.state.zones), "zones"),
+        (bits(&ours.totals.numbers()), bits(&theirs.state.totals.numbers()), "totals"),
+    ];
+    for (ours, theirs, name) in pairs {
+        assert_eq!(ours, theirs, "{name} of {what:?}");
+    }
+}

@@ -1,0 +1,164 @@
+//! The oracle's lists, cards, calls and sheets replayed through the crate.
+
+mod common;
+
+use common::{assert_same, battery, call, card};
+use heat_battery::{audit, explain, Battery, Call, Card, Explanation, Refusal, Sheet, Verdict};
+use oracle::random::Random;
+use oracle::{auditor, damage, generate, model, plain, raw, sheet, sheets};
+
+const LISTS: u64 = 10_000;
+
+/// Lists from fresh batteries and from ones handed in: every answer, zone and total.
+#[test]
+fn answers_are_the_oracles() {
+    let mut random = Random::new(1);
+    for _ in 0..LISTS {
+        let drawn = generate::card(&mut random);
+        let mut theirs = generate::battery(&mut random, &drawn);
+        let mut ours = battery(&theirs);
+        for index in 1..=generate::list_length(&mut random) {
+            let next = generate::next_call(&mut random, &theirs);
+            let (answer, after) = plain::step(&theirs, &next);
+            let line = ours.line(index, &call(&next)).expect("a call in range has a line");
+            assert_same(&line.answer, &answer, &next);
+            assert_eq!(ours.as_bytes(), sheet::battery_bytes(&after));
+            theirs = after;
+        }
+    }
+}
+
+/// Lists from fresh batteries on sheets: every byte, and the audit of what is written.
+#[test]
+fn sheets_are_the_oracles() {
+    let mut random = Random::new(2);
+    for _ in 0..LISTS / 5 {
+        let drawn = generate::card(&mut random);
+        let mut theirs = model::Battery::fresh(&drawn);
+        let mut ours = Sheet::open(&card(&drawn)).expect("an accepted card");
+        let mut bytes = sheet::opening(&drawn);
+        for _ in 0..generate::list_length(&mut random) {
+            let next = generate::next_call(&mut random, &theirs);
+            let (answer, after) = plain::step(&theirs, &next);
+            let result = ours.call(&call(&next));
+            assert_eq!(result.err().map_or(0, |refusal| refusal.number()), answer.refusal);
+            bytes.extend(sheet::call_line(&next, &answer));
+            theirs = after;
+        }
+        assert_eq!(ours.as_bytes(), bytes);
+        assert_eq!(ours.lines().count() as u64, ours.len());
+        let verdict = Verdict::Accepted(ours.len());
+        assert_eq!(audit(&bytes), if bytes.len() > 65_536 { too_long() } else { verdict });
+    }
+}
+
+fn too_long() -> Verdict {
+    Verdict::Refused { refusal: Refusal::TooLong, line: 0 }
+}
+
+/// Refusals 1 to 4, and the words for them.
+#[test]
+fn cards_are_refused_and_explained() {
+    let mut random = Random::new(3);
+    for _ in 0..100_000 {
+        let drawn = generate::any_card(&mut random);
+        let refusal = Refusal::from_number(plain::card_refusal(&drawn));
+        let read = Card::from_bytes(&sheet::card_bytes(&drawn));
+        let found = read.and_then(|card| {
+            let faults = card.faults();
+            assert_eq!(faults.first().map(|fault| fault.refusal), refusal, "{faults:?}");
+            card.check()
+        });
+        assert_eq!(found.err(), refusal);
+    }
+}
+
+/// Refusal 10 of calls, and the words for it; a refused call changes nothing.
+#[test]
+fn calls_are_refused_and_explained() {
+    let mut random = Random::new(4);
+    let (mut refused, mut answered) = (0, 0);
+    while refused < 2_000 {
+        let drawn = generate::card(&mut random);
+        let theirs = generate::battery(&mut random, &drawn);
+        let input = raw::calling(&mut random, &theirs);
+        let mut ours = battery(&theirs);
+        let expected = oracle::reading::call(&drawn, &input.call).is_none();
+        let read = Call::from_bytes(&input.call);
+        let explained = read.map_or(true, |call| !call.faults(ours.card()).is_empty());
+        assert_eq!(explained, expected, "{:?}", input.call);
+        let Ok(read) = read else { continue };
+        let before = ours;
+        match ours.call(&read) {
+            Err(Refusal::CallField) => refused += 1,
+            other => {
+                assert!(!expected, "{other:?}");
+                answered += 1;
+            }
+        }
+        if expected {
+            assert_eq!(ours.as_bytes(), before.as_bytes());
+        }
+    }
+    assert!(answered > 2_000);
+}
+
+/// Batteries handed in: refusal 10 for bad ones.
+#[test]
+fn records_are_refused() {
+    let mut random = Random::new(5);
+    for _ in 0..50_000 {
+        let drawn = generate::card(&mut random);
+        let theirs = generate::battery(&mut random, &drawn);
+        let record = raw::calling(&mut random, &theirs).record;
+        let good = oracle::reading::battery(&record).is_some();
+        let read = Battery::from_bytes(&record);
+        assert_eq!(read.err(), (!good).then_some(Refusal::CallField));
+    }
+}
+
+/// The verdict on damaged sheets, and that its explanation is of the same line.
+#[test]
+fn verdicts_are_the_oracles_and_explained() {
+    let mut random = Random::new(6);
+    let families = (0..400).flat_map(|index| damage::family(&mut random, index));
+    let drawn = families.map(|sheet| sheet.bytes);
+    let named = sheets::all().into_iter().map(|sheet| sheet.bytes);
+    for bytes in drawn.chain(named) {
+        let verdict = audit(&bytes);
+        assert_eq!(verdict.to_string(), auditor::audit_limited(&bytes).to_string());
+        assert_eq!(explained(&bytes, verdict), verdict, "{:?}", explain(&bytes));
+    }
+}
+
+/// The verdict that an explanation amounts to.
+fn explained(bytes: &[u8], verdict: Verdict) -> Verdict {
+    match explain(bytes) {
+        Explanation::Agreement => match verdict {
+            Verdict::Accepted(lines) => Verdict::Accepted(lines),
+            Verdict::Refused { .. } => Verdict::Accepted(0),
+        },
+        Explanation::Damage(damage) => {
+            Verdict::Refused { refusal: damage.refusal, line: damage.line }
+        }
+        Explanation::Differences { line, fields, .. } => {
+            assert!(!fields.is_empty());
+            Verdict::Refused { refusal: Refusal::Disagreement, line }
+        }
+        Explanation::TooLong => too_long(),
+    }
+}
+
+/// A sheet with little room: 11, and nothing is changed.
+#[test]
+fn a_sheet_without_room_refuses() {
+    let drawn = card(&generate::points_card());
+    assert_eq!(Sheet::open_within(&drawn, 160).err(), Some(Refusal::NoRoom));
+    let mut ours = Sheet::open_within(&drawn, 161 + 81 + 80).expect("room to open");
+    assert!(ours.call(&Call::StandingLoss).is_ok());
+    let before = ours.clone();
+    assert_eq!(ours.call(&Call::CloseTimestep), Err(Refusal::NoRoom));
+    assert_eq!(ours.as_bytes(), before.as_bytes());
+    assert_eq!(ours.battery().as_bytes(), before.battery().as_bytes());
+    assert_eq!(audit(ours.as_bytes()), Verdict::Accepted(1));
+}

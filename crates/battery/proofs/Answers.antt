@@ -1,0 +1,53 @@
+-- The test of an answer's numbers, taken apart and put together; a refusal line on an accepted battery passes it.
+use mathlib.Core.Path.{_≡_, refl}
+use mathlib.Core.Bool.{true}
+use Prim.Native.Nat.{ℕ}
+use lib.Ieee.{fits, ofBits}
+use Rattle.floats.specs.Constants.{zero}
+use Rattle.floats.specs.Standins.{finite64}
+use Rattle.card.proofs.Tests.{and-true, true-and}
+use Rattle.battery.specs.Battery.{zonesFinite, totalsFinite}
+use Rattle.battery.specs.Answer.{refusedWith, answerFinite}
+use Rattle.battery.specs.declared.Battery.{Battery}
+use Rattle.battery.specs.declared.Answer.{Answer}
+use Rattle.battery.proofs.Accepted.{AcceptedBattery}
+
+pub record FiniteTotals (b : Battery) : Type 0 where
+  pub total : finite64 (b .total) ≡ true
+  pub pump : finite64 (b .pump) ≡ true
+  pub direct : finite64 (b .direct) ≡ true
+  pub charged : finite64 (b .charged) ≡ true
+  pub electric : finite64 (b .electric) ≡ true
+
+pub finite-totals : (b : Battery) → totalsFinite b ≡ true → FiniteTotals b
+unfolding totalsFinite
+finite-totals b h =
+    let p = and-true (finite64 (b .total)) _ h in
+    let q = and-true (finite64 (b .pump)) _ (p .1) in
+    let r = and-true (finite64 (b .direct)) _ (q .1) in
+    let s = and-true (finite64 (b .charged)) (finite64 (b .electric)) (r .1) in
+    record { total = p .0; pump = q .0; direct = r .0; charged = s .0; electric = s .1 }
+
+pub record FiniteAnswer (a : Answer) : Type 0 where
+  pub energy : finite64 (a .energy) ≡ true
+  pub outlet : finite64 (a .outlet) ≡ true
+  pub time : finite64 (a .time) ≡ true
+  pub zones : zonesFinite (a .battery .zones) (a .battery .card .layers) ≡ true
+  pub totals : totalsFinite (a .battery) ≡ true
+
+pub finite-answer : (a : Answer) → answerFinite a ≡ true → FiniteAnswer a
+unfolding answerFinite
+finite-answer a h =
+    let p = and-true (finite64 (a .energy)) _ h in
+    let q = and-true (finite64 (a .outlet)) _ (p .1) in
+    let r = and-true (finite64 (a .time)) _ (q .1) in
+    let s = and-true (zonesFinite (a .battery .zones) (a .battery .card .layers)) (totalsFinite (a .battery)) (r .1) in
+    record { energy = p .0; outlet = q .0; time = r .0; zones = s .0; totals = s .1 }
+
+pub zero-finite : finite64 zero ≡ true
+unfolding finite64 fits ofBits
+zero-finite = refl
+
+pub refused-finite : (version r : ℕ) (b : Battery) → AcceptedBattery version b → answerFinite (refusedWith r b) ≡ true
+unfolding answerFinite refusedWith
+refused-finite version r b a = true-and zero-finite (true-and zero-finite (true-and zero-finite (true-and (a .zones) (a .totals))))

@@ -1,0 +1,5 @@
+pub mod Accepted
+pub mod Answers
+pub mod FreshGood
+pub mod GoodParts
+pub mod Zones

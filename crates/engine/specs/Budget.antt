@@ -1,0 +1,74 @@
+-- Refusal 22: the budget is used and another substep is due.
+use Prim.Native.Nat.{ℕ, _<_}
+use mathlib.Core.Path.{_≡_}
+use mathlib.Core.Logic.{_⊎_}
+use lib.Dec.{T}
+use lib.Ieee.{Float, lt, neg}
+use Rattle.floats.specs.F64.{_⊕_}
+use Rattle.floats.specs.Constants.{zero}
+use Rattle.zone.specs.Heat.{kj}
+use Rattle.battery.specs.declared.Battery.{Battery}
+use Rattle.battery.specs.declared.Given.the-variants.{Value}
+use Rattle.battery.specs.declared.Demand.{Demand}
+use Rattle.battery.specs.declared.Hydronic.{Hydronic}
+use Rattle.battery.specs.declared.Call.{Call}
+use Rattle.battery.specs.declared.Call.the-variants.{DemandEnergy, ChargeElectric, ChargeHydronic, HeatLoss, CloseTimestep, ReadStateOfCharge, ChargeEnergyDemand}
+use Rattle.substep.specs.Substep.{processHeatBatteryZones}
+use Rattle.substep.specs.declared.Substep.{Substep}
+use Rattle.substep.specs.declared.Fault.the-variants.{Nothing}
+use Rattle.runs.specs.declared.DemandEnd.{DemandEnd}
+use Rattle.runs.specs.declared.Exchanger.{Exchanger}
+use Rattle.runs.specs.declared.HydronicTask.{HydronicTask}
+use Rattle.runs.specs.declared.HydronicRun.{HydronicRun}
+use Rattle.runs.specs.declared.HydronicEnd.{HydronicEnd}
+use Rattle.runs.specs.declared.End.the-variants.{OverBudget}
+use Rattle.runs.specs.Demand.{demandRun}
+use Rattle.runs.specs.Hydronic.{wetDrive, clearlyBelow, limitReached, hydronicRun, wholeSubsteps}
+use Rattle.runs.specs.Charge.{hydronicTask, hydronicStart}
+use Rattle.engine.specs.Steps.{demandTask, demandStart}
+
+-- a run of a demand, with its budget: its next step is positive
+pub record DemandOver (budget : ℕ) (e : DemandEnd) : Type 0 where
+  pub ended : e .end ≡ OverBudget
+  pub used : e .substeps ≡ budget
+  pub due : T (lt zero (e .run .step))
+
+-- the whole substep from s
+abbrev pub wholeFrom : HydronicTask → HydronicRun → Substep
+wholeFrom x s = processHeatBatteryZones (x .card) (x .pcm) (wetDrive x (x .card .substep) (s .reynold)) (s .zones)
+
+-- behind the whole substep u from s the limit is passed, and its heat is to be cut: the fractional substep is due
+pub record FractionDue (x : HydronicTask) (s : HydronicRun) (u : Substep) : Type 0 where
+  pub worked : u .fault ≡ Nothing
+  pub below : T (clearlyBelow (u .outlet) (x .wet .inlet))
+  pub passed : T (limitReached (kj (s .absorbed .0 ⊕ neg (u .delivered .0))) (x .limit))
+  pub heat : T (lt zero (neg (u .delivered .0)))
+
+-- a hydronic run of so many whole substeps: one of them is left, or the fractional one behind the last
+pub record HydronicOver (x : HydronicTask) (steps : ℕ) (e : HydronicEnd) : Type 0 where
+  pub ended : e .end ≡ OverBudget
+  pub used : e .substeps ≡ x .card .budget
+  pub due : (x .card .budget < steps) ⊎ FractionDue x (e .run) (wholeFrom x (e .run))
+
+-- the call's run
+pub record DemandUsed (b : Battery) (d : Demand) : Type 0 where
+  pub feed : Float
+  pub given : d .feed ≡ Value feed
+  pub over : DemandOver (b .card .budget) (demandRun (demandTask b d feed) (b .card .budget) 0 (demandStart b))
+
+abbrev pub wetOf : Hydronic → Exchanger
+wetOf h = record { inlet = h .inlet; hours = h .hours; flow = h .flow; limit = h .limit; a = h .a; b = h .b; velocity = h .velocity; diameter = h .diameter }
+
+pub record HydronicUsed (b : Battery) (h : Hydronic) : Type 0 where
+  pub over :
+      HydronicOver (hydronicTask b (wetOf h) (h .target)) (wholeSubsteps (hydronicTask b (wetOf h) (h .target)))
+      (hydronicRun (hydronicTask b (wetOf h) (h .target)) (wholeSubsteps (hydronicTask b (wetOf h) (h .target))) 0 (hydronicStart b (wetOf h)))
+
+abbrev pub BudgetUsed : Battery → Call → Type 0
+BudgetUsed b (DemandEnergy d) = DemandUsed b d
+BudgetUsed b (ChargeElectric power target) = ⊥
+BudgetUsed b (ChargeHydronic h) = HydronicUsed b h
+BudgetUsed b HeatLoss = ⊥
+BudgetUsed b CloseTimestep = ⊥
+BudgetUsed b ReadStateOfCharge = ⊥
+BudgetUsed b (ChargeEnergyDemand most target) = ⊥

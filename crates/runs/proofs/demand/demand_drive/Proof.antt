@@ -1,0 +1,11 @@
+use mathlib.Core.Path.{refl}
+use Rattle.runs.specs.Demand.{demandDrive}
+use Rattle.runs.proofs.demand.demand_drive.Statement.{statement}
+use Rattle.runs.proofs.demand.demand_drive.Tie as tie
+
+returns : tie.Need-returns
+unfolding demandDrive
+returns c = refl
+
+pub demand-drive-spec : {M : Type 1} → statement M
+demand-drive-spec = tie.close (tie.spec returns)

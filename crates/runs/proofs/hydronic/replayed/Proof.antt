@@ -1,0 +1,42 @@
+use mathlib.Core.Path.{refl}
+use Rattle.floats.proofs.Branch.{via-true, via-false}
+use borrow.Author.Tests.{eq-eqb, ne-eqb}
+use Rattle.runs.specs.Hydronic.{replayed}
+use borrow.Author.Needs.{needs}
+use Rattle.runs.proofs.hydronic.replayed.Statement.{statement}
+use Rattle.runs.proofs.hydronic.replayed.Tie as tie
+
+cast-if1 : tie.Need-cast-if1
+cast-if1 c = search needs
+
+returns : tie.Need-returns
+unfolding replayed
+returns c = via-true _ _ (eq-eqb _ _ (c .if1 .taken)) refl
+
+wet-drive-requires : tie.Need-wet-drive-requires
+wet-drive-requires c κs = search needs
+
+process-heat-battery-zones-requires : tie.Need-process-heat-battery-zones-requires
+process-heat-battery-zones-requires c κs = search needs
+
+add-replay-by : tie.Need-add-replay-by
+add-replay-by c = search needs
+
+replay-by-requires : tie.Need-replay-by-requires
+replay-by-requires c κs = search needs
+
+returns-2 : tie.Need-returns-2
+unfolding replayed
+returns-2 c = rw (← (c .before .before .before .before .wet-drive .ensures), ← (c .before .process-heat-battery-zones .ensures), ← (c .replay-by .ensures)) (via-false _ _ (ne-eqb _ _ (c .before .before .before .before .before .if1 .left)) refl)
+
+pub replayed-spec : {M : Type 1} → statement M
+replayed-spec =
+    tie.close
+    (tie.spec
+    cast-if1
+    returns
+    wet-drive-requires
+    process-heat-battery-zones-requires
+    add-replay-by
+    replay-by-requires
+    returns-2)

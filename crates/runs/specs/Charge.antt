@@ -1,0 +1,85 @@
+-- Document 01, module 6: `charge_battery_electric`, `battery_heat_loss`, the charge by its source, `calculate_charge_energy_demand`.
+use mathlib.Core.Bool.{cond}
+use lib.Ieee.{Float, lt, neg}
+use Rattle.floats.specs.F64.{_⊕_, _⊖_, _⊗_}
+use Rattle.floats.specs.Constants.{zero, tolerance, maxRelative, hour, ambient}
+use Rattle.floats.specs.Standins.{nearlyEqual, maxZero, min}
+use Rattle.zone.specs.Heat.{kj, kwh, kilowattHours, kilojoules}
+use Rattle.zone.specs.declared.Kilojoules.{Kilojoules}
+use Rattle.zone.specs.declared.KilowattHours.{KilowattHours}
+use Rattle.zone.specs.declared.Mode.the-variants.{OnlyCharging, Losses}
+use Rattle.card.specs.Derived.{derived, energyAt}
+use Rattle.card.specs.declared.Card.{Card}
+use Rattle.battery.specs.declared.Battery.{Battery}
+use Rattle.battery.specs.declared.Given.{Given}
+use Rattle.battery.specs.declared.Given.the-variants.{Absent, Value}
+use Rattle.substep.specs.Substep.{processHeatBatteryZones}
+use Rattle.substep.specs.declared.Drive.{Drive}
+use Rattle.substep.specs.declared.Substep.{Substep}
+use Rattle.runs.specs.declared.Exchanger.{Exchanger}
+use Rattle.runs.specs.declared.Source.{Source}
+use Rattle.runs.specs.declared.Source.the-variants.{Electric, Wet}
+use Rattle.runs.specs.declared.HydronicTask.{HydronicTask}
+use Rattle.runs.specs.declared.HydronicRun.{HydronicRun}
+use Rattle.runs.specs.declared.Ended.{Ended}
+use Rattle.runs.specs.Runs.{faultEnd, reynoldBetween, timeAvailable}
+use Rattle.runs.specs.Hydronic.{hydronicRun, hydronicEnded, wholeSubsteps}
+
+-- the call's power over the time left, which goes through max(0.0)
+unfoldable pub electricDrive : Battery → Float → Float → Drive
+electricDrive b power target =
+    record { mode = OnlyCharging; inlet = zero; seconds = maxZero (timeAvailable b zero) ⊗ hour; reynold = zero; flow = b .card .flow; power = power; target = target; a = b .card .a; b = b .card .b }
+
+unfoldable pub electricEnded : Battery → Substep → Ended
+electricEnded b u =
+    record { zones = u .zones; energy = u .charged; electric = kwh (b .electric ⊕ u .charged .0); outlet = zero; time = zero; end = faultEnd (u .fault); substeps = 1 }
+
+unfoldable pub chargeElectric : Battery → Float → Float → Ended
+chargeElectric b power target =
+    electricEnded b (processHeatBatteryZones (b .card) (derived (b .card)) (electricDrive b power target) (b .zones))
+
+unfoldable pub hydronicTask : Battery → Exchanger → Float → HydronicTask
+hydronicTask b wet target =
+    record { card = b .card; pcm = derived (b .card); wet = wet; target = target; limit = kilojoules (kwh (wet .limit)) }
+
+-- the first Reynolds number is that of the card's initial inlet and estimated outlet
+unfoldable pub hydronicStart : Battery → Exchanger → HydronicRun
+hydronicStart b wet =
+    record { zones = b .zones; absorbed = kj zero; reynold = reynoldBetween (b .card .inlet) (b .card .outlet) (wet .velocity) (wet .diameter); time = zero }
+
+unfoldable pub chargeHydronic : Battery → Exchanger → Float → Ended
+chargeHydronic b wet target =
+    let x = hydronicTask b wet target in
+    hydronicEnded (kwh (b .electric)) (hydronicRun x (wholeSubsteps x) 0 (hydronicStart b wet))
+
+-- 'A charging source is electric with its rated power, or wet with its flow and exchanger figures'
+unfoldable pub chargeBattery : Battery → Source → Float → Ended
+chargeBattery b (Electric power) target = chargeElectric b power target
+chargeBattery b (Wet wet) target = chargeHydronic b wet target
+
+-- the rated losses over the whole timestep, against 16 °C
+unfoldable pub lossDrive : Battery → Drive
+lossDrive b =
+    record { mode = Losses; inlet = ambient; seconds = b .card .timestep ⊗ hour; reynold = zero; flow = zero; power = neg (b .card .losses); target = zero; a = b .card .a; b = b .card .b }
+
+unfoldable pub lossEnded : Battery → Substep → Ended
+lossEnded b u =
+    record { zones = u .zones; energy = kilowattHours (u .delivered); electric = kwh (b .electric); outlet = zero; time = zero; end = faultEnd (u .fault); substeps = 1 }
+
+unfoldable pub batteryHeatLoss : Battery → Ended
+batteryHeatLoss b = lossEnded b (processHeatBatteryZones (b .card) (derived (b .card)) (lossDrive b) (b .zones))
+
+-- the energy to the target level, or to the flow maximum where that is less
+unfoldable pub energyDeficit : Card → Given → Kilojoules → Kilojoules → Kilojoules
+energyDeficit c Absent current wanted = kj (wanted .0 ⊖ current .0)
+energyDeficit c (Value t) current wanted = kj (min (wanted .0 ⊖ current .0) (maxZero (energyAt c t .0 ⊖ current .0)))
+
+-- `calculate_charge_energy_demand`, from the state of charge
+unfoldable pub chargeEnergyDemand : Battery → Given → Float → Float → KilowattHours
+chargeEnergyDemand b most target soc =
+    let stored = derived (b .card) .stored in
+    cond (lt target soc)
+    (kwh zero)
+    (cond (nearlyEqual soc target tolerance maxRelative)
+    (kwh zero)
+    (kilowattHours (energyDeficit (b .card) most (kj (stored .0 ⊗ soc)) (kj (stored .0 ⊗ target)))))

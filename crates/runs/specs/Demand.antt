@@ -1,0 +1,119 @@
+-- Document 01, module 7: the substeps of `demand_energy`.
+use Prim.Native.Nat.{ℕ, zero, suc, _+_}
+use mathlib.Core.Bool.{Bool, true, cond}
+use lib.Ieee.{Float, lt}
+use Rattle.floats.specs.F64.{_⊕_, _⊖_, _⊘_}
+use Rattle.floats.specs.Constants as Constants
+use Rattle.floats.specs.Constants.{tolerance, demandRelative}
+use Rattle.floats.specs.Standins.{nearlyEqual}
+use Rattle.zone.specs.Heat.{kwh, kilowattHours}
+use Rattle.zone.specs.declared.KilowattHours.{KilowattHours}
+use Rattle.zone.specs.declared.Mode.the-variants.{Normal}
+use Rattle.substep.specs.Substep.{processHeatBatteryZones}
+use Rattle.substep.specs.declared.Drive.{Drive}
+use Rattle.substep.specs.declared.Substep.{Substep}
+use Rattle.substep.specs.declared.Fault.{Fault}
+use Rattle.substep.specs.declared.Fault.the-variants.{Nothing, Logarithm, NotFinite}
+use Rattle.runs.specs.declared.DemandTask.{DemandTask}
+use Rattle.runs.specs.declared.Run.{Run}
+use Rattle.runs.specs.declared.Next.{Next}
+use Rattle.runs.specs.declared.Next.the-variants.{On, Stop}
+use Rattle.runs.specs.declared.DemandTurn.{DemandTurn}
+use Rattle.runs.specs.declared.DemandEnd.{DemandEnd}
+use Rattle.runs.specs.declared.Ended.{Ended}
+use Rattle.runs.specs.declared.End.{End}
+use Rattle.runs.specs.declared.End.the-variants.{Negative, Met, NoStep, OverBudget, NoLogarithm, NotFiniteRun}
+use Rattle.runs.specs.Runs.{reynoldBetween}
+
+-- a substep of the step's length; a demand charges to level 0
+unfoldable pub demandDrive : DemandTask → Run → Drive
+demandDrive x s =
+    record { mode = Normal; inlet = x .feed; seconds = s .step; reynold = s .reynold; flow = x .card .flow; power = x .power; target = Constants.zero; a = x .card .a; b = x .card .b }
+
+-- a step is at most the card's substep
+unfoldable pub capped : DemandTask → Float → Float
+capped x step = cond (lt (x .card .substep) step) (x .card .substep) step
+
+-- the next step at the power of this substep, to meet the demand; a delivery of 0 leaves the step
+unfoldable pub nextStep : DemandTask → KilowattHours → KilowattHours → Float → Float
+nextStep x heat delivered step =
+    cond (lt Constants.zero (heat .0 ⊘ step))
+    (capped x ((x .demand .0 ⊖ delivered .0) ⊘ (heat .0 ⊘ step)))
+    (capped x step)
+
+unfoldable pub demandMet : DemandTask → KilowattHours → Bool
+demandMet x delivered =
+    cond (nearlyEqual (x .demand .0) (delivered .0) tolerance demandRelative) true (lt (x .demand .0) (delivered .0))
+
+-- a step is cut to the time left
+unfoldable pub cut : DemandTask → Float → Float → Float
+cut x running step = cond (lt (x .seconds) (running ⊕ step)) (x .seconds ⊖ running) step
+
+-- the run behind a substep, with its next step and its delivery
+unfoldable pub runAfter : DemandTask → Run → Substep → Float → KilowattHours → Run
+runAfter x s u step delivered =
+    record {
+      zones = u .zones;
+      step = step;
+      running = s .running ⊕ s .step;
+      delivered = delivered;
+      electric = kwh (s .electric .0 ⊕ u .charged .0);
+      outlet = u .outlet;
+      reynold = reynoldBetween (x .feed) (u .outlet) (x .card .velocity) (x .pcm .diameter);
+    }
+
+abbrev pub demandTurn : Run → Next → DemandTurn
+demandTurn s next = record { run = s; next = next }
+
+-- 'negative delivery, demand met'
+unfoldable pub demandDelivered : DemandTask → Run → Substep → DemandTurn
+demandDelivered x s u =
+    let heat = kilowattHours (u .delivered) in
+    let delivered = kwh (s .delivered .0 ⊕ heat .0) in
+    let step = nextStep x heat delivered (s .step) in
+    cond (lt (u .delivered .0) Constants.zero)
+    (demandTurn (runAfter x s u (s .step) (s .delivered)) (Stop Negative))
+    (cond (demandMet x delivered)
+    (demandTurn (runAfter x s u step delivered) (Stop Met))
+    (demandTurn (runAfter x s u (cut x (s .running ⊕ s .step) step) delivered) On))
+
+unfoldable pub demandBy : DemandTask → Run → Substep → Fault → DemandTurn
+demandBy x s u Nothing = demandDelivered x s u
+demandBy x s u Logarithm = demandTurn s (Stop NoLogarithm)
+demandBy x s u NotFinite = demandTurn s (Stop NotFiniteRun)
+
+-- one substep
+unfoldable pub demandSubstep : DemandTask → Run → DemandTurn
+demandSubstep x s =
+    let u = processHeatBatteryZones (x .card) (x .pcm) (demandDrive x s) (s .zones) in
+    demandBy x s u (u .fault)
+
+abbrev pub demandEnd : Run → End → ℕ → DemandEnd
+demandEnd s e n = record { run = s; end = e; substeps = n }
+
+-- what follows a substep: it ends the run, or the run goes on from it
+abbrev pub demandThen : (Run → DemandEnd) → ℕ → Run → Next → DemandEnd
+demandThen go n s On = go s
+demandThen go n s (Stop e) = demandEnd s e n
+
+-- 'The substep loop ends at the first of: negative delivery, demand met, no positive step, a refusal; and the end hands out its count':
+-- the run from s with n substeps done and k left of the budget
+unfoldable pub demandRun : DemandTask → ℕ → ℕ → Run → DemandEnd
+demandRun x zero n s = cond (lt Constants.zero (s .step)) (demandEnd s OverBudget n) (demandEnd s NoStep n)
+demandRun x (suc k) n s =
+    cond (lt Constants.zero (s .step))
+    (demandThen (demandRun x k (n + 1)) (n + 1) (demandSubstep x s .run) (demandSubstep x s .next))
+    (demandEnd s NoStep n)
+
+-- what the run hands out
+unfoldable pub demandEnded : DemandEnd → Ended
+demandEnded e =
+    record {
+      zones = e .run .zones;
+      energy = e .run .delivered;
+      electric = e .run .electric;
+      outlet = e .run .outlet;
+      time = e .run .running;
+      end = e .end;
+      substeps = e .substeps;
+    }

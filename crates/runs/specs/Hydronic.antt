@@ -1,0 +1,121 @@
+-- Document 01, module 6: the substeps of `charge_battery_hydronic`, the fractional one included.
+use Prim.Native.Nat.{ℕ, zero, suc, _+_}
+use mathlib.Core.Bool.{Bool, true, cond, not, _&&_}
+use lib.Dec.{eqb}
+use lib.Ieee.{Float, lt, neg}
+use Rattle.floats.specs.F64.{_⊕_, _⊖_, _⊗_, _⊘_}
+use Rattle.floats.specs.Constants as Constants
+use Rattle.floats.specs.Constants.{tolerance, maxRelative, hour}
+use Rattle.floats.specs.Standins.{nearlyEqual, truncate}
+use Rattle.zone.specs.Heat.{kj, kilowattHours}
+use Rattle.zone.specs.declared.Kilojoules.{Kilojoules}
+use Rattle.zone.specs.declared.KilowattHours.{KilowattHours}
+use Rattle.zone.specs.declared.Mode.the-variants.{Normal}
+use Rattle.substep.specs.Substep.{processHeatBatteryZones}
+use Rattle.substep.specs.declared.Drive.{Drive}
+use Rattle.substep.specs.declared.Substep.{Substep}
+use Rattle.substep.specs.declared.Fault.{Fault}
+use Rattle.substep.specs.declared.Fault.the-variants.{Nothing, Logarithm, NotFinite}
+use Rattle.runs.specs.declared.HydronicTask.{HydronicTask}
+use Rattle.runs.specs.declared.HydronicRun.{HydronicRun}
+use Rattle.runs.specs.declared.HydronicTurn.{HydronicTurn}
+use Rattle.runs.specs.declared.Next.{Next}
+use Rattle.runs.specs.declared.Next.the-variants.{On, Stop}
+use Rattle.runs.specs.declared.HydronicEnd.{HydronicEnd}
+use Rattle.runs.specs.declared.Ended.{Ended}
+use Rattle.runs.specs.declared.End.{End}
+use Rattle.runs.specs.declared.End.the-variants.{Level, Limit, Time, OverBudget, NoLogarithm, NotFiniteRun}
+use Rattle.runs.specs.Runs.{reynoldBetween}
+
+-- a substep of the wet source
+unfoldable pub wetDrive : HydronicTask → Float → Float → Drive
+wetDrive x seconds reynold =
+    record { mode = Normal; inlet = x .wet .inlet; seconds = seconds; reynold = reynold; flow = x .wet .flow; power = Constants.zero; target = x .target; a = x .wet .a; b = x .wet .b }
+
+-- the outlet is clearly below the inlet
+unfoldable pub clearlyBelow : Float → Float → Bool
+clearlyBelow outlet inlet = lt outlet inlet && not (nearlyEqual outlet inlet tolerance maxRelative)
+
+-- the limit is reached
+unfoldable pub limitReached : Kilojoules → Kilojoules → Bool
+limitReached absorbed limit = cond (lt (limit .0) (absorbed .0)) true (nearlyEqual (absorbed .0) (limit .0) tolerance maxRelative)
+
+abbrev pub hydronicTurn : HydronicRun → Next → ℕ → HydronicTurn
+hydronicTurn s next n = record { run = s; next = next; substeps = n }
+
+-- behind the fractional substep u: its zones, and the limit as the energy
+unfoldable pub replayBy : HydronicTask → ℕ → HydronicRun → Float → Float → Substep → Fault → HydronicTurn
+replayBy x n s seconds reynold u Nothing =
+    hydronicTurn (record { zones = u .zones; absorbed = x .limit; reynold = reynold; time = s .time ⊕ seconds }) (Stop Limit) n
+replayBy x n s seconds reynold u Logarithm = hydronicTurn s (Stop NoLogarithm) n
+replayBy x n s seconds reynold u NotFinite = hydronicTurn s (Stop NotFiniteRun) n
+
+-- the fractional substep: from the zones before the whole one, with the Reynolds number after it; n substeps are done
+unfoldable pub replayed : HydronicTask → ℕ → HydronicRun → Float → Float → HydronicTurn
+replayed x n s seconds reynold =
+    let u = processHeatBatteryZones (x .card) (x .pcm) (wetDrive x seconds reynold) (s .zones) in
+    cond (eqb n (x .card .budget))
+    (hydronicTurn s (Stop OverBudget) n)
+    (replayBy x (n + 1) s seconds reynold u (u .fault))
+
+-- the fraction of the whole substep's heat that the limit allows, as seconds
+unfoldable pub fractionSeconds : HydronicTask → Kilojoules → Kilojoules → Float
+fractionSeconds x absorbed this = x .card .substep ⊗ ((x .limit .0 ⊖ (absorbed .0 ⊖ this .0)) ⊘ this .0)
+
+-- behind the whole substep u; n substeps are done
+unfoldable pub hydronicWhole : HydronicTask → ℕ → HydronicRun → Substep → HydronicTurn
+hydronicWhole x n s u =
+    let reynold = reynoldBetween (x .wet .inlet) (u .outlet) (x .wet .velocity) (x .wet .diameter) in
+    let this = kj (neg (u .delivered .0)) in
+    let absorbed = kj (s .absorbed .0 ⊕ this .0) in
+    let time = s .time ⊕ x .card .substep in
+    cond (clearlyBelow (u .outlet) (x .wet .inlet))
+    (cond (limitReached absorbed (x .limit))
+    (cond (lt Constants.zero (this .0))
+    (replayed x n s (fractionSeconds x absorbed this) reynold)
+    (hydronicTurn (record { zones = u .zones; absorbed = absorbed; reynold = reynold; time = time }) (Stop Limit) n))
+    (hydronicTurn (record { zones = u .zones; absorbed = absorbed; reynold = reynold; time = time }) On n))
+    (hydronicTurn (record { zones = u .zones; absorbed = s .absorbed; reynold = reynold; time = time }) (Stop Level) n)
+
+unfoldable pub hydronicBy : HydronicTask → ℕ → HydronicRun → Substep → Fault → HydronicTurn
+hydronicBy x n s u Nothing = hydronicWhole x n s u
+hydronicBy x n s u Logarithm = hydronicTurn s (Stop NoLogarithm) n
+hydronicBy x n s u NotFinite = hydronicTurn s (Stop NotFiniteRun) n
+
+-- one turn: a whole substep, and the fractional one where the limit calls for it
+unfoldable pub hydronicStep : HydronicTask → ℕ → HydronicRun → HydronicTurn
+hydronicStep x n s =
+    let u = processHeatBatteryZones (x .card) (x .pcm) (wetDrive x (x .card .substep) (s .reynold)) (s .zones) in
+    hydronicBy x (n + 1) s u (u .fault)
+
+abbrev pub hydronicEnd : HydronicRun → End → ℕ → HydronicEnd
+hydronicEnd s e n = record { run = s; end = e; substeps = n }
+
+abbrev pub hydronicThen : (ℕ → HydronicRun → HydronicEnd) → HydronicRun → Next → ℕ → HydronicEnd
+hydronicThen go s On n = go n s
+hydronicThen go s (Stop e) n = hydronicEnd s e n
+
+-- the run from s with n substeps done and k whole ones left
+unfoldable pub hydronicRun : HydronicTask → ℕ → ℕ → HydronicRun → HydronicEnd
+hydronicRun x zero n s = hydronicEnd s Time n
+hydronicRun x (suc k) n s =
+    cond (eqb n (x .card .budget))
+    (hydronicEnd s OverBudget n)
+    (hydronicThen (hydronicRun x k) (hydronicStep x n s .run) (hydronicStep x n s .next) (hydronicStep x n s .substeps))
+
+-- what the run hands out; the charged electric total stays
+unfoldable pub hydronicEnded : KilowattHours → HydronicEnd → Ended
+hydronicEnded electric e =
+    record {
+      zones = e .run .zones;
+      energy = kilowattHours (e .run .absorbed);
+      electric = electric;
+      outlet = Constants.zero;
+      time = e .run .time;
+      end = e .end;
+      substeps = e .substeps;
+    }
+
+-- whole substeps, truncated
+unfoldable pub wholeSubsteps : HydronicTask → ℕ
+wholeSubsteps x = truncate (x .wet .hours ⊗ hour ⊘ x .card .substep)

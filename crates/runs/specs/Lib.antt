@@ -1,0 +1,4 @@
+pub mod Runs
+pub mod Demand
+pub mod Hydronic
+pub mod Charge

@@ -1,0 +1,38 @@
+-- What the runs of substeps share: how they end, what they hand out, the Reynolds number between substeps, the time left.
+use Prim.Native.Nat.{ℕ}
+use lib.Ieee.{Float}
+use Rattle.floats.specs.F64.{_⊖_, _⊗_, _⊘_}
+use Rattle.floats.specs.Constants.{one}
+use Rattle.zone.specs.Water.{kinematicViscosity, reynoldNumber}
+use Rattle.substep.specs.declared.Fault.{Fault}
+use Rattle.substep.specs.declared.Fault.the-variants.{Nothing, Logarithm, NotFinite}
+use Rattle.battery.specs.declared.Battery.{Battery}
+use Rattle.runs.specs.declared.End.{End}
+use Rattle.runs.specs.declared.End.the-variants.{Done, Negative, Met, NoStep, Level, Limit, Time, OverBudget, NoLogarithm, NotFiniteRun}
+
+-- the end that a substep's fault makes
+unfoldable pub faultEnd : Fault → End
+faultEnd Nothing = Done
+faultEnd Logarithm = NoLogarithm
+faultEnd NotFinite = NotFiniteRun
+
+-- document 01's numbers, 0 for an end that answers
+unfoldable pub endRefusal : End → ℕ
+endRefusal Done = 0
+endRefusal Negative = 0
+endRefusal Met = 0
+endRefusal NoStep = 0
+endRefusal Level = 0
+endRefusal Limit = 0
+endRefusal Time = 0
+endRefusal OverBudget = 22
+endRefusal NotFiniteRun = 23
+endRefusal NoLogarithm = 24
+
+-- the Reynolds number of water between two temperatures
+unfoldable pub reynoldBetween : Float → Float → Float → Float → Float
+reynoldBetween inlet outlet velocity diameter = reynoldNumber (kinematicViscosity inlet outlet) velocity diameter
+
+-- `time_available`, in hours
+unfoldable pub timeAvailable : Battery → Float → Float
+timeAvailable b start = (b .card .timestep ⊖ b .total) ⊗ (one ⊖ start ⊘ b .card .timestep)

@@ -1,0 +1,249 @@
+// Document 01, module 6: the substeps of a hydronic charge.
+use crate::End;
+use crate::Ended;
+use crate::HydronicEnd;
+use crate::HydronicRun;
+use crate::HydronicTask;
+use crate::HydronicTurn;
+use crate::Next;
+use substep::Drive;
+use substep::Fault;
+use substep::Substep;
+use zone::Kilojoules;
+use zone::KilowattHours;
+use zone::Mode;
+ghost use mathlib.Core.Path.{_≡_};
+ghost use mathlib.Core.Bool.{not};
+ghost use Prim.Native.Nat.{_+_, _≤_, _<_};
+ghost use Rattle.runs.specs.Hydronic.{wetDrive, clearlyBelow, limitReached, replayBy, replayed as replayedOf, fractionSeconds, hydronicWhole, hydronicStep, hydronicRun, hydronicEnded, wholeSubsteps};
+
+fn wet_drive(x: HydronicTask, seconds: f64, reynold: f64) -> Drive
+    ensures { λ r. ⌜ r ≡ wetDrive x seconds reynold ⌝ }
+{
+    let wet = x.wet;
+    Drive {
+        mode: Mode::Normal,
+        inlet: wet.inlet,
+        seconds,
+        reynold,
+        flow: wet.flow,
+        power: 0.0,
+        target: x.target,
+        a: wet.a,
+        b: wet.b,
+    }
+}
+
+// Below, and not nearly equal.
+fn clearly_below(outlet: f64, inlet: f64) -> bool
+    ensures { λ r. ⌜ r ≡ clearlyBelow outlet inlet ⌝ }
+{
+    let near = floats::nearly_equal(outlet, inlet, floats::TOLERANCE, floats::MAX_RELATIVE);
+    floats::both(outlet < inlet, !near)
+}
+
+fn limit_reached(absorbed: Kilojoules, limit: Kilojoules) -> bool
+    ensures { λ r. ⌜ r ≡ limitReached absorbed limit ⌝ }
+{
+    if absorbed.0 > limit.0 {
+        return true;
+    }
+    floats::nearly_equal(absorbed.0, limit.0, floats::TOLERANCE, floats::MAX_RELATIVE)
+}
+
+// What the fractional substep u leaves.
+fn replay_by(
+    x: HydronicTask,
+    n: u32,
+    s: HydronicRun,
+    seconds: f64,
+    reynold: f64,
+    u: Substep,
+    fault: Fault,
+) -> HydronicTurn
+    ensures { λ r. ⌜ r ≡ replayBy x n s seconds reynold u fault ⌝ }
+{
+    match fault {
+        Fault::Nothing => {
+            let zones = u.zones;
+            let absorbed = x.limit;
+            let run = HydronicRun {
+                zones,
+                absorbed,
+                reynold,
+                time: s.time + seconds,
+            };
+            HydronicTurn {
+                run,
+                next: Next::Stop(End::Limit),
+                substeps: n,
+            }
+        }
+        Fault::Logarithm => HydronicTurn {
+            run: s,
+            next: Next::Stop(End::NoLogarithm),
+            substeps: n,
+        },
+        Fault::NotFinite => HydronicTurn {
+            run: s,
+            next: Next::Stop(End::NotFiniteRun),
+            substeps: n,
+        },
+    }
+}
+
+// The fractional substep, from the zones before the whole one and with the Reynolds number behind it.
+fn replayed(x: HydronicTask, n: u32, s: HydronicRun, seconds: f64, reynold: f64) -> HydronicTurn
+    requires { ⌜ (x .card .layers ≤ 64) × (n ≤ 65535) ⌝ }
+    ensures { λ r. ⌜ r ≡ replayedOf x n s seconds reynold ⌝ }
+{
+    let card = x.card;
+    if n == card.budget as u32 {
+        return HydronicTurn {
+            run: s,
+            next: Next::Stop(End::OverBudget),
+            substeps: n,
+        };
+    }
+    let drive = wet_drive(x, seconds, reynold);
+    let pcm = x.pcm;
+    let zones = s.zones;
+    let u = substep::process_heat_battery_zones(card, pcm, drive, zones);
+    let fault = u.fault;
+    replay_by(x, n + 1, s, seconds, reynold, u, fault)
+}
+
+fn fraction_seconds(x: HydronicTask, absorbed: Kilojoules, this: Kilojoules) -> f64
+    ensures { λ r. ⌜ r ≡ fractionSeconds x absorbed this ⌝ }
+{
+    let allowed = x.limit.0 - (absorbed.0 - this.0);
+    x.card.substep * (allowed / this.0)
+}
+
+// What the whole substep u leads to.
+fn hydronic_whole(x: HydronicTask, n: u32, s: HydronicRun, u: Substep) -> HydronicTurn
+    requires { ⌜ (x .card .layers ≤ 64) × (n ≤ 65535) ⌝ }
+    ensures { λ r. ⌜ r ≡ hydronicWhole x n s u ⌝ }
+{
+    let wet = x.wet;
+    let limit = x.limit;
+    let zones = u.zones;
+    let reynold = crate::reynold_between(wet.inlet, u.outlet, wet.velocity, wet.diameter);
+    let this = Kilojoules(-u.delivered.0);
+    let absorbed = Kilojoules(s.absorbed.0 + this.0);
+    let time = s.time + x.card.substep;
+    if clearly_below(u.outlet, wet.inlet) {
+        let run = HydronicRun {
+            zones,
+            absorbed,
+            reynold,
+            time,
+        };
+        if limit_reached(absorbed, limit) {
+            if this.0 > 0.0 {
+                let seconds = fraction_seconds(x, absorbed, this);
+                return replayed(x, n, s, seconds, reynold);
+            }
+            return HydronicTurn {
+                run,
+                next: Next::Stop(End::Limit),
+                substeps: n,
+            };
+        }
+        return HydronicTurn {
+            run,
+            next: Next::On,
+            substeps: n,
+        };
+    }
+    let before = s.absorbed;
+    let run = HydronicRun {
+        zones,
+        absorbed: before,
+        reynold,
+        time,
+    };
+    HydronicTurn {
+        run,
+        next: Next::Stop(End::Level),
+        substeps: n,
+    }
+}
+
+// One turn behind n substeps.
+fn hydronic_step(x: HydronicTask, n: u32, s: HydronicRun) -> HydronicTurn
+    requires { ⌜ (x .card .layers ≤ 64) × (n < 65535) ⌝ }
+    ensures { λ r. ⌜ r ≡ hydronicStep x n s ⌝ }
+{
+    let card = x.card;
+    let drive = wet_drive(x, card.substep, s.reynold);
+    let pcm = x.pcm;
+    let zones = s.zones;
+    let u = substep::process_heat_battery_zones(card, pcm, drive, zones);
+    let fault = u.fault;
+    match fault {
+        Fault::Nothing => hydronic_whole(x, n + 1, s, u),
+        Fault::Logarithm => HydronicTurn {
+            run: s,
+            next: Next::Stop(End::NoLogarithm),
+            substeps: n + 1,
+        },
+        Fault::NotFinite => HydronicTurn {
+            run: s,
+            next: Next::Stop(End::NotFiniteRun),
+            substeps: n + 1,
+        },
+    }
+}
+
+pub fn whole_substeps(x: HydronicTask) -> u64
+    ensures { λ r. ⌜ r ≡ wholeSubsteps x ⌝ }
+{
+    floats::truncate(x.wet.hours * floats::SECONDS_PER_HOUR / x.card.substep)
+}
+
+// At most `steps` whole substeps from `start` on.
+pub fn hydronic_run(x: HydronicTask, steps: u64, start: HydronicRun) -> HydronicEnd
+    requires { ⌜ x .card .layers ≤ 64 ⌝ }
+    ensures { λ r. ⌜ r ≡ hydronicRun x steps 0 start ⌝ }
+{
+    let card = x.card;
+    let budget = card.budget as u32;
+    let mut run = start;
+    let mut substeps: u32 = 0;
+    let end = loop {
+        if substeps as u64 == steps {
+            break End::Time;
+        }
+        if substeps == budget {
+            break End::OverBudget;
+        }
+        let turn = hydronic_step(x, substeps, run);
+        substeps = turn.substeps;
+        run = turn.run;
+        let next = turn.next;
+        if let Next::Stop(e) = next {
+            break e;
+        }
+    };
+    HydronicEnd { run, end, substeps }
+}
+
+pub fn hydronic_ended(electric: KilowattHours, e: HydronicEnd) -> Ended
+    ensures { λ r. ⌜ r ≡ hydronicEnded electric e ⌝ }
+{
+    let run = e.run;
+    let zones = run.zones;
+    let absorbed = run.absorbed;
+    let energy = absorbed.kilowatt_hours();
+    let end = e.end;
+    Ended {
+        zones,
+        energy,
+        electric,
+        outlet: 0.0,
+        time: run.time,
+        end,
+        substeps: e.substeps,
+    }
+}

@@ -1,0 +1,176 @@
+// The runs of substeps: document 01, module 6, and the substeps of module 7.
+pub mod charge;
+pub mod demand;
+pub mod hydronic;
+
+use card::Card;
+use card::HeatBatteryPcm;
+use zone::Kilojoules;
+use zone::KilowattHours;
+ghost use mathlib.Core.Path.{_≡_};
+ghost use Rattle.runs.specs.Runs.{faultEnd, endRefusal, reynoldBetween, timeAvailable};
+
+// How a run of substeps ends. The last three are refusals 22, 24 and 23.
+pub enum End {
+    Done,
+    // demand: negative delivery, demand met, no positive step
+    Negative,
+    Met,
+    NoStep,
+    // hydronic: the outlet is not clearly below the inlet, the limit is reached, the time is used
+    Level,
+    Limit,
+    Time,
+    OverBudget,
+    NoLogarithm,
+    NotFiniteRun,
+}
+
+// What follows a substep.
+pub enum Next {
+    On,
+    Stop(End),
+}
+
+// What a run hands out.
+pub struct Ended {
+    pub zones: [f64; 64],
+    pub energy: KilowattHours,
+    // the charged electric total behind the run
+    pub electric: KilowattHours,
+    pub outlet: f64,
+    // seconds
+    pub time: f64,
+    pub end: End,
+    pub substeps: u32,
+}
+
+// What a demand asks: fixed over its substeps.
+pub struct DemandTask {
+    pub card: Card,
+    pub pcm: HeatBatteryPcm,
+    // °C of the return
+    pub feed: f64,
+    // kW of the charger
+    pub power: f64,
+    // of one unit
+    pub demand: KilowattHours,
+    // time available
+    pub seconds: f64,
+}
+
+// What a demand's substeps change.
+pub struct Run {
+    pub zones: [f64; 64],
+    // seconds of the next substep
+    pub step: f64,
+    pub running: f64,
+    pub delivered: KilowattHours,
+    pub electric: KilowattHours,
+    pub outlet: f64,
+    pub reynold: f64,
+}
+
+pub struct DemandTurn {
+    pub run: Run,
+    pub next: Next,
+}
+
+pub struct DemandEnd {
+    pub run: Run,
+    pub end: End,
+    pub substeps: u16,
+}
+
+// A wet source's figures.
+pub struct Exchanger {
+    pub inlet: f64,
+    pub hours: f64,
+    // l/min
+    pub flow: f64,
+    // kWh
+    pub limit: f64,
+    pub a: f64,
+    pub b: f64,
+    pub velocity: f64,
+    // metres
+    pub diameter: f64,
+}
+
+pub enum Source {
+    // rated power in kW
+    Electric(f64),
+    Wet(Exchanger),
+}
+
+pub struct HydronicTask {
+    pub card: Card,
+    pub pcm: HeatBatteryPcm,
+    pub wet: Exchanger,
+    pub target: f64,
+    pub limit: Kilojoules,
+}
+
+// What the substeps of a hydronic charge change.
+pub struct HydronicRun {
+    pub zones: [f64; 64],
+    pub absorbed: Kilojoules,
+    pub reynold: f64,
+    // seconds
+    pub time: f64,
+}
+
+pub struct HydronicTurn {
+    pub run: HydronicRun,
+    pub next: Next,
+    pub substeps: u32,
+}
+
+pub struct HydronicEnd {
+    pub run: HydronicRun,
+    pub end: End,
+    pub substeps: u32,
+}
+
+pub fn fault_end(fault: substep::Fault) -> End
+    ensures { λ r. ⌜ r ≡ faultEnd fault ⌝ }
+{
+    match fault {
+        substep::Fault::Nothing => End::Done,
+        substep::Fault::Logarithm => End::NoLogarithm,
+        substep::Fault::NotFinite => End::NotFiniteRun,
+    }
+}
+
+// Document 01's number, 0 for an end that answers.
+pub fn end_refusal(end: End) -> u8
+    ensures { λ r. ⌜ r ≡ endRefusal end ⌝ }
+{
+    match end {
+        End::Done => 0,
+        End::Negative => 0,
+        End::Met => 0,
+        End::NoStep => 0,
+        End::Level => 0,
+        End::Limit => 0,
+        End::Time => 0,
+        End::OverBudget => 22,
+        End::NotFiniteRun => 23,
+        End::NoLogarithm => 24,
+    }
+}
+
+pub fn reynold_between(inlet: f64, outlet: f64, velocity: f64, diameter: f64) -> f64
+    ensures { λ r. ⌜ r ≡ reynoldBetween inlet outlet velocity diameter ⌝ }
+{
+    let viscosity = zone::water::calculate_water_kinematic_viscosity_m2_per_s(inlet, outlet);
+    zone::water::calculate_reynold_number_at_1_l_per_min(viscosity, velocity, diameter)
+}
+
+// Hours.
+pub fn time_available(b: battery::Battery, start: f64) -> f64
+    ensures { λ r. ⌜ r ≡ timeAvailable b start ⌝ }
+{
+    let timestep = b.card.timestep;
+    (timestep - b.total) * (1.0 - start / timestep)
+}

@@ -1,0 +1,165 @@
+/* Replays the oracle's cases on the library: `replay FILE`. Every result and every lent byte is compared,
+ * and each call is made on the caller's own record too. Ends with 0 where all agree. */
+#include "heat_battery.h"
+#include <stdint.h>
+#include <stdio.h>
+#include <stdlib.h>
+#include <string.h>
+
+enum { OPEN = 1, CALL = 2, AUDIT = 3, GUARD = 64 };
+
+struct slice {
+    uint8_t *bytes; /* with guards on both sides */
+    size_t length;
+};
+
+static FILE *file;
+
+static void ended(const char *why) {
+    fprintf(stderr, "%s\n", why);
+    exit(2);
+}
+
+static void read_bytes(void *to, size_t length) {
+    if (length > 0 && fread(to, 1, length, file) != length)
+        ended("the file is cut short");
+}
+
+static uint64_t read_number(int width) {
+    uint8_t bytes[8];
+    uint64_t number = 0;
+    read_bytes(bytes, (size_t)width);
+    for (int i = 0; i < width; i++)
+        number = number << 8 | bytes[i];
+    return number;
+}
+
+static struct slice read_slice(void) {
+    struct slice s;
+    s.length = (size_t)read_number(4);
+    uint8_t *memory = malloc(s.length + 2 * GUARD);
+    if (memory == NULL)
+        ended("no memory");
+    memset(memory, 0xa5, s.length + 2 * GUARD);
+    s.bytes = memory + GUARD;
+    read_bytes(s.bytes, s.length);
+    return s;
+}
+
+static int guarded(struct slice s) {
+    for (int i = 0; i < GUARD; i++)
+        if (s.bytes[-1 - i] != 0xa5 || s.bytes[s.length + (size_t)i] != 0xa5)
+            return 0;
+    return 1;
+}
+
+/* Whether the file's next bytes are the slice's. */
+static int as_expected(struct slice s) {
+    uint8_t *expected = malloc(s.length + 1);
+    if (expected == NULL)
+        ended("no memory");
+    read_bytes(expected, s.length);
+    int same = memcmp(expected, s.bytes, s.length) == 0 && guarded(s);
+    free(expected);
+    return same;
+}
+
+static void drop(struct slice s) { free(s.bytes - GUARD); }
+
+/* ---- the caller's own record */
+
+static double number_at(const uint8_t *bytes) {
+    uint64_t bits = 0;
+    double number;
+    for (int i = 0; i < 8; i++)
+        bits = bits << 8 | bytes[i];
+    memcpy(&number, &bits, 8);
+    return number;
+}
+
+static void battery_from(struct heat_battery *b, const uint8_t *record) {
+    double *card = &b->card.substep, *totals = &b->total;
+    memset(b, 0, sizeof *b);
+    b->card.layers = record[0];
+    b->card.units = (uint16_t)(record[1] << 8 | record[2]);
+    b->card.simultaneous = record[3];
+    b->card.budget = (uint16_t)(record[4] << 8 | record[5]);
+    b->count = record[0];
+    for (int i = 0; i < 19; i++)
+        card[i] = number_at(record + 6 + 8 * i);
+    for (int i = 0; i < b->count; i++)
+        b->zones[i] = number_at(record + HEAT_BATTERY_CARD_LENGTH + 8 * i);
+    for (int i = 0; i < 5; i++)
+        totals[i] = number_at(record + HEAT_BATTERY_CARD_LENGTH + 8 * b->count + 8 * i);
+}
+
+static int is_record(const uint8_t *record, size_t length) {
+    return length >= HEAT_BATTERY_CARD_LENGTH && record[0] <= 64
+        && length == HEAT_BATTERY_RECORD_LENGTH((size_t)record[0]);
+}
+
+/* The own record gives the byte entry's refusal and battery; it knows no 11, and no record of another length. */
+static int own_record_agrees(const uint8_t *before, size_t length, struct slice call, uint8_t result, struct slice after) {
+    struct heat_battery b, expected;
+    if (result == 11 || !is_record(before, length))
+        return 1;
+    battery_from(&b, before);
+    battery_from(&expected, after.bytes);
+    b.zones[63] = expected.zones[63] = b.count < 64 ? 7.0 : b.zones[63];
+    if (b.count == 64)
+        expected.zones[63] = number_at(after.bytes + HEAT_BATTERY_CARD_LENGTH + 8 * 63);
+    struct heat_battery_shown shown = heat_battery_advance(&b, call.bytes, call.length);
+    return shown.refusal == result && memcmp(&b, &expected, sizeof b) == 0;
+}
+
+/* ---- cases */
+
+static int replay_open(void) {
+    struct slice card = read_slice(), record = read_slice(), sheet = read_slice();
+    uint8_t result = heat_battery_open(card.bytes, card.length, record.bytes, record.length, sheet.bytes, sheet.length);
+    int same = result == read_number(8);
+    same &= as_expected(record);
+    same &= as_expected(sheet);
+    same &= guarded(card);
+    drop(card), drop(record), drop(sheet);
+    return same;
+}
+
+static int replay_call(void) {
+    struct slice record = read_slice(), call = read_slice(), sheet = read_slice();
+    uint8_t *before = malloc(record.length + 1);
+    if (before == NULL)
+        ended("no memory");
+    memcpy(before, record.bytes, record.length);
+    uint8_t result = heat_battery_call(record.bytes, record.length, call.bytes, call.length, sheet.bytes, sheet.length);
+    int same = result == read_number(8);
+    same &= as_expected(record);
+    same &= as_expected(sheet);
+    same &= guarded(call);
+    same &= own_record_agrees(before, record.length, call, result, record);
+    free(before);
+    drop(record), drop(call), drop(sheet);
+    return same;
+}
+
+static int replay_audit(void) {
+    struct slice sheet = read_slice();
+    uint64_t result = heat_battery_audit(sheet.bytes, sheet.length);
+    int same = result == read_number(8) && guarded(sheet);
+    drop(sheet);
+    return same;
+}
+
+int main(int argc, char **argv) {
+    unsigned long cases = 0, wrong = 0;
+    if (argc != 2 || (file = fopen(argv[1], "rb")) == NULL)
+        ended("usage: replay FILE");
+    for (int entry = getc(file); entry != EOF; entry = getc(file)) {
+        int same = entry == OPEN ? replay_open() : entry == CALL ? replay_call() : entry == AUDIT ? replay_audit() : 0;
+        cases++;
+        if (!same && wrong++ < 20)
+            printf("case %lu disagrees (entry %d)\n", cases, entry);
+    }
+    printf("%lu cases, %lu disagree\n", cases, wrong);
+    return wrong == 0 ? 0 : 1;
+}
