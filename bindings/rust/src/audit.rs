@@ -111,10 +111,9 @@ fn first_trouble(sheet: &[u8]) -> Result<Option<Disagreement>, Damage> {
         Battery::open(&card).map_err(|refusal| refused(refusal, 0, Refusal::CardLine))?;
     for line in lines {
         let Line { index, call, answer } = line?;
-        let given = battery
-            .line(index, &call)
-            .map_err(|refusal| refused(refusal, index, Refusal::CallLine))?;
-        let fields = differences(&answer, &given.answer);
+        let given =
+            battery.answer(&call).map_err(|refusal| refused(refusal, index, Refusal::CallLine))?;
+        let fields = differences(&answer, &given);
         if !fields.is_empty() {
             return Ok(Some((index, call, fields)));
         }

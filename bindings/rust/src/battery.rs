@@ -1,7 +1,7 @@
 //! A battery: its card, zones and totals.
 
 use crate::answer::{
-    read_totals, read_zones, state_bytes, write_state, Answer, Line, Totals, Zones, HEAD_BYTES,
+    read_totals, read_zones, state_bytes, write_state, Answer, Totals, Zones, HEAD_BYTES,
     MOST_LAYERS,
 };
 use crate::bytes::{Buffer, Cursor};
@@ -48,7 +48,7 @@ pub(crate) fn line_bytes(call: &[u8], layers: u8) -> usize {
 /// assert_eq!(battery.zones(), before);
 /// # Ok::<(), Refusal>(())
 /// ```
-#[derive(Clone, Copy)]
+#[derive(Clone)]
 pub struct Battery {
     card: Card,
     /// Card, zones and totals as the entries take them.
@@ -110,10 +110,8 @@ impl Battery {
 
     /// The battery where the engine takes it. A state of charge is asked, which changes nothing.
     fn tested(self) -> Result<Battery, Refusal> {
-        match self.clone().line(1, &Call::StateOfCharge) {
-            Err(refusal) => Err(refusal),
-            Ok(_) => Ok(self),
-        }
+        self.clone().answer(&Call::StateOfCharge)?;
+        Ok(self)
     }
 
     /// Card, zones and totals as the C entries take them.
@@ -143,14 +141,13 @@ impl Battery {
 
     /// Makes a call, with no sheet. Refusals 10 and 20 to 25; the battery is then as it was.
     pub fn call(&mut self, call: &Call) -> Result<Answer, Refusal> {
-        self.line(1, call)?.answer.result()
+        self.answer(call)?.result()
     }
 
-    /// Makes a call and gives its line, number `index`: one of 20 to 25 is a line too, only 10
-    /// is an error.
-    pub fn line(&mut self, index: u64, call: &Call) -> Result<Line, Refusal> {
-        let answer = self.answer_on(call, &mut [0; MOST_LINE])?;
-        Ok(Line { index, call: *call, answer })
+    /// Makes a call, with no sheet, as its line would show it: one of 20 to 25 is an answer
+    /// with its refusal, only 10 is an error.
+    pub fn answer(&mut self, call: &Call) -> Result<Answer, Refusal> {
+        self.answer_on(call, &mut [0; MOST_LINE])
     }
 
     /// Makes a call with its line at the front of a sheet. Refusals 10 and 11; one of 20 to 25

@@ -22,7 +22,7 @@ pub struct Card {
     pub layers: u8,
     /// Equal units side by side: 1 to 1000.
     pub units: u16,
-    /// Whether a demand charges the battery meanwhile.
+    /// Whether the charger works during a demand.
     pub simultaneous: bool,
     /// Substeps that one call may take: 1 to 65535.
     pub budget: u16,
@@ -92,10 +92,10 @@ impl Card {
     pub const FIELDS: [Field; 23] = [
         Field::new("layers", "", Shape::Byte, (1.0, 64.0), "layers of one unit"),
         Field::new("units", "", Shape::Short, (1.0, 1000.0), "equal units side by side"),
-        Field::new("simultaneous", "", Shape::Flag, FLAG, "a demand charges meanwhile"),
+        Field::new("simultaneous", "", Shape::Flag, FLAG, "the charger works during a demand"),
         Field::new("budget", "", Shape::Short, (1.0, 65535.0), "substeps of one call"),
         number("substep", "s", (0.1, 3600.0), "longest substep"),
-        number("timestep", "h", (0.01, 24.0), "timestep"),
+        number("timestep", "h", (0.01, 24.0), "one timestep"),
         number("initial_inlet", "°C", CELSIUS, "water in, first guess"),
         number("estimated_outlet", "°C", CELSIUS, "water out, first guess"),
         number("max", "°C", CELSIUS, "full battery"),

@@ -14,9 +14,9 @@
 //!
 //! Every [`Refusal`] is an error: `call` gives `Result<Answer, Refusal>`, so that no figure of
 //! a refused call can be taken for an answer. A refused call leaves the battery as it was. On
-//! a sheet, 20 to 25 stand as a line of their own, as document 01 has it: `line` in the place
-//! of `call` gives the [`Line`], whose answer has the refusal in it. Nothing here panics,
-//! whatever the numbers or bytes.
+//! a sheet, 20 to 25 stand as a line of their own, as document 01 has it: `answer` in the place
+//! of `call` gives what that line shows, an [`Answer`] with the refusal in it. Nothing here
+//! panics, whatever the numbers or bytes.
 //!
 //! # A bath
 //!
@@ -67,3 +67,8 @@ pub use field::{Fault, Field, ServiceType, Shape, Value};
 pub use reading::{read, Damage, Lines, VERSION};
 pub use refusal::Refusal;
 pub use sheet::Sheet;
+
+/// The examples of README.md are tests.
+#[cfg(doctest)]
+#[doc = include_str!("../README.md")]
+struct Readme;

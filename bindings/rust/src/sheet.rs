@@ -46,26 +46,22 @@ impl Sheet {
     /// Makes a call. 10 and 11 leave battery and sheet as they were; 20 to 25 leave the
     /// battery as it was and stand on the sheet as a line; all are errors.
     pub fn call(&mut self, call: &Call) -> Result<Answer, Refusal> {
-        self.line(call)?.answer.result()
+        self.answer(call)?.result()
     }
 
-    /// Makes a call and gives its line: one of 20 to 25 is a line too, only 10 and 11 are
-    /// errors.
-    pub fn line(&mut self, call: &Call) -> Result<Line, Refusal> {
+    /// Makes a call and gives what its line shows: one of 20 to 25 is an answer with its
+    /// refusal, only 10 and 11 are errors.
+    pub fn answer(&mut self, call: &Call) -> Result<Answer, Refusal> {
         let used = self.bytes.len();
         let needed = line_bytes(&call.buffer(), self.battery.card().layers);
         self.bytes.resize(used + needed.min(self.most - used), 0);
         let free = self.bytes.get_mut(used..).unwrap_or_default();
-        match self.battery.answer_on(call, free) {
-            Ok(answer) => {
-                self.lines += 1;
-                Ok(Line { index: self.lines, call: *call, answer })
-            }
-            Err(refusal) => {
-                self.bytes.truncate(used);
-                Err(refusal)
-            }
+        let answer = self.battery.answer_on(call, free);
+        match answer {
+            Ok(_) => self.lines += 1,
+            Err(_) => self.bytes.truncate(used),
         }
+        answer
     }
 
     /// The battery as the last call left it.

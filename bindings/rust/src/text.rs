@@ -64,47 +64,74 @@ fn bare_lines(text: &str) -> impl Iterator<Item = (usize, &str)> {
     bare.enumerate().map(|(at, line)| (at + 1, line)).filter(|(_, line)| !line.is_empty())
 }
 
+/// A field's place in a form.
+#[derive(Clone, Copy, PartialEq)]
+enum Place {
+    Empty,
+    /// Something stood there that is no value.
+    Slip,
+    Filled(Value),
+}
+
 /// Fields that are filled one by one, by name.
-struct Form<'a>(Vec<(&'a Field, Option<Value>)>);
+struct Form<'a>(Vec<(&'a Field, Place)>);
+
+/// Longer lists of names are left out of messages.
+const MOST_NAMES: usize = 9;
 
 impl<'a> Form<'a> {
     fn new(fields: &'a [Field]) -> Form<'a> {
-        Form(fields.iter().map(|field| (field, None)).collect())
+        Form(fields.iter().map(|field| (field, Place::Empty)).collect())
     }
 
     fn fill(&mut self, name: &str, text: &str) -> Result<(), String> {
-        match self.0.iter_mut().find(|(field, _)| field.name == name) {
-            Some((_, Some(_))) => Err(format!("{name} stands twice")),
-            Some((field, place)) => {
-                *place = Some(field.parse(text)?);
-                Ok(())
-            }
-            None => Err(self.unknown(name)),
+        let found = self.0.iter_mut().find(|(field, _)| field.name == name);
+        let Some((field, place)) = found else { return Err(self.unknown(name)) };
+        if *place != Place::Empty {
+            return Err(format!("{name} stands twice"));
         }
+        *place = Place::Slip;
+        *place = Place::Filled(field.parse(text)?);
+        Ok(())
     }
 
     fn unknown(&self, name: &str) -> String {
         let names: Vec<&str> = self.0.iter().map(|(field, _)| field.name).collect();
-        match names.is_empty() {
-            true => format!("{} is no field: none is expected", quoted(name)),
-            false => format!("{} is no field; the fields are {}", quoted(name), names.join(", ")),
-        }
+        let more = match names.len() {
+            0 => ": none is expected".into(),
+            1..=MOST_NAMES => format!("; the fields are {}", names.join(", ")),
+            _ => String::new(),
+        };
+        format!("{} is no field{more}", quoted(name))
     }
 
-    /// All values, or words that name what is missing.
-    fn values(&self) -> Result<Vec<Value>, String> {
-        let missing = self.0.iter().filter(|(_, value)| value.is_none());
-        let missing: Vec<String> =
-            missing.map(|(field, _)| format!("{} ({})", field.name, field.range())).collect();
-        match missing.is_empty() {
-            true => Ok(self.0.iter().filter_map(|(_, value)| *value).collect()),
-            false => Err(format!("missing: {}", missing.join(", "))),
-        }
+    /// What is missing, in words; None where every field has stood.
+    fn missing(&self) -> Option<String> {
+        let empty = self.0.iter().filter(|(_, place)| *place == Place::Empty);
+        let names: Vec<String> =
+            empty.map(|(field, _)| format!("{} ({})", field.name, field.range())).collect();
+        (!names.is_empty()).then(|| format!("missing: {}", names.join(", ")))
+    }
+
+    fn filled(&self) -> impl Iterator<Item = (&Field, Value)> {
+        self.0.iter().filter_map(|(field, place)| match place {
+            Place::Filled(value) => Some((*field, *value)),
+            Place::Empty | Place::Slip => None,
+        })
+    }
+
+    /// What is out of range, in words.
+    fn faults(&self) -> impl Iterator<Item = String> + '_ {
+        self.filled().filter_map(|(field, value)| field.fault(&value))
+    }
+
+    fn values(&self) -> Vec<Value> {
+        self.filled().map(|(_, value)| value).collect()
     }
 }
 
 /// The most slips that are gathered.
-const MOST_SLIPS: usize = 50;
+const MOST_SLIPS: usize = 20;
 
 impl FromStr for Card {
     type Err = Slips;
@@ -123,17 +150,11 @@ impl FromStr for Card {
                 return Err(Slips(slips));
             }
         }
-        let whole = form
-            .values()
-            .and_then(|values| Card::from_values(&values).ok_or_else(|| "no card".to_string()));
-        match whole {
-            Ok(card) if slips.is_empty() => Ok(card),
-            Ok(_) => Err(Slips(slips)),
-            Err(words) => {
-                slips.push(Slip { line: None, words });
-                Err(Slips(slips))
-            }
+        slips.extend(form.missing().map(|words| Slip { line: None, words }));
+        if !slips.is_empty() {
+            slips.extend(form.faults().map(|words| Slip { line: None, words }));
         }
+        Card::from_values(&form.values()).filter(|_| slips.is_empty()).ok_or(Slips(slips))
     }
 }
 
@@ -141,6 +162,7 @@ impl FromStr for Card {
 impl fmt::Display for Card {
     fn fmt(&self, f: &mut fmt::Formatter<'_>) -> fmt::Result {
         writeln!(f, "# A heat battery's card: one name = value on each line.")?;
+        writeln!(f, "# lower is not above upper; max is above 20 °C and above reference.")?;
         for (field, value) in Card::FIELDS.iter().zip(self.values()) {
             let setting = format!("{} = {value}", field.name);
             writeln!(f, "{setting:<27} # {}: {}", field.about, field.range())?;
@@ -190,8 +212,10 @@ fn call(line: &str) -> Result<Call, String> {
             split.ok_or_else(|| format!("{} is no name=value (without blanks)", quoted(word)))?;
         form.fill(name, value)?;
     }
-    let none = "no call".to_string();
-    form.values().and_then(|values| Call::from_values(kind, &values).ok_or(none))
+    match form.missing() {
+        Some(words) => Err(words),
+        None => Call::from_values(kind, &form.values()).ok_or_else(|| "no call".into()),
+    }
 }
 
 /// A call and the line of the text that it stands on.

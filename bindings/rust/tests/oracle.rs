@@ -7,21 +7,25 @@ use heat_battery::{audit, explain, Battery, Call, Card, Explanation, Refusal, Sh
 use oracle::random::Random;
 use oracle::{auditor, damage, generate, model, plain, raw, sheet, sheets};
 
-const LISTS: u64 = 10_000;
+/// 10,000, or as many as the variable HEAT_BATTERY_LISTS says.
+fn lists() -> u64 {
+    let set = std::env::var("HEAT_BATTERY_LISTS").ok();
+    set.map_or(10_000, |count| count.parse().expect("HEAT_BATTERY_LISTS is a number"))
+}
 
 /// Lists from fresh batteries and from ones handed in: every answer, zone and total.
 #[test]
 fn answers_are_the_oracles() {
     let mut random = Random::new(1);
-    for _ in 0..LISTS {
+    for _ in 0..lists() {
         let drawn = generate::card(&mut random);
         let mut theirs = generate::battery(&mut random, &drawn);
         let mut ours = battery(&theirs);
-        for index in 1..=generate::list_length(&mut random) {
+        for _ in 0..generate::list_length(&mut random) {
             let next = generate::next_call(&mut random, &theirs);
             let (answer, after) = plain::step(&theirs, &next);
-            let line = ours.line(index, &call(&next)).expect("a call in range has a line");
-            assert_same(&line.answer, &answer, &next);
+            let given = ours.answer(&call(&next)).expect("a call in range has a line");
+            assert_same(&given, &answer, &next);
             assert_eq!(ours.as_bytes(), sheet::battery_bytes(&after));
             theirs = after;
         }
@@ -32,7 +36,7 @@ fn answers_are_the_oracles() {
 #[test]
 fn sheets_are_the_oracles() {
     let mut random = Random::new(2);
-    for _ in 0..LISTS / 5 {
+    for _ in 0..lists() / 5 {
         let drawn = generate::card(&mut random);
         let mut theirs = model::Battery::fresh(&drawn);
         let mut ours = Sheet::open(&card(&drawn)).expect("an accepted card");
@@ -88,7 +92,7 @@ fn calls_are_refused_and_explained() {
         let explained = read.map_or(true, |call| !call.faults(ours.card()).is_empty());
         assert_eq!(explained, expected, "{:?}", input.call);
         let Ok(read) = read else { continue };
-        let before = ours;
+        let before = ours.clone();
         match ours.call(&read) {
             Err(Refusal::CallField) => refused += 1,
             other => {
@@ -157,6 +161,8 @@ fn a_sheet_without_room_refuses() {
     let mut ours = Sheet::open_within(&drawn, 161 + 81 + 80).expect("room to open");
     assert!(ours.call(&Call::StandingLoss).is_ok());
     let before = ours.clone();
+    let bad = Call::Electric { power: -1.0, target: 1.0 };
+    assert_eq!(ours.call(&bad), Err(Refusal::CallField), "10 before 11");
     assert_eq!(ours.call(&Call::CloseTimestep), Err(Refusal::NoRoom));
     assert_eq!(ours.as_bytes(), before.as_bytes());
     assert_eq!(ours.battery().as_bytes(), before.battery().as_bytes());

@@ -13,7 +13,7 @@ fn listed(list: &str) -> Vec<Call> {
 fn run(card: &Card, calls: &[Call]) -> Vec<u8> {
     let mut sheet = Sheet::open(card).expect("an accepted card");
     for call in calls {
-        sheet.line(call).expect("a call in range has a line");
+        sheet.answer(call).expect("a call in range has a line");
     }
     sheet.into_bytes()
 }
@@ -101,15 +101,19 @@ fn slips_in_cards_are_named() {
         let slips = template.replace(from, to).parse::<Card>().expect_err("a slip").to_string();
         assert!(slips.contains(words), "{slips:?} has no {words:?}");
     };
-    of("layers = 8", "layers = 300", "line 2: layers is 300, out of its range 1 to 64");
+    of("layers = 8", "layers = 300", "line 3: layers is 300, out of its range 1 to 64");
     of("layers = 8", "layers = 8.5", "layers is '8.5', no whole number");
     of("layers = 8", "", "missing: layers (1 to 64)");
     of("layers = 8", "layers 8", "'layers 8' is no 'name = value'");
     of("units = 1", "layers = 8", "layers stands twice");
     of("max = ", "maximum = ", "'maximum' is no field");
+    of("max = 80.0", "max = 80,5", "line 11: max is '80,5', no number");
+    let slips = template.replace("max = 80.0", "max = hot").parse::<Card>().expect_err("a slip");
+    assert_eq!(slips.0.len(), 1, "what stands there is not missing: {slips}");
     of("simultaneous = no", "simultaneous = 2", "simultaneous is '2', not yes or no");
+    of("layers = 8", "layers = 80\nx", "layers is 80, out of its range 1 to 64");
     let many = "x\n".repeat(1000).parse::<Card>().expect_err("slips");
-    assert!(many.0.len() <= 51);
+    assert!(many.0.len() <= 21);
 }
 
 /// Ends of lines, comments, a mark of order and any order of fields.

@@ -41,7 +41,7 @@ fn again(card: &Card, lines: &[Line]) -> Vec<u8> {
     let Ok(mut sheet) = Sheet::open(card) else { return Vec::new() };
     for line in lines {
         // A refusal is a line, or leaves a shorter sheet.
-        let _ = sheet.line(&line.call);
+        let _ = sheet.answer(&line.call);
     }
     sheet.into_bytes()
 }

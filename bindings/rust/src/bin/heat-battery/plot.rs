@@ -25,12 +25,12 @@ pub fn plot(arguments: &Arguments) -> Result<(), Failure> {
     let bytes = files::sheet(path)?;
     let (card, lines, damage) = files::parts(path, &bytes)?;
     let verdict = audit(&bytes);
-    let days = Days::new(card, lines, from, to);
-    if days.lines.len() > MOST_LINES {
+    let course = Course::new(card, lines, from, to);
+    if course.lines.len() > MOST_LINES {
         let words = format!("more than {MOST_LINES} lines; choose with --from and --to");
         return Err(Failure::Usage(format!("{}: {words}", files::name(path))));
     }
-    files::write(out, days.picture(&short_name(path), verdict).as_bytes())?;
+    files::write(out, course.picture(&short_name(path), verdict).as_bytes())?;
     verdict_status(path, verdict, damage)
 }
 
@@ -44,7 +44,8 @@ fn short_name(path: &OsStr) -> String {
 
 // ---- What is drawn
 
-struct Days {
+/// The course of a sheet from one line to another.
+struct Course {
     card: Card,
     /// Zones before the first line.
     before: Vec<f64>,
@@ -83,8 +84,8 @@ fn class(call: &Call) -> Option<usize> {
     }
 }
 
-impl Days {
-    fn new(card: Card, mut lines: Vec<Line>, from: u64, to: u64) -> Days {
+impl Course {
+    fn new(card: Card, mut lines: Vec<Line>, from: u64, to: u64) -> Course {
         let mut before = vec![card.start; usize::from(card.layers)];
         let mut closed = 0.0;
         for line in lines.iter().take_while(|line| line.index < from) {
@@ -92,7 +93,7 @@ impl Days {
             closed += if line.call == Call::CloseTimestep { 1.0 } else { 0.0 };
         }
         lines.retain(|line| line.index >= from && line.index <= to);
-        Days { card, before, lines, hours: closed * card.timestep }
+        Course { card, before, lines, hours: closed * card.timestep }
     }
 
     fn first(&self) -> f64 {
@@ -145,8 +146,9 @@ impl Days {
         numbered.map(|(line, count)| (line.index as f64, hours(count))).collect()
     }
 
+    /// Whether a line of a class is drawn filled.
     fn has_class(&self, at: usize) -> bool {
-        self.lines.iter().any(|line| class(&line.call) == Some(at) && !line.call.is_trial())
+        self.energies().iter().any(|(_, class, _, is_trial)| *class == at && !is_trial)
     }
 
     fn picture(&self, name: &str, verdict: Verdict) -> String {
@@ -191,17 +193,25 @@ fn ramp(at: usize, count: usize) -> String {
     format!("rgb({},{},{})", mix(low.0, high.0), mix(low.1, high.1), mix(low.2, high.2))
 }
 
+/// A number with at most two decimals.
+fn hundredths(x: f64) -> String {
+    format!("{}", (x * 100.0).round() / 100.0)
+}
+
+/// The most zones that the legend names.
+const MOST_NAMED: usize = 10;
+
 struct Picture<'a> {
-    days: &'a Days,
+    course: &'a Course,
     name: &'a str,
     svg: Svg,
     across: Axis,
 }
 
 impl<'a> Picture<'a> {
-    fn new(days: &'a Days, name: &'a str) -> Picture<'a> {
-        let across = Axis::whole(days.first(), days.last(), 12);
-        Picture { days, name, svg: Svg::new(WIDTH, HEIGHT, name), across }
+    fn new(course: &'a Course, name: &'a str) -> Picture<'a> {
+        let across = Axis::whole(course.first(), course.last(), 12);
+        Picture { course, name, svg: Svg::new(WIDTH, HEIGHT, name), across }
     }
 
     fn x(&self, line: f64) -> f64 {
@@ -221,10 +231,14 @@ impl<'a> Picture<'a> {
     }
 
     fn title(&mut self, verdict: Verdict) {
-        let Days { card, lines, .. } = self.days;
+        let Course { card, lines, .. } = self.course;
         self.svg.label(LEFT, 30.0, Hang::Start, "font-size=\"18\" font-weight=\"bold\"", self.name);
         let size = format!("{}, {}", count(card.layers, "layer"), count(card.units, "unit"));
-        let words = format!("{size}, {} call lines; audit: {verdict}", lines.len());
+        let lines = match (lines.first(), lines.last()) {
+            (Some(first), Some(last)) => format!("call lines {} to {}", first.index, last.index),
+            _ => "no call lines".into(),
+        };
+        let words = format!("{size}, {lines}; audit: {verdict}");
         self.svg.label(LEFT, 50.0, Hang::Start, "fill=\"#333\"", &words);
     }
 
@@ -236,7 +250,7 @@ impl<'a> Picture<'a> {
             self.svg.line((LEFT, y), (RIGHT, y), GRID);
             self.svg.label(LEFT - 8.0, y + 4.0, Hang::End, SMALL, &text);
         }
-        for (line, _) in self.days.closings() {
+        for (line, _) in self.course.closings() {
             let x = self.x(line);
             self.svg.line((x, top), (x, bottom), CLOSING);
         }
@@ -252,13 +266,12 @@ impl<'a> Picture<'a> {
     /// Hours of closed timesteps along the top.
     fn hours(&mut self) {
         let top = ZONES.0;
-        let closings = self.days.closings();
+        let closings = self.course.closings();
         let gap = closings.len().div_ceil(12).max(1);
         for (line, hours) in closings.iter().skip(gap - 1).step_by(gap) {
             let x = self.x(*line);
             self.svg.line((x, top - 5.0), (x, top), "stroke=\"#333\"");
-            let text = format!("{}", (hours * 100.0).round() / 100.0);
-            self.svg.label(x, top - 9.0, Hang::Middle, SMALL, &text);
+            self.svg.label(x, top - 9.0, Hang::Middle, SMALL, &hundredths(*hours));
         }
         if !closings.is_empty() {
             let words = "timesteps closed, h";
@@ -267,19 +280,19 @@ impl<'a> Picture<'a> {
     }
 
     fn zones(&mut self) {
-        let days = self.days;
-        let layers = usize::from(days.card.layers);
-        let melting = [days.card.lower, days.card.upper];
-        let all = (0..layers).flat_map(|at| days.zone(at).map(|(_, zone)| zone));
+        let course = self.course;
+        let layers = usize::from(course.card.layers);
+        let melting = [course.card.lower, course.card.upper];
+        let all = (0..layers).flat_map(|at| course.zone(at).map(|(_, zone)| zone));
         let axis = Axis::new(all.chain(melting), 8);
-        let high = self.y(&axis, ZONES, days.card.upper);
-        let low = self.y(&axis, ZONES, days.card.lower);
+        let high = self.y(&axis, ZONES, course.card.upper);
+        let low = self.y(&axis, ZONES, course.card.lower);
         let size = (RIGHT - LEFT, (low - high).max(1.0));
         self.svg.rect((LEFT, high), size, "fill=\"#fde8c8\"");
         self.panel(ZONES, &axis, "zone temperature, °C");
         self.hours();
         for at in 0..layers {
-            let points: Vec<Option<(f64, f64)>> = days
+            let points: Vec<Option<(f64, f64)>> = course
                 .zone(at)
                 .map(|(line, zone)| {
                     is_drawable(zone).then(|| (self.x(line), self.y(&axis, ZONES, zone)))
@@ -295,7 +308,7 @@ impl<'a> Picture<'a> {
     /// A cross at the foot of the zones for each refused line.
     fn refused_lines(&mut self) {
         let style = "stroke=\"#d00\" stroke-width=\"1.5\"";
-        for line in self.days.lines.iter().filter(|line| line.answer.refusal.is_some()) {
+        for line in self.course.lines.iter().filter(|line| line.answer.refusal.is_some()) {
             let (x, y) = (self.x(line.index as f64), ZONES.1 - 8.0);
             self.svg.line((x - 3.0, y - 3.0), (x + 3.0, y + 3.0), style);
             self.svg.line((x - 3.0, y + 3.0), (x + 3.0, y - 3.0), style);
@@ -305,8 +318,8 @@ impl<'a> Picture<'a> {
     fn zone_legend(&mut self, layers: usize) {
         let mut y = ZONES.0 + 10.0;
         self.svg.label(LEGEND, y, Hang::Start, HEAD, "Zones");
-        let gap = layers.div_ceil(10).max(1);
-        for at in (0..layers).step_by(gap) {
+        let shown = layers.min(MOST_NAMED);
+        for at in (0..shown).map(|at| at * (layers - 1) / (shown - 1).max(1)) {
             y += 20.0;
             let style = format!("stroke=\"{}\" stroke-width=\"3\"", ramp(at, layers));
             self.svg.line((LEGEND, y - 4.0), (LEGEND + 26.0, y - 4.0), &style);
@@ -321,10 +334,10 @@ impl<'a> Picture<'a> {
         y += 24.0;
         let style = "fill=\"#fde8c8\" stroke=\"#e5c48f\"";
         self.svg.rect((LEGEND, y - 11.0), (26.0, 12.0), style);
-        let Card { lower, upper, .. } = self.days.card;
-        let text = format!("melting, {lower} to {upper} °C");
+        let Card { lower, upper, .. } = self.course.card;
+        let text = format!("melting, {} to {} °C", hundredths(lower), hundredths(upper));
         self.svg.label(LEGEND + 34.0, y, Hang::Start, SMALL, &text);
-        if self.days.lines.iter().any(|line| line.answer.refusal.is_some()) {
+        if self.course.lines.iter().any(|line| line.answer.refusal.is_some()) {
             y += 22.0;
             self.svg.label(LEGEND + 9.0, y, Hang::Start, "fill=\"#d00\"", "×");
             self.svg.label(LEGEND + 34.0, y, Hang::Start, SMALL, "refused line");
@@ -332,7 +345,7 @@ impl<'a> Picture<'a> {
     }
 
     fn charge(&mut self) {
-        let charges = self.days.charges();
+        let charges = self.course.charges();
         let known = charges.iter().filter_map(|(_, percent)| *percent);
         let axis = Axis::new(known.chain([0.0, 100.0]), 5);
         self.panel(CHARGE, &axis, "state of charge, %");
@@ -344,7 +357,7 @@ impl<'a> Picture<'a> {
             })
             .collect();
         self.svg.path(points.into_iter(), "stroke=\"#000\" stroke-width=\"1.6\"");
-        let asked = self.days.lines.iter().filter(|line| line.call.kind() == Kind::StateOfCharge);
+        let asked = self.course.lines.iter().filter(|line| line.call.kind() == Kind::StateOfCharge);
         for line in asked.filter(|line| line.answer.refusal.is_none()) {
             let percent = line.answer.energy * 100.0;
             if is_drawable(percent) {
@@ -366,7 +379,7 @@ impl<'a> Picture<'a> {
     }
 
     fn energy(&mut self) {
-        let energies = self.days.energies();
+        let energies = self.course.energies();
         let axis = Axis::new(energies.iter().map(|(_, _, energy, _)| *energy).chain([0.0]), 6);
         self.panel(ENERGY, &axis, "energy, kWh");
         let zero = self.y(&axis, ENERGY, 0.0);
@@ -390,20 +403,25 @@ impl<'a> Picture<'a> {
     fn energy_legend(&mut self) {
         let mut y = ENERGY.0 + 10.0;
         for (head, sign) in [("Heat in (up)", 1.0), ("Heat out (down)", -1.0)] {
+            let classes = CLASSES.iter().enumerate();
+            let drawn =
+                classes.filter(|(at, class)| class.sign == sign && self.course.has_class(*at));
+            let drawn: Vec<&Class> = drawn.map(|(_, class)| class).collect();
+            if drawn.is_empty() {
+                continue;
+            }
             self.svg.label(LEGEND, y, Hang::Start, HEAD, head);
-            for (at, class) in CLASSES.iter().enumerate() {
-                if class.sign == sign && self.days.has_class(at) {
-                    y += 20.0;
-                    let style = format!("fill=\"{}\"", class.color);
-                    self.svg.rect((LEGEND, y - 10.0), (26.0, 11.0), &style);
-                    self.svg.label(LEGEND + 34.0, y, Hang::Start, SMALL, class.name);
-                }
+            for class in drawn {
+                y += 20.0;
+                let style = format!("fill=\"{}\"", class.color);
+                self.svg.rect((LEGEND, y - 10.0), (26.0, 11.0), &style);
+                self.svg.label(LEGEND + 34.0, y, Hang::Start, SMALL, class.name);
             }
             y += 26.0;
         }
-        if self.days.lines.iter().any(|line| line.call.is_trial()) {
+        if self.course.lines.iter().any(|line| line.call.is_trial()) {
             y -= 6.0;
-            self.svg.rect((LEGEND, y - 10.0), (26.0, 11.0), "fill=\"#fff\" stroke=\"#0072b2\"");
+            self.svg.rect((LEGEND, y - 10.0), (26.0, 11.0), "fill=\"#fff\" stroke=\"#444\"");
             self.svg.label(LEGEND + 34.0, y, Hang::Start, SMALL, "trial, nothing given");
         }
     }

@@ -14,6 +14,9 @@ pub fn run(arguments: &Arguments) -> Result<(), Failure> {
     let out = arguments.flag("-o").ok_or(Failure::Usage("run: -o SHEET is missing".into()))?;
     let most = arguments.whole("--most").map_err(Failure::Usage)?;
     let most = most.map_or(usize::MAX, |most| usize::try_from(most).unwrap_or(usize::MAX));
+    if files::is_standard(card_path) && files::is_standard(calls_path) {
+        return Err(Failure::Usage("run: only one of CARD and CALLS can be '-'".into()));
+    }
     if [card_path, calls_path].iter().any(|path| files::is_same(path, out)) {
         return Err(Failure::Usage(format!("{} would be overwritten", files::name(out))));
     }

@@ -1,0 +1,103 @@
+//! The command run on files in a folder of the test's own.
+#![allow(dead_code)]
+
+use std::fs;
+use std::io::Write;
+use std::path::{Path, PathBuf};
+use std::process::{Command, Output, Stdio};
+
+pub struct Ended {
+    pub status: i32,
+    pub out: String,
+    pub err: String,
+}
+
+impl Ended {
+    fn new(output: Output) -> Ended {
+        Ended {
+            status: output.status.code().expect("no signal"),
+            out: String::from_utf8_lossy(&output.stdout).into_owned(),
+            err: String::from_utf8_lossy(&output.stderr).into_owned(),
+        }
+    }
+
+    /// It failed in words: 1 or 2, something said, no panic.
+    pub fn assert_failed(&self, what: &str) {
+        let Ended { status, out, err } = self;
+        assert!([1, 2].contains(status), "{what}: status {status}\n{out}\n{err}");
+        assert!(err.starts_with("heat-battery: "), "{what}: {err:?}");
+        assert!(!err.contains("panicked"), "{what}: {err}");
+    }
+
+    pub fn assert_fine(&self, what: &str) {
+        assert_eq!(self.status, 0, "{what}: {}", self.err);
+    }
+}
+
+fn command() -> Command {
+    Command::new(env!("CARGO_BIN_EXE_heat-battery"))
+}
+
+pub fn run(words: &[&str]) -> Ended {
+    Ended::new(command().args(words).stdin(Stdio::null()).output().expect("it runs"))
+}
+
+/// With bytes on standard input.
+pub fn run_with(words: &[&str], input: &[u8]) -> Ended {
+    let mut command = command();
+    let command = command.args(words).stdin(Stdio::piped());
+    let mut child = command.stdout(Stdio::piped()).stderr(Stdio::piped()).spawn().expect("it runs");
+    // It may not read all of it.
+    let _ = child.stdin.take().expect("a pipe").write_all(input);
+    Ended::new(child.wait_with_output().expect("it ends"))
+}
+
+/// With nobody reading what it prints.
+pub fn run_unread(words: &[&str]) -> Ended {
+    let mut command = command();
+    let command = command.args(words).stdin(Stdio::null());
+    let mut child = command.stdout(Stdio::piped()).stderr(Stdio::piped()).spawn().expect("it runs");
+    drop(child.stdout.take());
+    Ended::new(child.wait_with_output().expect("it ends"))
+}
+
+pub fn examples() -> PathBuf {
+    Path::new(env!("CARGO_MANIFEST_DIR")).join("../../examples")
+}
+
+pub fn example(name: &str) -> String {
+    path_text(&examples().join(name))
+}
+
+pub fn path_text(path: &Path) -> String {
+    path.to_str().expect("a path in UTF-8").into()
+}
+
+/// A folder for one test.
+pub struct Folder(PathBuf);
+
+impl Folder {
+    pub fn new(name: &str) -> Folder {
+        let path = Path::new(env!("CARGO_TARGET_TMPDIR")).join(name);
+        let _ = fs::remove_dir_all(&path);
+        fs::create_dir_all(&path).expect("a folder");
+        Folder(path)
+    }
+
+    pub fn path(&self, name: &str) -> String {
+        path_text(&self.0.join(name))
+    }
+
+    pub fn write(&self, name: &str, bytes: &[u8]) -> String {
+        let path = self.path(name);
+        fs::write(&path, bytes).expect("a file");
+        path
+    }
+
+    /// A file of zeros that takes no room.
+    pub fn huge(&self, name: &str, length: u64) -> String {
+        let path = self.path(name);
+        fs::File::create(&path).and_then(|file| file.set_len(length)).expect("a file");
+        path
+    }
+}
