@@ -98,6 +98,14 @@ static int is_record(const uint8_t *record, size_t length) {
         && length == HEAT_BATTERY_RECORD_LENGTH((size_t)record[0]);
 }
 
+static int same_battery(const struct heat_battery *x, const struct heat_battery *y) {
+    return memcmp(&x->card.substep, &y->card.substep, 19 * sizeof(double)) == 0
+        && x->card.layers == y->card.layers && x->card.units == y->card.units
+        && x->card.simultaneous == y->card.simultaneous && x->card.budget == y->card.budget
+        && x->count == y->count && memcmp(x->zones, y->zones, sizeof x->zones) == 0
+        && memcmp(&x->total, &y->total, 5 * sizeof(double)) == 0;
+}
+
 /* The own record gives the byte entry's refusal and battery; it knows no 11, and no record of another length. */
 static int own_record_agrees(const uint8_t *before, size_t length, struct slice call, uint8_t result, struct slice after) {
     struct heat_battery b, expected;
@@ -105,11 +113,10 @@ static int own_record_agrees(const uint8_t *before, size_t length, struct slice 
         return 1;
     battery_from(&b, before);
     battery_from(&expected, after.bytes);
-    b.zones[63] = expected.zones[63] = b.count < 64 ? 7.0 : b.zones[63];
-    if (b.count == 64)
-        expected.zones[63] = number_at(after.bytes + HEAT_BATTERY_CARD_LENGTH + 8 * 63);
+    for (int i = b.count; i < 64; i++) /* places above the count stay */
+        b.zones[i] = expected.zones[i] = i;
     struct heat_battery_shown shown = heat_battery_advance(&b, call.bytes, call.length);
-    return shown.refusal == result && memcmp(&b, &expected, sizeof b) == 0;
+    return shown.refusal == result && same_battery(&b, &expected);
 }
 
 /* ---- cases */

@@ -3,6 +3,7 @@
 use crate::bytes::{Buffer, Cursor};
 use crate::card::Card;
 use crate::field::{Fault, Field, ServiceType, Shape, Value};
+use crate::ranges::{DAY, EXCHANGER, FLOW, LEVEL, POWER, TEMPERATURE, VELOCITY};
 use crate::refusal::Refusal;
 
 /// One call on a battery. [`Kind::fields`] has each field's unit and range.
@@ -100,51 +101,33 @@ pub enum Kind {
     ChargeEnergyDemand,
 }
 
-const CELSIUS: (f64, f64) = (-50.0, 250.0);
-const LEVEL: (f64, f64) = (0.0, 1.0);
-const FLAG: (f64, f64) = (0.0, 1.0);
-const EXCHANGER: (f64, f64) = (-1e6, 1e6);
-/// A start lies in the card's timestep, which is at most this.
-const DAY: (f64, f64) = (0.0, 24.0);
-
-const fn number(
-    name: &'static str,
-    unit: &'static str,
-    range: (f64, f64),
-    about: &'static str,
-) -> Field {
-    Field::new(name, unit, Shape::Number, range, about)
-}
-
-const TARGET: Field = number("target", "", LEVEL, "level to charge to");
+const TARGET: Field = Field::number("target", "", LEVEL, "level to charge to");
 
 const DEMAND: [Field; 6] = [
     Field::new("service", "", Shape::Service, (0.0, 3.0), "which service"),
-    Field::new("commit", "", Shape::Flag, FLAG, "no: a trial"),
-    Field::new("control_on", "", Shape::Flag, FLAG, "the charger's control"),
-    number("required", "kWh", (-1e6, 1e6), "energy wanted"),
-    number("start", "h", DAY, "when in the timestep"),
-    Field::new("return_temperature", "°C", Shape::Optional, CELSIUS, "water that comes back"),
+    Field::flag("commit", "no: a trial"),
+    Field::flag("control_on", "the charger's control"),
+    Field::number("required", "kWh", (-1e6, 1e6), "energy wanted"),
+    Field::number("start", "h", DAY, "when in the timestep"),
+    Field::optional("return_temperature", "°C", TEMPERATURE, "water that comes back"),
 ];
 
-const ELECTRIC: [Field; 2] = [number("power", "kW", (0.0, 1000.0), "of the heater"), TARGET];
+const ELECTRIC: [Field; 2] = [Field::number("power", "kW", POWER, "of the heater"), TARGET];
 
 const HYDRONIC: [Field; 9] = [
-    number("inlet", "°C", CELSIUS, "water that comes in"),
-    number("hours", "h", DAY, "how long"),
-    number("flow", "l/min", (0.001, 1000.0), "of the water"),
+    Field::number("inlet", "°C", TEMPERATURE, "water that comes in"),
+    Field::number("hours", "h", DAY, "how long"),
+    Field::number("flow", "l/min", FLOW, "of the water"),
     TARGET,
-    number("limit", "kWh", (0.0, 1e6), "most energy to take"),
-    number("hex_a", "", EXCHANGER, "exchanger, before the logarithm"),
-    number("hex_b", "", EXCHANGER, "exchanger, added"),
-    number("velocity", "m/s", (0.0001, 100.0), "in the tube at 1 l/min"),
-    number("diameter", "m", (0.00001, 1.0), "of the tube"),
+    Field::number("limit", "kWh", (0.0, 1e6), "most energy to take"),
+    Field::number("hex_a", "", EXCHANGER, "exchanger, before the logarithm"),
+    Field::number("hex_b", "", EXCHANGER, "exchanger, added"),
+    Field::number("velocity", "m/s", VELOCITY, "in the tube at 1 l/min"),
+    Field::number("diameter", "m", (0.00001, 1.0), "of the tube"),
 ];
 
-const CHARGE_ENERGY_DEMAND: [Field; 2] = [
-    Field::new("flow_maximum", "°C", Shape::Optional, CELSIUS, "warmest water of the source"),
-    TARGET,
-];
+const CHARGE_ENERGY_DEMAND: [Field; 2] =
+    [Field::optional("flow_maximum", "°C", TEMPERATURE, "warmest water of the source"), TARGET];
 
 impl Kind {
     /// All seven in document 01's order.

@@ -3,6 +3,7 @@
 use crate::battery::Battery;
 use crate::bytes::{Buffer, Cursor};
 use crate::field::{Fault, Field, Shape, Value};
+use crate::ranges::{CAPACITY, EXCHANGER, FLOW, POWER, TEMPERATURE, VELOCITY};
 use crate::refusal::Refusal;
 
 /// A battery as its maker describes it. [`Card::FIELDS`] has each field's unit and range.
@@ -66,23 +67,9 @@ pub struct Card {
     pub power: f64,
 }
 
-const CELSIUS: (f64, f64) = (-50.0, 250.0);
-const CAPACITY: (f64, f64) = (0.001, 1e6);
-const EXCHANGER: (f64, f64) = (-1e6, 1e6);
-const KILOWATTS: (f64, f64) = (0.0, 1000.0);
-const FLAG: (f64, f64) = (0.0, 1.0);
 /// Document 01's epsilon of refusal 4.
 const NEARLY: f64 = 1e-10;
 const NUMBERS: usize = 19;
-
-const fn number(
-    name: &'static str,
-    unit: &'static str,
-    range: (f64, f64),
-    about: &'static str,
-) -> Field {
-    Field::new(name, unit, Shape::Number, range, about)
-}
 
 impl Card {
     /// Bytes of a card.
@@ -92,27 +79,27 @@ impl Card {
     pub const FIELDS: [Field; 23] = [
         Field::new("layers", "", Shape::Byte, (1.0, 64.0), "layers of one unit"),
         Field::new("units", "", Shape::Short, (1.0, 1000.0), "equal units side by side"),
-        Field::new("simultaneous", "", Shape::Flag, FLAG, "the charger works during a demand"),
+        Field::flag("simultaneous", "the charger works during a demand"),
         Field::new("budget", "", Shape::Short, (1.0, 65535.0), "substeps of one call"),
-        number("substep", "s", (0.1, 3600.0), "longest substep"),
-        number("timestep", "h", (0.01, 24.0), "one timestep"),
-        number("initial_inlet", "°C", CELSIUS, "water in, first guess"),
-        number("estimated_outlet", "°C", CELSIUS, "water out, first guess"),
-        number("max", "°C", CELSIUS, "full battery"),
-        number("reference", "°C", CELSIUS, "empty battery"),
-        number("lower", "°C", CELSIUS, "melting begins"),
-        number("upper", "°C", CELSIUS, "melting ends"),
-        number("below", "kJ/K", CAPACITY, "capacity below the melting range, all layers"),
-        number("during", "kJ/K", CAPACITY, "capacity in the melting range, all layers"),
-        number("above", "kJ/K", CAPACITY, "capacity above the melting range, all layers"),
-        number("velocity", "m/s", (0.0001, 100.0), "in the tube at 1 l/min"),
-        number("diameter", "mm", (0.01, 1000.0), "of the tube"),
-        number("a", "", EXCHANGER, "exchanger, before the logarithm"),
-        number("b", "", EXCHANGER, "exchanger, added"),
-        number("flow", "l/min", (0.001, 1000.0), "of a demand"),
-        number("losses", "kW", KILOWATTS, "rated losses"),
-        number("start", "°C", CELSIUS, "every zone of a fresh battery"),
-        number("power", "kW", KILOWATTS, "charger during a demand, 0 for none"),
+        Field::number("substep", "s", (0.1, 3600.0), "longest substep"),
+        Field::number("timestep", "h", (0.01, 24.0), "one timestep"),
+        Field::number("initial_inlet", "°C", TEMPERATURE, "water in, first guess"),
+        Field::number("estimated_outlet", "°C", TEMPERATURE, "water out, first guess"),
+        Field::number("max", "°C", TEMPERATURE, "full battery"),
+        Field::number("reference", "°C", TEMPERATURE, "empty battery"),
+        Field::number("lower", "°C", TEMPERATURE, "melting begins"),
+        Field::number("upper", "°C", TEMPERATURE, "melting ends"),
+        Field::number("below", "kJ/K", CAPACITY, "capacity below the melting range, all layers"),
+        Field::number("during", "kJ/K", CAPACITY, "capacity in the melting range, all layers"),
+        Field::number("above", "kJ/K", CAPACITY, "capacity above the melting range, all layers"),
+        Field::number("velocity", "m/s", VELOCITY, "in the tube at 1 l/min"),
+        Field::number("diameter", "mm", (0.01, 1000.0), "of the tube"),
+        Field::number("a", "", EXCHANGER, "exchanger, before the logarithm"),
+        Field::number("b", "", EXCHANGER, "exchanger, added"),
+        Field::number("flow", "l/min", FLOW, "of a demand"),
+        Field::number("losses", "kW", POWER, "rated losses"),
+        Field::number("start", "°C", TEMPERATURE, "every zone of a fresh battery"),
+        Field::number("power", "kW", POWER, "charger during a demand, 0 for none"),
     ];
 
     /// A battery of eight layers that holds about 10 kWh, a sodium acetate trihydrate.

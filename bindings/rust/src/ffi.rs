@@ -2,6 +2,7 @@
 //!
 //! Each function is proved to read and write nothing but the slices it is lent, for any bytes
 //! in them. Slices of Rust are apart and of the length they say, which is all that it asks.
+//! The entry on the caller's own record, heat_battery_advance, joins them here.
 
 mod c {
     extern "C" {

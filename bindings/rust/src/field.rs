@@ -2,6 +2,7 @@
 //! JSON and explanations all follow these descriptions.
 
 use crate::bytes::{Buffer, Cursor};
+use crate::ranges::{Range, FLAG};
 use crate::refusal::Refusal;
 use std::fmt;
 
@@ -160,10 +161,32 @@ impl Field {
         name: &'static str,
         unit: &'static str,
         shape: Shape,
-        (low, high): (f64, f64),
+        (low, high): Range,
         about: &'static str,
     ) -> Field {
         Field { name, unit, shape, low, high, about }
+    }
+
+    pub(crate) const fn number(
+        name: &'static str,
+        unit: &'static str,
+        range: Range,
+        about: &'static str,
+    ) -> Field {
+        Field::new(name, unit, Shape::Number, range, about)
+    }
+
+    pub(crate) const fn optional(
+        name: &'static str,
+        unit: &'static str,
+        range: Range,
+        about: &'static str,
+    ) -> Field {
+        Field::new(name, unit, Shape::Optional, range, about)
+    }
+
+    pub(crate) const fn flag(name: &'static str, about: &'static str) -> Field {
+        Field::new(name, "", Shape::Flag, FLAG, about)
     }
 
     /// Its bytes in a card or a call.
@@ -181,12 +204,12 @@ impl Field {
         match self.shape {
             Shape::Flag => "yes or no".into(),
             Shape::Service => "combi, regular, space or direct".into(),
-            Shape::Byte | Shape::Short | Shape::Number => self.numbers(),
-            Shape::Optional => format!("{}, or none", self.numbers()),
+            Shape::Byte | Shape::Short | Shape::Number => self.span(),
+            Shape::Optional => format!("{}, or none", self.span()),
         }
     }
 
-    fn numbers(&self) -> String {
+    fn span(&self) -> String {
         let gap = if self.unit.is_empty() { "" } else { " " };
         format!("{} to {}{gap}{}", short(self.low), short(self.high), self.unit)
     }
@@ -235,8 +258,8 @@ impl Field {
     pub(crate) fn parse(&self, text: &str) -> Result<Value, String> {
         let other = || format!("{} is {}, not {}", self.name, quoted(text), self.range());
         match self.shape {
-            Shape::Byte => self.whole(text).map(|n| n.try_into().map(Value::Byte)),
-            Shape::Short => self.whole(text).map(|n| n.try_into().map(Value::Short)),
+            Shape::Byte => self.parse_whole(text).map(|n| n.try_into().map(Value::Byte)),
+            Shape::Short => self.parse_whole(text).map(|n| n.try_into().map(Value::Short)),
             Shape::Flag => match text {
                 "yes" | "1" => Ok(Ok(Value::Flag(true))),
                 "no" | "0" => Ok(Ok(Value::Flag(false))),
@@ -247,17 +270,17 @@ impl Field {
                 found.map(|service| Ok(Value::Service(service))).ok_or_else(other)
             }
             Shape::Optional if text == "none" => Ok(Ok(Value::Optional(None))),
-            Shape::Optional => self.number(text).map(|x| Ok(Value::Optional(Some(x)))),
-            Shape::Number => self.number(text).map(|x| Ok(Value::Number(x))),
+            Shape::Optional => self.parse_number(text).map(|x| Ok(Value::Optional(Some(x)))),
+            Shape::Number => self.parse_number(text).map(|x| Ok(Value::Number(x))),
         }?
         .map_err(|_| self.out_of_range(text))
     }
 
-    fn whole(&self, text: &str) -> Result<i128, String> {
+    fn parse_whole(&self, text: &str) -> Result<i128, String> {
         text.parse().map_err(|_| format!("{} is {}, no whole number", self.name, quoted(text)))
     }
 
-    fn number(&self, text: &str) -> Result<f64, String> {
+    fn parse_number(&self, text: &str) -> Result<f64, String> {
         text.parse().map_err(|_| {
             let comma = if text.contains(',') { " (write a point, not a comma)" } else { "" };
             format!("{} is {}, no number{comma}", self.name, quoted(text))

@@ -53,6 +53,7 @@ mod card;
 #[allow(unsafe_code)]
 mod ffi;
 mod field;
+mod ranges;
 mod reading;
 mod refusal;
 mod sheet;

@@ -4,7 +4,7 @@ use crate::answer::{Answer, Line};
 use crate::battery::{line_bytes, Battery, OPENING_BYTES};
 use crate::call::Call;
 use crate::card::Card;
-use crate::reading::Lines;
+use crate::reading::read;
 use crate::refusal::Refusal;
 
 /// A fresh battery with the sheet of all calls made on it.
@@ -91,7 +91,6 @@ impl Sheet {
 
     /// The call lines.
     pub fn lines(&self) -> impl Iterator<Item = Line> + '_ {
-        let lines = crate::read(&self.bytes).ok().map(|(_, lines): (Card, Lines)| lines);
-        lines.into_iter().flatten().flatten()
+        read(&self.bytes).into_iter().flat_map(|(_, lines)| lines).flatten()
     }
 }

@@ -1,0 +1,16 @@
+pub mod Fronts
+pub mod Turns
+pub mod Opening
+pub mod Bounds
+pub mod Stepped
+pub mod LaidLines
+pub mod Walks
+pub mod Verdicts
+pub mod Opened
+pub mod Outcomes
+pub mod Exact
+pub mod Refusals
+pub mod ReadCalls
+pub mod Shown
+pub mod Charged
+pub mod Directions

@@ -1,0 +1,102 @@
+-- One turn of the walk over the lines.
+use mathlib.Core.Path.{_≡_, refl, ap, _∙_}
+use mathlib.Core.List.{List, [], _∷_}
+use mathlib.Core.Bool.{true, false}
+use Prim.Native.Nat.{ℕ, zero, suc, _+_, _-_, _≤_, _<_}
+use native.Mathlib.Omega.{arith}
+use borrow.Author.Tests.{eq-eqb, ne-eqb}
+use lib.ListN.{length, take, drop, length-drop}
+use lib.Seq.{take-all}
+use Rattle.card.specs.declared.Card.{Card}
+use Rattle.battery.specs.declared.Battery.{Battery}
+use Rattle.battery.specs.declared.Call.{Call}
+use Rattle.battery.specs.declared.Answer.{Answer}
+use Rattle.engine.specs.Steps.{advanceOf}
+use Rattle.sheet.specs.Answers.{agrees}
+use Rattle.sheet.specs.declared.ReadCall.the-variants.{Good, Bad}
+use Rattle.sheet.proofs.CallLaws.{test-good}
+use Rattle.auditor.specs.declared.Verdict.{Verdict}
+use Rattle.auditor.specs.declared.Verdict.the-variants.{Accepted, Refused}
+use Rattle.auditor.specs.Audit.{lineCallLength, behind, headOk, lineCall, lineAnswer, judge, auditLine, auditFrom}
+use Rattle.auditor.proofs.Fronts.{size-is}
+
+pub audit-none : (version : ℕ) (c : Card) (most : ℕ) (b : Battery) (k : ℕ) → auditFrom version c most b k [] ≡ Accepted k
+unfolding auditFrom
+audit-none version c zero b k = refl
+audit-none version c (suc most) b k = refl
+
+pub audit-some : (version : ℕ) (c : Card) (most : ℕ) (b : Battery) (k : ℕ) (bs : List ℕ) → 1 ≤ length bs
+    → auditFrom version c (suc most) b k bs
+    ≡ auditLine version b k (lineAnswer version c bs) (lineCall version c bs) (λ next. auditFrom version c most next (k + 1) (behind version c bs))
+unfolding auditFrom
+audit-some version c most b k [] h = absurd (omega arith)
+audit-some version c most b k (x ∷ bs) h = refl
+
+pub behind-short : (version : ℕ) (c : Card) (bs : List ℕ) → length (behind version c bs) ≤ length bs - 2
+unfolding behind
+behind-short version c bs = simp length-drop (omega (arith, size-is version c (lineCallLength version bs)))
+
+-- the lines from t on, of which there are at most so many, give the verdict v
+pub record From (version : ℕ) (c : Card) (b : Battery) (k : ℕ) (t : List ℕ) (v : Verdict) : Type 0 where
+  pub most : ℕ
+  pub enough : length t ≤ most
+  pub gives : v ≡ auditFrom version c most b k t
+
+module _ (version : ℕ) (c : Card) (b : Battery) (k : ℕ) (t : List ℕ) (v : Verdict) (some : 1 ≤ length t) (h : From version c b k t v) where
+  line : v ≡ auditLine version b k (lineAnswer version c t) (lineCall version c t) (λ next. auditFrom version c (h .most - 1) next (k + 1) (behind version c t))
+  line =
+      let e : h .most ≡ suc (h .most - 1) = omega (arith, h .enough) in
+      h .gives ∙ ap (λ (m : ℕ). auditFrom version c m b k t) e ∙ audit-some version c (h .most - 1) b k t some
+
+  pub turn-bad : lineCall version c t ≡ Bad → v ≡ Refused 42 (k + 1)
+  unfolding auditLine
+  turn-bad e = line ∙ rw e
+
+  module _ (call : Call) (e : lineCall version c t ≡ Good call) (own : Answer) (o : own ≡ advanceOf version b call) where
+    judged : v ≡ judge k (lineAnswer version c t) own (λ next. auditFrom version c (h .most - 1) next (k + 1) (behind version c t))
+    unfolding auditLine
+    judged = line ∙ rw (e, o)
+
+    pub turn-out : own .refusal ≡ 10 → v ≡ Refused 42 (k + 1)
+    unfolding judge
+    turn-out r = judged ∙ rw (eq-eqb (own .refusal) 10 r)
+
+    pub turn-differs : (own .refusal ≡ 10 → ⊥) → agrees (lineAnswer version c t) own ≡ false → v ≡ Refused 43 (k + 1)
+    unfolding judge
+    turn-differs r d = judged ∙ rw (ne-eqb (own .refusal) 10 r, d)
+
+    pub turn-next : (own .refusal ≡ 10 → ⊥) → agrees (lineAnswer version c t) own ≡ true → From version c (own .battery) (k + 1) (behind version c t) v
+    unfolding judge
+    turn-next r d =
+        record {
+          most = h .most - 1;
+          enough = omega (arith, h .enough, behind-short version c t);
+          gives = judged ∙ rw (ne-eqb (own .refusal) 10 r, d);
+        }
+
+pub at-end : (version : ℕ) (c : Card) (b : Battery) (k : ℕ) (t : List ℕ) (v : Verdict) → length t ≡ 0 → From version c b k t v → v ≡ Accepted k
+at-end version c b k [] v z h = h .gives ∙ audit-none version c (h .most) b k
+at-end version c b k (x ∷ t) v z h = absurd (omega arith)
+
+-- a line whose call is read has its head in order
+pub head-read : (version : ℕ) (c : Card) (bs : List ℕ) (call : Call) → lineCall version c bs ≡ Good call → headOk version c bs ≡ true
+unfolding lineCall
+head-read version c bs call h = test-good (headOk version c bs) _ call h .0
+
+-- the rest of a slice, as the code takes it
+pub rest-of : (t : List ℕ) (r : ℕ) → take (length t - r) (drop r t) ≡ drop r t
+rest-of t r = take-all (length t - r) (drop r t) (simp length-drop (omega arith))
+
+pub rest-less : (t : List ℕ) (r : ℕ) → 1 ≤ r → r ≤ length t → length (take (length t - r) (drop r t)) < length t
+rest-less t r h k = rw rest-of (simp length-drop (omega arith))
+
+-- what the loop keeps
+abbrev pub Walked : ℕ → Card → List ℕ → Verdict → Battery → ℕ → List ℕ → Type 0
+Walked version c s v b k t = (k + length t ≤ length s) × From version c b k t v
+
+pub walked-on : (version : ℕ) (c : Card) (s t : List ℕ) (v : Verdict) (b next : Battery) (k r : ℕ) → Walked version c s v b k t
+    → 1 ≤ r → r ≤ length t → drop r t ≡ behind version c t → From version c next (k + 1) (behind version c t) v
+    → Walked version c s v next (k + 1) (take (length t - r) (drop r t))
+walked-on version c s t v b next k r w low high d f =
+    let l : length (take (length t - r) (drop r t)) < length t = rest-less t r low high in
+    (omega (arith, w .0), rw (rest-of t r, d) f)

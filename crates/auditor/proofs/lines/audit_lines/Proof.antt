@@ -1,0 +1,124 @@
+use mathlib.Core.Path.{sym, _∙_, ap}
+use Prim.Native.Nat.{_≤_, _+_}
+use native.Mathlib.Omega.{arith}
+use borrow.Author.Needs.{needs}
+use lib.ListN.{length}
+use Rattle.battery.specs.declared.Answer.{Answer}
+use Rattle.auditor.specs.Audit.{auditLines}
+use Rattle.sheet.specs.Answers.{agrees, answerAt}
+use Rattle.sheet.specs.Records.{stateAt}
+use Rattle.auditor.proofs.Turns.{turn-bad, turn-out, turn-differs, turn-next, at-end, head-read, rest-less, Walked, walked-on}
+use Rattle.auditor.proofs.lines.audit_lines.Statement.{statement}
+use Rattle.auditor.proofs.lines.audit_lines.Tie as tie
+
+abbrev Inv-loop : tie.InvT-loop
+Inv-loop version card bytes rest₀ b₀ k₀ rest b k = Walked version card bytes (auditLines version card bytes) b k rest
+
+abbrev μ-loop : tie.MeasureT-loop
+μ-loop version card bytes rest₀ b₀ k₀ rest b k = length rest
+
+fresh-requires : tie.Need-fresh-requires Inv-loop μ-loop
+fresh-requires c κs = search needs
+
+loop-holds : tie.Need-loop-holds Inv-loop μ-loop
+unfolding auditLines
+loop-holds c = (omega arith, record { most = length (c .before .before .args .bytes .now); enough = omega arith; gives = rw (c .fresh .ensures) })
+
+line-call-requires : tie.Need-line-call-requires Inv-loop μ-loop
+line-call-requires c κs = search needs
+
+enum-told : tie.Need-enum-told Inv-loop μ-loop
+enum-told c = search needs
+
+add-t15 : tie.Need-add-t15 Inv-loop μ-loop
+add-t15 c = search needs
+
+returns : tie.Need-returns Inv-loop μ-loop
+returns c = sym (turn-bad (c .before .before .before .before .before .before .before .args .version) (c .before .before .before .before .before .before .before .args .card) (c .before .before .before .before .loop .b) (c .before .before .before .before .loop .k) (c .before .before .before .before .loop .rest .now) _ (c .before .before .before .loop-test .taken) (c .before .before .before .before .loop .inv .1) (sym (c .before .before .line-call .ensures) ∙ c .enum-told .given .1))
+
+enum-known-call : tie.Need-enum-known-call Inv-loop μ-loop
+enum-known-call c = search needs
+
+advance-requires : tie.Need-advance-requires Inv-loop μ-loop
+advance-requires c κs = search needs
+
+add-t17 : tie.Need-add-t17 Inv-loop μ-loop
+add-t17 c = search needs
+
+returns-2 : tie.Need-returns-2 Inv-loop μ-loop
+returns-2 c = sym (turn-out (c .before .before .before .before .before .before .before .before .before .before .before .args .version) (c .before .before .before .before .before .before .before .before .before .before .before .args .card) (c .before .before .before .before .before .before .before .before .loop .b) (c .before .before .before .before .before .before .before .before .loop .k) (c .before .before .before .before .before .before .before .before .loop .rest .now) _ (c .before .before .before .before .before .before .before .loop-test .taken) (c .before .before .before .before .before .before .before .before .loop .inv .1) _ (sym (c .before .before .before .before .before .before .line-call .ensures) ∙ c .before .before .before .before .call .given .1) (c .before .before .advance .result) (c .before .before .advance .ensures) (c .if1 .taken))
+
+line-answer-requires : tie.Need-line-answer-requires Inv-loop μ-loop
+line-answer-requires c κs = (c .before .before .before .before .before .before .before .before .before .before .before .pre, head-read (c .before .before .before .before .before .before .before .before .before .before .before .args .version) (c .before .before .before .before .before .before .before .before .before .before .before .args .card) (c .before .before .before .before .before .before .before .before .loop .rest .now) _ (sym (c .before .before .before .before .before .before .line-call .ensures) ∙ c .before .before .before .before .call .given .1))
+
+answers-agree-requires : tie.Need-answers-agree-requires Inv-loop μ-loop
+unfolding answerAt stateAt
+answers-agree-requires c κs = rw (c .line-answer .ensures) (c .before .before .before .before .before .before .before .before .before .before .before .before .pre)
+
+front-size-requires : tie.Need-front-size-requires Inv-loop μ-loop
+front-size-requires c κs = head-read (c .before .before .before .before .before .before .before .before .before .before .before .before .before .before .before .args .version) (c .before .before .before .before .before .before .before .before .before .before .before .before .before .before .before .args .card) (c .before .before .before .before .before .before .before .before .before .before .before .before .loop .rest .now) _ (sym (c .before .before .before .before .before .before .before .before .before .before .line-call .ensures) ∙ c .before .before .before .before .before .before .before .before .call .given .1)
+
+sub-rest : tie.Need-sub-rest Inv-loop μ-loop
+sub-rest c = search needs
+
+part-rest-start : tie.Need-part-rest-start Inv-loop μ-loop
+part-rest-start c = search needs
+
+part-rest-end : tie.Need-part-rest-end Inv-loop μ-loop
+part-rest-end c = search needs
+
+add-k : tie.Need-add-k Inv-loop μ-loop
+add-k c =
+    let k : c .before .before .before .before .before .before .before .before .before .before .before .before .before .before .loop .k + 1 ≤ length (c .before .before .before .before .before .before .before .before .before .before .before .before .before .before .before .before .before .args .bytes .now) = omega (arith, c .before .before .before .before .before .before .before .before .before .before .before .before .before .before .loop .inv .0, c .before .before .before .before .before .before .before .before .before .before .before .before .before .loop-test .taken) in
+    omega (arith, k, c .before .before .before .before .before .before .before .before .before .before .before .before .before .before .before .before .before .good)
+
+loop-less : tie.Need-loop-less Inv-loop μ-loop
+loop-less c = rest-less (c .before .before .before .before .before .before .before .before .before .before .before .before .before .before .loop .rest .now) (c .before .front-size .result) (c .before .front-size .ensures .2) (c .before .front-size .ensures .0)
+
+loop-again : tie.Need-loop-again Inv-loop μ-loop
+loop-again c = walked-on (c .before .before .before .before .before .before .before .before .before .before .before .before .before .before .before .before .before .args .version) (c .before .before .before .before .before .before .before .before .before .before .before .before .before .before .before .before .before .args .card) (c .before .before .before .before .before .before .before .before .before .before .before .before .before .before .before .before .before .args .bytes .now) (c .before .before .before .before .before .before .before .before .before .before .before .before .before .before .loop .rest .now) _ (c .before .before .before .before .before .before .before .before .before .before .before .before .before .before .loop .b) _ (c .before .before .before .before .before .before .before .before .before .before .before .before .before .before .loop .k) (c .before .front-size .result)
+    (c .before .before .before .before .before .before .before .before .before .before .before .before .before .before .loop .inv) (c .before .front-size .ensures .2) (c .before .front-size .ensures .0) (c .before .front-size .ensures .1)
+    (turn-next (c .before .before .before .before .before .before .before .before .before .before .before .before .before .before .before .before .before .args .version) (c .before .before .before .before .before .before .before .before .before .before .before .before .before .before .before .before .before .args .card) (c .before .before .before .before .before .before .before .before .before .before .before .before .before .before .loop .b) (c .before .before .before .before .before .before .before .before .before .before .before .before .before .before .loop .k) (c .before .before .before .before .before .before .before .before .before .before .before .before .before .before .loop .rest .now) _ (c .before .before .before .before .before .before .before .before .before .before .before .before .before .loop-test .taken) (c .before .before .before .before .before .before .before .before .before .before .before .before .before .before .loop .inv .1) _ (sym (c .before .before .before .before .before .before .before .before .before .before .before .before .line-call .ensures) ∙ c .before .before .before .before .before .before .before .before .before .before .call .given .1) (c .before .before .before .before .before .before .before .before .advance .result) (c .before .before .before .before .before .before .before .before .advance .ensures) (c .before .before .before .before .before .before .if1 .left)
+    (ap (λ (x : Answer). agrees x (c .before .before .before .before .before .before .before .before .advance .result)) (sym (c .before .before .before .before .before .line-answer .ensures)) ∙ sym (c .before .before .before .before .answers-agree .ensures) ∙ c .before .before .before .if2 .taken))
+
+add-t22 : tie.Need-add-t22 Inv-loop μ-loop
+add-t22 c =
+    let k : c .before .before .before .before .before .before .before .before .before .before .before .loop .k + 1 ≤ length (c .before .before .before .before .before .before .before .before .before .before .before .before .before .before .args .bytes .now) = omega (arith, c .before .before .before .before .before .before .before .before .before .before .before .loop .inv .0, c .before .before .before .before .before .before .before .before .before .before .loop-test .taken) in
+    omega (arith, k, c .before .before .before .before .before .before .before .before .before .before .before .before .before .before .good)
+
+returns-3 : tie.Need-returns-3 Inv-loop μ-loop
+returns-3 c = sym
+    (turn-differs (c .before .before .before .before .before .before .before .before .before .before .before .before .before .before .args .version) (c .before .before .before .before .before .before .before .before .before .before .before .before .before .before .args .card) (c .before .before .before .before .before .before .before .before .before .before .before .loop .b) (c .before .before .before .before .before .before .before .before .before .before .before .loop .k) (c .before .before .before .before .before .before .before .before .before .before .before .loop .rest .now) _ (c .before .before .before .before .before .before .before .before .before .before .loop-test .taken) (c .before .before .before .before .before .before .before .before .before .before .before .loop .inv .1) _ (sym (c .before .before .before .before .before .before .before .before .before .line-call .ensures) ∙ c .before .before .before .before .before .before .before .call .given .1) (c .before .before .before .before .before .advance .result) (c .before .before .before .before .before .advance .ensures) (c .before .before .before .if1 .left)
+    (ap (λ (x : Answer). agrees x (c .before .before .before .before .before .advance .result)) (sym (c .before .before .line-answer .ensures)) ∙ sym (c .before .answers-agree .ensures) ∙ c .if2 .left))
+
+returns-4 : tie.Need-returns-4 Inv-loop μ-loop
+returns-4 c = sym (at-end (c .before .before .before .before .args .version) (c .before .before .before .before .args .card) (c .before .loop .b) (c .before .loop .k) (c .before .loop .rest .now) _ (omega arith) (c .before .loop .inv .1))
+
+pub audit-lines-spec : {M : Type 1} → statement M
+audit-lines-spec =
+    tie.close
+    (tie.spec
+    Inv-loop
+    μ-loop
+    fresh-requires
+    loop-holds
+    line-call-requires
+    enum-told
+    add-t15
+    returns
+    enum-known-call
+    advance-requires
+    add-t17
+    returns-2
+    line-answer-requires
+    answers-agree-requires
+    front-size-requires
+    sub-rest
+    part-rest-start
+    part-rest-end
+    add-k
+    loop-less
+    loop-again
+    add-t22
+    returns-3
+    returns-4)

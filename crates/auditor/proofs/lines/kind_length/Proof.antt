@@ -1,0 +1,20 @@
+use mathlib.Core.Path.{_∙_, ap}
+use native.Mathlib.Omega.{arith}
+use borrow.Author.Needs.{needs}
+use lib.ListN.{getD}
+use Rattle.sheet.specs.Calls.{callLength}
+use Rattle.sheet.proofs.CallLaws.{call-short}
+use Rattle.auditor.proofs.lines.kind_length.Statement.{statement}
+use Rattle.auditor.proofs.lines.kind_length.Tie as tie
+
+byte-or-zero-requires : tie.Need-byte-or-zero-requires
+byte-or-zero-requires c κs = search needs
+
+call-length-requires : tie.Need-call-length-requires
+call-length-requires c κs = search needs
+
+returns : tie.Need-returns
+returns c = let e = c .call-length .ensures ∙ ap (callLength (c .before .before .before .args .version)) (c .before .byte-or-zero .ensures) in (e, omega (arith, e, call-short (c .before .before .before .args .version) (getD (c .before .before .before .args .bytes .now) 2 0)))
+
+pub kind-length-spec : {M : Type 1} → statement M
+kind-length-spec = tie.close (tie.spec byte-or-zero-requires call-length-requires returns)

@@ -1,0 +1,44 @@
+use mathlib.Core.Path.{_∙_, ap}
+use native.Mathlib.Omega.{arith}
+use borrow.Author.Needs.{needs}
+use Rattle.auditor.proofs.Fronts.{front, answer-long, answer-slice, fits-slice}
+use Rattle.sheet.specs.Answers.{answerAt}
+use Rattle.auditor.proofs.lines.line_answer.Statement.{statement}
+use Rattle.auditor.proofs.lines.line_answer.Tie as tie
+
+kind-length-requires : tie.Need-kind-length-requires
+kind-length-requires c κs = search needs
+
+add-answer : tie.Need-add-answer
+add-answer c = search needs
+
+line-size-requires : tie.Need-line-size-requires
+line-size-requires c κs = search needs
+
+sub-read-answer : tie.Need-sub-read-answer
+sub-read-answer c = omega (arith, fits-slice (c .before .before .before .args .version) (c .before .before .before .args .card) (c .before .before .before .args .bytes .now) (c .before .kind-length .result) (c .line-size .result) (front (c .before .before .before .args .version) (c .before .before .before .args .card) (c .before .before .before .args .bytes .now) (c .before .before .before .pre .1)) (c .before .kind-length .ensures .0) (c .line-size .ensures))
+
+part-read-answer-start : tie.Need-part-read-answer-start
+part-read-answer-start c = omega (arith, fits-slice (c .before .before .before .args .version) (c .before .before .before .args .card) (c .before .before .before .args .bytes .now) (c .before .kind-length .result) (c .line-size .result) (front (c .before .before .before .args .version) (c .before .before .before .args .card) (c .before .before .before .args .bytes .now) (c .before .before .before .pre .1)) (c .before .kind-length .ensures .0) (c .line-size .ensures))
+
+part-read-answer-end : tie.Need-part-read-answer-end
+part-read-answer-end c = omega (arith, fits-slice (c .before .before .before .args .version) (c .before .before .before .args .card) (c .before .before .before .args .bytes .now) (c .before .kind-length .result) (c .line-size .result) (front (c .before .before .before .args .version) (c .before .before .before .args .card) (c .before .before .before .args .bytes .now) (c .before .before .before .pre .1)) (c .before .kind-length .ensures .0) (c .line-size .ensures))
+
+read-answer-requires : tie.Need-read-answer-requires
+read-answer-requires c κs = (c .before .before .before .before .pre .0, rw (answer-slice (c .before .before .before .before .args .version) (c .before .before .before .before .args .card) (c .before .before .before .before .args .bytes .now) (c .before .before .kind-length .result) (c .before .line-size .result) (c .before .before .kind-length .ensures .0) (c .before .line-size .ensures)) (omega (arith, answer-long (c .before .before .before .before .args .version) (c .before .before .before .before .args .card) (c .before .before .before .before .args .bytes .now) (front (c .before .before .before .before .args .version) (c .before .before .before .before .args .card) (c .before .before .before .before .args .bytes .now) (c .before .before .before .before .pre .1)))))
+
+returns : tie.Need-returns
+returns c = c .read-answer .ensures ∙ ap (answerAt (c .before .before .before .before .before .args .version) (c .before .before .before .before .before .args .card)) (answer-slice (c .before .before .before .before .before .args .version) (c .before .before .before .before .before .args .card) (c .before .before .before .before .before .args .bytes .now) (c .before .before .before .kind-length .result) (c .before .before .line-size .result) (c .before .before .before .kind-length .ensures .0) (c .before .before .line-size .ensures))
+
+pub line-answer-spec : {M : Type 1} → statement M
+line-answer-spec =
+    tie.close
+    (tie.spec
+    kind-length-requires
+    add-answer
+    line-size-requires
+    sub-read-answer
+    part-read-answer-start
+    part-read-answer-end
+    read-answer-requires
+    returns)

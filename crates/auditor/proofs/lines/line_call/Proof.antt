@@ -1,0 +1,78 @@
+use mathlib.Core.Path.{refl, sym, _∙_, ap}
+use native.Mathlib.Omega.{arith}
+use borrow.Author.Needs.{needs}
+use Rattle.auditor.proofs.Fronts.{front, head-in-answer, answer-long, call-slice, answer-slice, fits-slice}
+use Rattle.floats.proofs.Branch.{via-true, via-false}
+use Rattle.sheet.specs.Calls.{callOf}
+use Rattle.sheet.specs.Answers.{marksOk}
+use Rattle.auditor.specs.Audit.{lineCall}
+use Rattle.auditor.proofs.lines.line_call.Statement.{statement}
+use Rattle.auditor.proofs.lines.line_call.Tie as tie
+
+head-ok-requires : tie.Need-head-ok-requires
+head-ok-requires c κs = search needs
+
+kind-length-requires : tie.Need-kind-length-requires
+kind-length-requires c κs = search needs
+
+add-answer : tie.Need-add-answer
+add-answer c = search needs
+
+line-size-requires : tie.Need-line-size-requires
+line-size-requires c κs = search needs
+
+sub-marks-ok : tie.Need-sub-marks-ok
+sub-marks-ok c = omega (arith, fits-slice (c .before .before .before .before .before .args .version) (c .before .before .before .before .before .args .card) (c .before .before .before .before .before .args .bytes .now) (c .before .kind-length .result) (c .line-size .result) (front (c .before .before .before .before .before .args .version) (c .before .before .before .before .before .args .card) (c .before .before .before .before .before .args .bytes .now) (sym (c .before .before .before .head-ok .ensures) ∙ c .before .before .if1 .taken)) (c .before .kind-length .ensures .0) (c .line-size .ensures))
+
+part-marks-ok-start : tie.Need-part-marks-ok-start
+part-marks-ok-start c = omega (arith, fits-slice (c .before .before .before .before .before .args .version) (c .before .before .before .before .before .args .card) (c .before .before .before .before .before .args .bytes .now) (c .before .kind-length .result) (c .line-size .result) (front (c .before .before .before .before .before .args .version) (c .before .before .before .before .before .args .card) (c .before .before .before .before .before .args .bytes .now) (sym (c .before .before .before .head-ok .ensures) ∙ c .before .before .if1 .taken)) (c .before .kind-length .ensures .0) (c .line-size .ensures))
+
+part-marks-ok-end : tie.Need-part-marks-ok-end
+part-marks-ok-end c = omega (arith, fits-slice (c .before .before .before .before .before .args .version) (c .before .before .before .before .before .args .card) (c .before .before .before .before .before .args .bytes .now) (c .before .kind-length .result) (c .line-size .result) (front (c .before .before .before .before .before .args .version) (c .before .before .before .before .before .args .card) (c .before .before .before .before .before .args .bytes .now) (sym (c .before .before .before .head-ok .ensures) ∙ c .before .before .if1 .taken)) (c .before .kind-length .ensures .0) (c .line-size .ensures))
+
+marks-ok-requires : tie.Need-marks-ok-requires
+marks-ok-requires c κs = rw (answer-slice (c .before .before .before .before .before .before .args .version) (c .before .before .before .before .before .before .args .card) (c .before .before .before .before .before .before .args .bytes .now) (c .before .before .kind-length .result) (c .before .line-size .result) (c .before .before .kind-length .ensures .0) (c .before .line-size .ensures)) (omega (arith, head-in-answer (c .before .before .before .before .before .before .args .version) (c .before .before .before .before .before .before .args .card), answer-long (c .before .before .before .before .before .before .args .version) (c .before .before .before .before .before .before .args .card) (c .before .before .before .before .before .before .args .bytes .now) (front (c .before .before .before .before .before .before .args .version) (c .before .before .before .before .before .before .args .card) (c .before .before .before .before .before .before .args .bytes .now) (sym (c .before .before .before .before .head-ok .ensures) ∙ c .before .before .before .if1 .taken))))
+
+sub-read-call : tie.Need-sub-read-call
+sub-read-call c = search needs
+
+part-read-call-start : tie.Need-part-read-call-start
+part-read-call-start c = search needs
+
+part-read-call-end : tie.Need-part-read-call-end
+part-read-call-end c = omega (arith, fits-slice (c .before .before .before .before .before .before .before .before .args .version) (c .before .before .before .before .before .before .before .before .args .card) (c .before .before .before .before .before .before .before .before .args .bytes .now) (c .before .before .before .before .kind-length .result) (c .before .before .before .line-size .result) (front (c .before .before .before .before .before .before .before .before .args .version) (c .before .before .before .before .before .before .before .before .args .card) (c .before .before .before .before .before .before .before .before .args .bytes .now) (sym (c .before .before .before .before .before .before .head-ok .ensures) ∙ c .before .before .before .before .before .if1 .taken)) (c .before .before .before .before .kind-length .ensures .0) (c .before .before .before .line-size .ensures))
+
+read-call-requires : tie.Need-read-call-requires
+read-call-requires c κs = search needs
+
+returns : tie.Need-returns
+unfolding lineCall
+returns c = c .read-call .ensures ∙ ap (callOf (c .before .before .before .before .before .before .before .before .before .before .args .version)) (call-slice (c .before .before .before .before .before .before .before .before .before .before .args .version) (c .before .before .before .before .before .before .before .before .before .before .args .card) (c .before .before .before .before .before .before .before .before .before .before .args .bytes .now) (c .before .before .before .before .before .before .kind-length .result) (c .before .before .before .before .before .before .kind-length .ensures .0)) ∙ via-true _ _ (sym (c .before .before .before .before .before .before .before .before .head-ok .ensures) ∙ c .before .before .before .before .before .before .before .if1 .taken) (via-true _ _ (ap (marksOk (c .before .before .before .before .before .before .before .before .before .before .args .version)) (sym (answer-slice (c .before .before .before .before .before .before .before .before .before .before .args .version) (c .before .before .before .before .before .before .before .before .before .before .args .card) (c .before .before .before .before .before .before .before .before .before .before .args .bytes .now) (c .before .before .before .before .before .before .kind-length .result) (c .before .before .before .before .before .line-size .result) (c .before .before .before .before .before .before .kind-length .ensures .0) (c .before .before .before .before .before .line-size .ensures))) ∙ sym (c .before .before .before .marks-ok .ensures) ∙ c .before .before .if2 .taken) refl)
+
+returns-2 : tie.Need-returns-2
+unfolding lineCall
+returns-2 c = via-true _ _ (sym (c .before .before .before .before .before .before .head-ok .ensures) ∙ c .before .before .before .before .before .if1 .taken) (via-false _ _ (ap (marksOk (c .before .before .before .before .before .before .before .before .args .version)) (sym (answer-slice (c .before .before .before .before .before .before .before .before .args .version) (c .before .before .before .before .before .before .before .before .args .card) (c .before .before .before .before .before .before .before .before .args .bytes .now) (c .before .before .before .before .kind-length .result) (c .before .before .before .line-size .result) (c .before .before .before .before .kind-length .ensures .0) (c .before .before .before .line-size .ensures))) ∙ sym (c .before .marks-ok .ensures) ∙ c .if2 .left) refl)
+
+returns-3 : tie.Need-returns-3
+unfolding lineCall
+returns-3 c = via-false _ _ (sym (c .before .head-ok .ensures) ∙ c .if1 .left) refl
+
+pub line-call-spec : {M : Type 1} → statement M
+line-call-spec =
+    tie.close
+    (tie.spec
+    head-ok-requires
+    kind-length-requires
+    add-answer
+    line-size-requires
+    sub-marks-ok
+    part-marks-ok-start
+    part-marks-ok-end
+    marks-ok-requires
+    sub-read-call
+    part-read-call-start
+    part-read-call-end
+    read-call-requires
+    returns
+    returns-2
+    returns-3)

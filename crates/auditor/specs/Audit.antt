@@ -1,0 +1,111 @@
+-- Document 01, module 8: the auditor 'reads calls from the sheet and steps its own battery'. Refusals 40 to 43, 'the lowest line wins, 42 before 43'.
+use Prim.Native.Nat.{ℕ, zero, suc, _+_, _*_}
+use mathlib.Core.Bool.{Bool, false, cond}
+use mathlib.Core.List.{List, [], _∷_}
+use lib.Dec.{leb, ltb, eqb}
+use lib.ListN.{length, take, drop, getD}
+use Rattle.codec.specs.Bytes.{beAt}
+use Rattle.card.specs.Card.{cardRefusal}
+use Rattle.card.specs.declared.Card.{Card}
+use Rattle.battery.specs.Battery.{fresh}
+use Rattle.battery.specs.declared.Battery.{Battery}
+use Rattle.battery.specs.declared.Answer.{Answer}
+use Rattle.engine.specs.Steps.{advanceOf}
+use Rattle.sheet.specs.Cards.{cardLength, cardAt}
+use Rattle.sheet.specs.Calls.{callLength, callOf}
+use Rattle.sheet.specs.Answers.{answerLength, answerAt, marksOk, agrees}
+use Rattle.sheet.specs.Lines.{lineLength, lineSize, openingLength}
+use Rattle.sheet.specs.declared.ReadCall.{ReadCall}
+use Rattle.sheet.specs.declared.ReadCall.the-variants.{Good, Bad}
+use Rattle.auditor.specs.declared.Verdict.{Verdict}
+use Rattle.auditor.specs.declared.Verdict.the-variants.{Accepted, Refused}
+
+-- of the line at the front of bs: the length that its kind gives its call
+abbrev pub lineCallLength : ℕ → List ℕ → ℕ
+lineCallLength version bs = callLength version (getD bs 2 0)
+
+-- its call's bytes, its answer's, and what lies behind it
+unfoldable pub callPart : ℕ → List ℕ → List ℕ
+callPart version bs = take (lineCallLength version bs) (drop 2 bs)
+
+unfoldable pub answerPart : ℕ → Card → List ℕ → List ℕ
+answerPart version c bs = take (answerLength version c) (drop (2 + lineCallLength version bs) bs)
+
+unfoldable pub behind : ℕ → Card → List ℕ → List ℕ
+behind version c bs = drop (lineSize version c (lineCallLength version bs)) bs
+
+-- the kind is known, the line is whole, and its length is the kind's
+unfoldable pub headOk : ℕ → Card → List ℕ → Bool
+headOk version c bs =
+    cond (leb 1 (lineCallLength version bs))
+    (cond (leb (lineSize version c (lineCallLength version bs)) (length bs))
+    (eqb (beAt bs 0 2) (lineLength version c (lineCallLength version bs)))
+    false)
+    false
+
+-- the call of the line at the front of bs, ranges aside
+unfoldable pub lineCall : ℕ → Card → List ℕ → ReadCall
+lineCall version c bs =
+    cond (headOk version c bs) (cond (marksOk version (answerPart version c bs)) (callOf version (callPart version bs)) Bad) Bad
+
+-- its answer
+abbrev pub lineAnswer : ℕ → Card → List ℕ → Answer
+lineAnswer version c bs = answerAt version c (answerPart version c bs)
+
+-- behind k lines: what the line shows against the steps' own answer, whose 10 is a field out of range
+unfoldable pub judge : ℕ → Answer → Answer → (Battery → Verdict) → Verdict
+judge k seen own go =
+    cond (eqb (own .refusal) 10)
+    (Refused 42 (k + 1))
+    (cond (agrees seen own) (go (own .battery)) (Refused 43 (k + 1)))
+
+unfoldable pub auditLine : ℕ → Battery → ℕ → Answer → ReadCall → (Battery → Verdict) → Verdict
+auditLine version b k seen Bad go = Refused 42 (k + 1)
+auditLine version b k seen (Good call) go = judge k seen (advanceOf version b call) go
+
+-- the lines from the front of bs on, k lines behind; `most` bounds how many there are
+unfoldable pub auditFrom : ℕ → Card → ℕ → Battery → ℕ → List ℕ → Verdict
+auditFrom version c zero b k bs = Accepted k
+auditFrom version c (suc most) b k [] = Accepted k
+auditFrom version c (suc most) b k (x ∷ bs) =
+    auditLine version b k (lineAnswer version c (x ∷ bs)) (lineCall version c (x ∷ bs))
+    (λ next. auditFrom version c most next (k + 1) (behind version c (x ∷ bs)))
+
+-- line 0's content
+abbrev pub cardPart : ℕ → List ℕ → List ℕ
+cardPart version bs = take (cardLength version) (drop 3 bs)
+
+-- '41 card line missing, of wrong length or refused'
+unfoldable pub cardLineOk : ℕ → List ℕ → Bool
+cardLineOk version bs =
+    cond (leb (openingLength version) (length bs))
+    (cond (eqb (beAt bs 1 2) (cardLength version))
+    (eqb (cardRefusal version (cardAt version (cardPart version bs))) 0)
+    false)
+    false
+
+-- the call lines, from the card's fresh battery on
+unfoldable pub auditLines : ℕ → Card → List ℕ → Verdict
+auditLines version c bs = auditFrom version c (length bs) (fresh c) 0 bs
+
+-- '40 no first byte or not 1 (index 0)'
+unfoldable pub auditOf : List ℕ → Verdict
+auditOf bs =
+    cond (eqb (getD bs 0 0) 1)
+    (cond (cardLineOk 1 bs)
+    (auditLines 1 (cardAt 1 (cardPart 1 bs)) (drop (openingLength 1) bs))
+    (Refused 41 0))
+    (Refused 40 0)
+
+-- the most bytes that the program and the C audit take
+abbrev pub limit : ℕ
+limit = 65536
+
+-- '44 more than 65,536 bytes, from the program and the C audit only (index 0, tested first)'
+unfoldable pub limitedAuditOf : List ℕ → Verdict
+limitedAuditOf bs = cond (ltb limit (length bs)) (Refused 44 0) (auditOf bs)
+
+-- document 01's numbers: 'K × 256 + R, or N × 256 when it accepts'
+unfoldable pub verdictWord : Verdict → ℕ
+verdictWord (Accepted n) = n * 256
+verdictWord (Refused r k) = k * 256 + r

@@ -1,0 +1,5 @@
+pub mod Audit
+pub mod Bound
+pub mod Sheet
+pub mod Cases
+pub mod Claims

@@ -1,0 +1,88 @@
+// Laboratory B's auditor: it reads calls from the sheet and steps its own battery.
+pub mod lines;
+
+ghost use mathlib.Core.Path.{_≡_};
+ghost use Rattle.auditor.specs.Audit.{cardLineOk, auditOf, limit, limitedAuditOf, verdictWord};
+ghost use Rattle.auditor.specs.Bound.{IndexAtMost};
+
+// The lines that agree, or the refusal and the line's index.
+pub enum Verdict {
+    Accepted(usize),
+    Refused(u8, usize),
+}
+
+// The only version known.
+const VERSION: u8 = 1;
+
+// Document 01's refusals of a sheet.
+pub const NO_VERSION: u8 = 40;
+
+pub const NO_CARD: u8 = 41;
+
+pub const BAD_LINE: u8 = 42;
+
+pub const DISAGREES: u8 = 43;
+
+pub const TOO_LONG: u8 = 44;
+
+// The most bytes that the program and the C audit take.
+const LIMIT: usize = 65536;
+
+// Line 0 is there in its length, and its card is accepted: refusal 41's test.
+fn card_line_ok(version: u8, sheet: &[u8]) -> bool
+    ensures { λ r. ⌜ r ≡ cardLineOk version (now (sheet .entry)) ⌝ }
+{
+    let end = sheet::lines::opening_length(version);
+    if end <= sheet.len() {
+        let n = sheet::cards::card_length(version) as u64;
+        if codec::read_be(sheet, 1, 2) == n {
+            let card = sheet::cards::read_card(version, &sheet[3..end]);
+            return card::refusal(version, card) == 0;
+        }
+        return false;
+    }
+    false
+}
+
+// The audit, for a sheet of any length.
+pub fn audit(sheet: &[u8]) -> Verdict
+    ensures { λ r. ⌜ r ≡ auditOf (now (sheet .entry)) ⌝ }
+{
+    if codec::byte_or_zero(sheet, 0) == VERSION {
+        if card_line_ok(VERSION, sheet) {
+            let end = sheet::lines::opening_length(VERSION);
+            let card = sheet::cards::read_card(VERSION, &sheet[3..end]);
+            return lines::audit_lines(VERSION, card, &sheet[end..]);
+        }
+        return Verdict::Refused(NO_CARD, 0);
+    }
+    Verdict::Refused(NO_VERSION, 0)
+}
+
+// The program's and the C entry's audit: 44 beyond the limit.
+pub fn audit_limited(sheet: &[u8]) -> Verdict
+    ensures { λ r. ⌜ r ≡ limitedAuditOf (now (sheet .entry)) ⌝ }
+{
+    if LIMIT < sheet.len() {
+        return Verdict::Refused(TOO_LONG, 0);
+    }
+    audit(sheet)
+}
+
+// Document 01: 'K × 256 + R, or N × 256 when it accepts'.
+fn verdict_word(v: Verdict) -> u64
+    requires { ⌜ IndexAtMost limit v ⌝ }
+    ensures { λ r. ⌜ r ≡ verdictWord v ⌝ }
+{
+    match v {
+        Verdict::Accepted(n) => (n as u64) * 256,
+        Verdict::Refused(r, k) => (k as u64) * 256 + (r as u64),
+    }
+}
+
+// That word for a sheet.
+pub fn limited_audit_word(sheet: &[u8]) -> u64
+    ensures { λ r. ⌜ r ≡ verdictWord (limitedAuditOf (now (sheet .entry))) ⌝ }
+{
+    verdict_word(audit_limited(sheet))
+}

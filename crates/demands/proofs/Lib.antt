@@ -1,0 +1,3 @@
+pub mod Spared
+pub mod Lined
+pub mod AList

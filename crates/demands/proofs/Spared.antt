@@ -1,0 +1,43 @@
+-- The calls that 10 and 11 spare are calls of a known kind, in their ranges.
+use Prim.Native.Nat.{ℕ}
+use mathlib.Core.Path.{_≡_, refl, subst}
+use mathlib.Core.List.{List, [], _∷_}
+use mathlib.Core.Bool.{true}
+use lib.ListN.{length, drop}
+use Rattle.card.specs.declared.Card.{Card}
+use Rattle.battery.specs.Call.{callInRange}
+use Rattle.battery.specs.declared.Battery.{Battery}
+use Rattle.battery.specs.declared.Call.{Call}
+use Rattle.engine.specs.Steps.{stepOf}
+use Rattle.engine.proofs.StepKeeps.{step-keeps-card}
+use Rattle.sheet.specs.Calls.{callOf}
+use Rattle.sheet.specs.Records.{recordBytes}
+use Rattle.sheet.specs.Lines.{lineBytes}
+use Rattle.sheet.specs.declared.ReadCall.the-variants.{Good}
+use Rattle.heat_battery.specs.Entry.{unchanged}
+use Rattle.heat_battery.specs.Lists.{noLine, spared, Encoded}
+use Rattle.heat_battery.proofs.Encodings.{lined, Entered, kept-10, kept-11, stepped, entry-on-encoding, step-encoded, gets-line, free-behind}
+use Rattle.heat_battery.proofs.EqualSteps.{spared-more, nothing-used}
+
+-- each of the calls is read, and its fields are in range
+abbrev pub AllGood : Card → List (List ℕ) → Type 0
+AllGood c [] = Unit
+AllGood c (call ∷ calls) = ((d : Call) × (callOf 1 call ≡ Good d) × (callInRange 1 c d ≡ true)) × AllGood c calls
+
+module _ (card : List ℕ) where
+  pub spared-good : (calls : List (List ℕ)) (b : Battery) (rec free : List ℕ) → Encoded 1 card b rec → AllGood (b .card) (spared 1 rec free calls)
+  unfolding spared noLine
+  spared-good [] b rec free e = tt
+  spared-good (call ∷ calls) b rec free e = on (λ b′ rec′ free′ h. spared-good calls b′ rec′ free′ h) (entry-on-encoding 1 card b rec e call free)
+    where
+      on : ((b′ : Battery) (rec′ free′ : List ℕ) → Encoded 1 card b′ rec′ → AllGood (b′ .card) (spared 1 rec′ free′ calls)) → Entered 1 card b rec call free
+          → AllGood (b .card) (spared 1 rec free (call ∷ calls))
+      on ih (kept-10 h) = rw (spared-more 1 rec call free calls (unchanged 10 rec free) h, nothing-used rec free 10 refl) (ih b rec free e)
+      on ih (kept-11 h) = rw (spared-more 1 rec call free calls (unchanged 11 rec free) h, nothing-used rec free 11 refl) (ih b rec free e)
+      on ih (stepped d k i h) =
+          let s = stepOf 1 b d in
+          let rec′ = recordBytes 1 card (s .battery) in
+          let free′ = drop (length (lineBytes 1 call s)) free in
+          let others : AllGood (b .card) (spared 1 rec′ free′ calls) =
+          subst (λ (x : Card). AllGood x (spared 1 rec′ free′ calls)) (step-keeps-card 1 b d) (ih (s .battery) rec′ free′ (step-encoded 1 card b rec e d)) in
+          rw (spared-more 1 rec call free calls (lined 1 card call free s) h, gets-line 1 card b rec e call free d k, free-behind 1 card b rec e call free d k) ((d, k, i), others)

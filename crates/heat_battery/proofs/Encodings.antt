@@ -1,0 +1,117 @@
+-- A call on the encoding of a good battery leaves the encoding of the battery that the step leaves.
+use mathlib.Core.Path.{_≡_, refl, sym, ap, _∙_}
+use mathlib.Core.Logic.{_⊎_, inl, inr}
+use mathlib.Core.List.{List}
+use mathlib.Core.Bool.{true, false}
+use Prim.Native.Nat.{ℕ, _+_, _≤_, _<_}
+use native.Mathlib.Decide.{ℕ-discrete}
+use native.Mathlib.Omega.{arith}
+use borrow.Author.Tests.{eq-eqb, ne-eqb}
+use lib.ListN.{length, take, drop, getD}
+use lib.Seq.{take-at}
+use Rattle.codec.specs.Bytes.{over}
+use Rattle.card.specs.declared.Card.{Card}
+use Rattle.battery.specs.declared.Battery.{Battery}
+use Rattle.battery.specs.declared.Call.{Call}
+use Rattle.battery.specs.declared.Answer.{Answer}
+use Rattle.battery.specs.Call.{callInRange}
+use Rattle.engine.specs.Steps.{stepOf}
+use Rattle.sheet.specs.Cards.{cardLength, cardAt}
+use Rattle.sheet.specs.Records.{recordOf, stateBytes, recordBytes}
+use Rattle.sheet.specs.Calls.{callOf}
+use Rattle.sheet.specs.Lines.{lineLength, lineSize, lineBytes}
+use Rattle.sheet.specs.declared.ReadCall.the-variants.{Good}
+use Rattle.sheet.proofs.Lengths.{length-lineBytes}
+use Rattle.sheet.proofs.Good.{good-layers}
+use Rattle.sheet.proofs.AnswerBack.{record-back, card-front}
+use Rattle.sheet.proofs.CallLaws.{call-length, call-short, line-fits}
+use Rattle.sheet.proofs.LineLaws.{line-says, line-behind}
+use Rattle.heat_battery.specs.Entry.{After, unchanged, renewed, entered, entryOf}
+use Rattle.heat_battery.specs.Lists.{noLine, lineTaken, freeBehind, answerRead, answerTo, Encoded}
+use Rattle.heat_battery.proofs.CallCases.{CallWay, ten, eleven, line, call-way}
+use Rattle.engine.proofs.StepKeeps.{step-refusals, step-keeps-card, refused-keeps-state, step-keeps-good}
+
+-- the entry's line for an answer, with the record as the answer's encoding
+abbrev pub lined : ℕ → List ℕ → List ℕ → List ℕ → Answer → After
+lined version card call free s = record { code = s .refusal; record' = recordBytes version card (s .battery); sheet = over (lineBytes version call s) free }
+
+-- a call on an encoding: no line and no change, or the step's line and encoding
+pub data Entered (version : ℕ) (card : List ℕ) (b : Battery) (rec call free : List ℕ) : Type 0 where
+  kept-10 : entryOf version rec call free ≡ unchanged 10 rec free → Entered version card b rec call free
+  kept-11 : entryOf version rec call free ≡ unchanged 11 rec free → Entered version card b rec call free
+  stepped : (c : Call) → callOf version call ≡ Good c → callInRange version (b .card) c ≡ true → entryOf version rec call free ≡ lined version card call free (stepOf version b c) → Entered version card b rec call free
+
+module _ (version : ℕ) (card : List ℕ) (b : Battery) (rec : List ℕ) (e : Encoded version card b rec) where
+  read-back : recordOf version rec ≡ b
+  read-back = ap (recordOf version) (e .bytes) ∙ record-back version card b (e .long) (e .card-read) (e .good)
+
+  -- the record's card is the battery's
+  card-is : cardAt version rec ≡ b .card
+  unfolding recordBytes
+  card-is = ap (cardAt version) (e .bytes) ∙ card-front version card (stateBytes version b) (e .long) ∙ e .card-read
+
+  renewed-is : (c : Call) → renewed version rec (stepOf version b c) ≡ recordBytes version card (stepOf version b c .battery)
+  renewed-is c = on (ℕ-discrete (stepOf version b c .refusal) 0)
+    where
+      front : take (cardLength version) rec ≡ card
+      front = ap (take (cardLength version)) (e .bytes) ∙ (unfold recordBytes in take-at card (stateBytes version b) (cardLength version) (e .long))
+
+      on : Dec (stepOf version b c .refusal ≡ 0) → renewed version rec (stepOf version b c) ≡ recordBytes version card (stepOf version b c .battery)
+      on (yes z) = unfold renewed in rw (eq-eqb (stepOf version b c .refusal) 0 z, front)
+      on (no n) = unfold renewed in rw (ne-eqb (stepOf version b c .refusal) 0 n) (e .bytes ∙ ap (recordBytes version card) (sym (refused-keeps-state version b c n)))
+
+  pub entry-on-encoding : (call free : List ℕ) → Entered version card b rec call free
+  entry-on-encoding call free = on (call-way version rec call free)
+    where
+      on : CallWay version rec call free (entryOf version rec call free) → Entered version card b rec call free
+      on (ten x h) = kept-10 h
+      on (eleven x h) = kept-11 h
+      on (line x c k h) =
+          let s : stepOf version (recordOf version rec) c ≡ stepOf version b c = ap (λ (y : Battery). stepOf version y c) read-back in
+          stepped c k (ap (λ (y : Card). callInRange version y c) (sym card-is) ∙ x .call-good .in-range c k)
+          (h ∙ ap (entered version rec call free) s
+          ∙ ap (λ (y : List ℕ). record { code = stepOf version b c .refusal; record' = y; sheet = over (lineBytes version call (stepOf version b c)) free }) (renewed-is c))
+
+  -- the encoding after the step
+  pub step-encoded : (c : Call) → Encoded version card (stepOf version b c .battery) (recordBytes version card (stepOf version b c .battery))
+  step-encoded c =
+      record { long = e .long; card-read = e .card-read ∙ sym (step-keeps-card version b c); good = step-keeps-good version b c (e .good); bytes = refl }
+
+  -- what the line takes of the lent part
+  module _ (call free : List ℕ) (c : Call) (k : callOf version call ≡ Good c) where
+    abbrev s : Answer
+    s = stepOf version b c
+
+    has-line : noLine (lined version card call free s) ≡ false
+    has-line = on (step-refusals version b c)
+      where
+        on : (s .refusal ≡ 0) ⊎ ((20 ≤ s .refusal) × (s .refusal ≤ 25)) → noLine (lined version card call free s) ≡ false
+        on (inl z) = unfold noLine in rw (ne-eqb (s .refusal) 10 (λ h. omega arith), ne-eqb (s .refusal) 11 (λ h. omega arith))
+        on (inr z) = unfold noLine in rw (ne-eqb (s .refusal) 10 (λ h. omega arith), ne-eqb (s .refusal) 11 (λ h. omega arith))
+
+    fits-line : lineLength version (s .battery .card) (length call) < 65536
+    fits-line =
+        line-fits version (s .battery .card) (length call) (rw (step-keeps-card version b c) (good-layers version b (e .good)))
+        (omega (arith, call-length version call c k, call-short version (getD call 0 0)))
+
+    takes-line : lineTaken (lined version card call free s) ≡ lineSize version (s .battery .card) (length call)
+    unfolding lineTaken over lineSize
+    takes-line = rw has-line (ap (λ (n : ℕ). 2 + n) (line-says version call s (drop (length (lineBytes version call s)) free) fits-line))
+
+    pub line-taken : take (lineTaken (lined version card call free s)) (lined version card call free s .sheet) ≡ lineBytes version call s
+    line-taken =
+        ap (λ (n : ℕ). take n (over (lineBytes version call s) free)) takes-line
+        ∙ (unfold over in take-at (lineBytes version call s) (drop (length (lineBytes version call s)) free) (lineSize version (s .battery .card) (length call)) (length-lineBytes version call s))
+
+    pub free-behind : freeBehind (lined version card call free s) ≡ drop (length (lineBytes version call s)) free
+    unfolding freeBehind
+    free-behind =
+        ap (λ (n : ℕ). drop n (over (lineBytes version call s) free)) takes-line
+        ∙ (unfold over in line-behind version call s (drop (length (lineBytes version call s)) free))
+
+    pub gets-line : noLine (lined version card call free s) ≡ false
+    gets-line = has-line
+
+    pub answer-is : answerTo version b call ≡ s
+    unfolding answerTo answerRead
+    answer-is = rw k

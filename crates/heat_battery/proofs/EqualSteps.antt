@@ -1,0 +1,183 @@
+-- Equal to the steps: after every list of calls the record and each line are the encodings of the steps' state and answer.
+use mathlib.Core.Path.{_≡_, refl, sym, ap, _∙_}
+use mathlib.Core.List.{List, [], _∷_, _++_}
+use mathlib.Core.Bool.{true, false, cond}
+use Prim.Native.Nat.{ℕ, _+_}
+use lib.ListN.{length, take, drop, length-append}
+use lib.Seq.{drop-drop, take-at}
+use lib.Ieee.{binary64}
+use lib.Ieee.Bits.{ofBits-fits}
+use Rattle.codec.specs.Bytes.{f64Of, over}
+use Rattle.battery.specs.declared.Battery.{Battery}
+use Rattle.battery.specs.declared.Answer.{Answer}
+use Rattle.battery.specs.Battery.{fresh}
+use Rattle.engine.specs.Steps.{stepOf}
+use Rattle.sheet.specs.Cards.{cardAt}
+use Rattle.sheet.specs.Records.{recordBytes}
+use Rattle.sheet.specs.Lines.{lineBytes, openingLength, openingBytes}
+use Rattle.heat_battery.specs.Entry.{After, unchanged, openedWith, openOf, entryOf}
+use Rattle.heat_battery.specs.Cases.{AcceptedBytes, Opens}
+use Rattle.heat_battery.specs.Lists.{noLine, lineTaken, freeBehind, recordAfter, freeAfter, written, spared, sheetOf, behindSheet, sparedOf, lastRecord, answerTo, stateAfter, stepLines, Encoded, SameAsSteps, SheetOfSteps}
+use Rattle.sheet.proofs.Lengths.{length-openingBytes}
+use Rattle.sheet.proofs.LineLaws.{opening-behind}
+use Rattle.heat_battery.proofs.Opening.{opened}
+use Rattle.heat_battery.proofs.Encodings.{lined, Entered, kept-10, kept-11, stepped, entry-on-encoding, step-encoded, gets-line, line-taken, free-behind, answer-is}
+use Rattle.battery.proofs.FreshGood.{fresh-good}
+
+-- the folds over one call more, by what its entry left
+module _ (version : ℕ) (rec call free : List ℕ) (calls : List (List ℕ)) (a : After) (e : entryOf version rec call free ≡ a) where
+  record-more : recordAfter version rec free (call ∷ calls) ≡ recordAfter version (a .record') (freeBehind a) calls
+  unfolding recordAfter
+  record-more = ap (λ (x : After). recordAfter version (x .record') (freeBehind x) calls) e
+
+  free-more : freeAfter version rec free (call ∷ calls) ≡ freeAfter version (a .record') (freeBehind a) calls
+  unfolding freeAfter
+  free-more = ap (λ (x : After). freeAfter version (x .record') (freeBehind x) calls) e
+
+  written-more : written version rec free (call ∷ calls) ≡ take (lineTaken a) (a .sheet) ++ written version (a .record') (freeBehind a) calls
+  unfolding written
+  written-more = ap (λ (x : After). take (lineTaken x) (x .sheet) ++ written version (x .record') (freeBehind x) calls) e
+
+  pub spared-more : spared version rec free (call ∷ calls) ≡ cond (noLine a) (spared version (a .record') (freeBehind a) calls) (call ∷ spared version (a .record') (freeBehind a) calls)
+  unfolding spared
+  spared-more = ap (λ (x : After). cond (noLine x) (spared version (x .record') (freeBehind x) calls) (call ∷ spared version (x .record') (freeBehind x) calls)) e
+
+-- ---- a list of calls
+
+nothing-taken : (rec free : List ℕ) (n : ℕ) → noLine (unchanged n rec free) ≡ true → lineTaken (unchanged n rec free) ≡ 0
+unfolding lineTaken
+nothing-taken rec free n t = rw t
+
+pub nothing-used : (rec free : List ℕ) (n : ℕ) → noLine (unchanged n rec free) ≡ true → freeBehind (unchanged n rec free) ≡ free
+unfolding freeBehind
+nothing-used rec free n t = rw (nothing-taken rec free n t)
+
+module _ (version : ℕ) (card : List ℕ) (b : Battery) (rec call free : List ℕ) (calls : List (List ℕ)) where
+  -- a call that 10 or 11 refuses leaves everything to the others
+  skipped : (n : ℕ) → noLine (unchanged n rec free) ≡ true → entryOf version rec call free ≡ unchanged n rec free → SameAsSteps version card b rec free calls
+      → SameAsSteps version card b rec free (call ∷ calls)
+  skipped n t e h =
+      let a = unchanged n rec free in
+      let z = nothing-taken rec free n t in
+      let f = nothing-used rec free n t in
+      let w : written version rec free (call ∷ calls) ≡ written version rec free calls = written-more version rec call free calls a e ∙ rw (z, f) in
+      let s : spared version rec free (call ∷ calls) ≡ spared version rec free calls = spared-more version rec call free calls a e ∙ rw (t, f) in
+      let r : recordAfter version rec free (call ∷ calls) ≡ recordAfter version rec free calls = record-more version rec call free calls a e ∙ rw f in
+      let k : freeAfter version rec free (call ∷ calls) ≡ freeAfter version rec free calls = free-more version rec call free calls a e ∙ rw f in
+      record {
+        lines = w ∙ h .lines ∙ ap (stepLines version b) (sym s);
+        encoded = rw (s, r) (h .encoded);
+        behind = k ∙ h .behind ∙ ap (λ (x : List ℕ). drop (length x) free) (sym w);
+      }
+
+  -- a call that gets its line, before the others
+  module _ (s : Answer) (answered : answerTo version b call ≡ s) (e : entryOf version rec call free ≡ lined version card call free s)
+      (has : noLine (lined version card call free s) ≡ false) (taken : take (lineTaken (lined version card call free s)) (lined version card call free s .sheet) ≡ lineBytes version call s)
+      (behind : freeBehind (lined version card call free s) ≡ drop (length (lineBytes version call s)) free) where
+    abbrev a : After
+    a = lined version card call free s
+
+    abbrev l : List ℕ
+    l = lineBytes version call s
+
+    abbrev rec′ : List ℕ
+    rec′ = recordBytes version card (s .battery)
+
+    abbrev free′ : List ℕ
+    free′ = drop (length l) free
+
+    lines-more : (cs : List (List ℕ)) → stepLines version b (call ∷ cs) ≡ l ++ stepLines version (s .battery) cs
+    unfolding stepLines
+    lines-more cs = ap (λ (x : Answer). lineBytes version call x ++ stepLines version (x .battery) cs) answered
+
+    state-more : (cs : List (List ℕ)) → stateAfter version b (call ∷ cs) ≡ stateAfter version (s .battery) cs
+    unfolding stateAfter
+    state-more cs = ap (λ (x : Answer). stateAfter version (x .battery) cs) answered
+
+    lined-first : SameAsSteps version card (s .battery) rec′ free′ calls → SameAsSteps version card b rec free (call ∷ calls)
+    lined-first h =
+        let w : written version rec free (call ∷ calls) ≡ l ++ written version rec′ free′ calls = written-more version rec call free calls a e ∙ rw (taken, behind) in
+        let p : spared version rec free (call ∷ calls) ≡ call ∷ spared version rec′ free′ calls = spared-more version rec call free calls a e ∙ rw (has, behind) in
+        let r : recordAfter version rec free (call ∷ calls) ≡ recordAfter version rec′ free′ calls = record-more version rec call free calls a e ∙ rw behind in
+        let k : freeAfter version rec free (call ∷ calls) ≡ freeAfter version rec′ free′ calls = free-more version rec call free calls a e ∙ rw behind in
+        let n : length l + length (written version rec′ free′ calls) ≡ length (written version rec free (call ∷ calls)) = sym (ap length w ∙ simp length-append) in
+        record {
+          lines = w ∙ ap (λ (x : List ℕ). l ++ x) (h .lines) ∙ sym (ap (stepLines version b) p ∙ lines-more (spared version rec′ free′ calls));
+          encoded = rw (p, r, state-more (spared version rec′ free′ calls)) (h .encoded);
+          behind = k ∙ h .behind ∙ drop-drop (length (written version rec′ free′ calls)) (length l) free ∙ ap (λ (x : ℕ). drop x free) n;
+        }
+
+pub equal-to-steps : (version : ℕ) (card : List ℕ) (calls : List (List ℕ)) (b : Battery) (rec free : List ℕ) → Encoded version card b rec
+    → SameAsSteps version card b rec free calls
+unfolding written spared recordAfter freeAfter stepLines stateAfter noLine
+equal-to-steps version card [] b rec free e = record { lines = refl; encoded = e; behind = refl }
+equal-to-steps version card (call ∷ calls) b rec free e = on (λ b′ rec′ free′ h. equal-to-steps version card calls b′ rec′ free′ h) (entry-on-encoding version card b rec e call free)
+  where
+    on : ((b′ : Battery) (rec′ free′ : List ℕ) → Encoded version card b′ rec′ → SameAsSteps version card b′ rec′ free′ calls) → Entered version card b rec call free
+        → SameAsSteps version card b rec free (call ∷ calls)
+    on ih (kept-10 h) = skipped version card b rec call free calls 10 refl h (ih b rec free e)
+    on ih (kept-11 h) = skipped version card b rec call free calls 11 refl h (ih b rec free e)
+    on ih (stepped c k i h) =
+        let s = stepOf version b c in
+        lined-first version card b rec call free calls s (answer-is version card b rec e call free c k) h (gets-line version card b rec e call free c k) (line-taken version card b rec e call free c k)
+        (free-behind version card b rec e call free c k)
+        (ih (s .battery) (recordBytes version card (s .battery)) (drop (length (lineBytes version call s)) free) (step-encoded version card b rec e c))
+
+-- ---- from opening on
+
+-- a fresh battery of an accepted card is encoded by its record
+pub fresh-encoded : (version : ℕ) (card : List ℕ) → AcceptedBytes version card → Encoded version card (fresh (cardAt version card)) (recordBytes version card (fresh (cardAt version card)))
+unfolding fresh cardAt f64Of
+fresh-encoded version card h =
+    record { long = h .long; card-read = refl; good = fresh-good version (cardAt version card) (h .accepted) (ofBits-fits binary64 _); bytes = refl }
+
+module _ (version : ℕ) (card rec free : List ℕ) (h : Opens version card rec free) where
+  abbrev first : List ℕ
+  first = openingBytes version card
+
+  is-opened : openOf version card rec free ≡ openedWith version card free
+  is-opened = opened version card rec free (h .card-good .long) (h .card-good .accepted) (h .long) (h .room)
+
+  opening-taken : take (openingLength version) (over first free) ≡ first
+  unfolding over
+  opening-taken = take-at first (drop (length first) free) (openingLength version) (length-openingBytes version card (h .card-good .long))
+
+  opening-left : drop (openingLength version) (over first free) ≡ drop (length first) free
+  unfolding over
+  opening-left = opening-behind version card (drop (length first) free) (h .card-good .long)
+
+  module _ (calls : List (List ℕ)) where
+    abbrev b : Battery
+    b = fresh (cardAt version card)
+
+    abbrev r : List ℕ
+    r = recordBytes version card b
+
+    abbrev left : List ℕ
+    left = drop (length first) free
+
+    sheet-is : sheetOf version card rec free calls ≡ first ++ written version r left calls
+    unfolding sheetOf
+    sheet-is = rw (is-opened, opening-taken, opening-left)
+
+    pub spared-is : sparedOf version card rec free calls ≡ spared version r left calls
+    unfolding sparedOf
+    spared-is = rw (is-opened, opening-left)
+
+    record-is : lastRecord version card rec free calls ≡ recordAfter version r left calls
+    unfolding lastRecord
+    record-is = rw (is-opened, opening-left)
+
+    behind-is : behindSheet version card rec free calls ≡ freeAfter version r left calls
+    unfolding behindSheet
+    behind-is = rw (is-opened, opening-left)
+
+    pub sheet-equal-to-steps : SheetOfSteps version card rec free calls
+    sheet-equal-to-steps =
+        let s = equal-to-steps version card calls b r left (fresh-encoded version card (h .card-good)) in
+        let n : length first + length (written version r left calls) ≡ length (sheetOf version card rec free calls) = sym (ap length sheet-is ∙ simp length-append) in
+        record {
+          sheet = sheet-is ∙ ap (λ (x : List ℕ). first ++ x) (s .lines ∙ ap (stepLines version b) (sym spared-is));
+          encoded = rw (spared-is, record-is) (s .encoded);
+          behind = behind-is ∙ s .behind ∙ drop-drop (length (written version r left calls)) (length first) free ∙ ap (λ (x : ℕ). drop x free) n;
+        }

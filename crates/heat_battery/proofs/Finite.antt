@@ -1,0 +1,72 @@
+-- A record's zones and totals are finite exactly when 10 accepts the battery that is read from it.
+use mathlib.Core.Path.{_≡_, refl, sym, ap, _∙_}
+use mathlib.Core.List.{List}
+use mathlib.Core.Bool.{true}
+use Prim.Native.Nat.{ℕ, _+_, _*_, _≤_, _<_}
+use native.Mathlib.Decide.{ℕ-discrete}
+use native.Mathlib.Omega.{arith}
+use borrow.Author.Tests.{eq-eqb}
+use Rattle.floats.specs.Standins.{finite64}
+use Rattle.codec.specs.Bytes.{nthF64}
+use Rattle.card.specs.Card.{cardRefusal}
+use Rattle.card.proofs.Accepted.{accepted-layers}
+use Rattle.battery.specs.Battery.{zonesFinite, totalsFinite, batteryAccepted}
+use Rattle.battery.proofs.Zones.{zones-finite-of}
+use Rattle.sheet.specs.Cards.{cardLength, cardAt}
+use Rattle.sheet.specs.Records.{zonesAt, stateAt, recordOf}
+use Rattle.sheet.proofs.Good.{zone-finite, accepted-battery}
+use Rattle.sheet.proofs.Back.{zonesAt-below}
+use Rattle.heat_battery.specs.Cases.{GoodRecord}
+use Rattle.heat_battery.proofs.Calling.{LaidRecord}
+
+-- what holds of 0 to 4
+five : (P : ℕ → Type 0) → P 0 → P 1 → P 2 → P 3 → P 4 → (i : ℕ) → i < 5 → P i
+five P p₀ p₁ p₂ p₃ p₄ i h = on (ℕ-discrete i 0) (ℕ-discrete i 1) (ℕ-discrete i 2) (ℕ-discrete i 3)
+  where
+    on : Dec (i ≡ 0) → Dec (i ≡ 1) → Dec (i ≡ 2) → Dec (i ≡ 3) → P i
+    on (yes e) b c d = rw e p₀
+    on (no a) (yes e) c d = rw e p₁
+    on (no a) (no b) (yes e) d = rw e p₂
+    on (no a) (no b) (no c) (yes e) = rw e p₃
+    on (no a) (no b) (no c) (no d) = let e : i ≡ 4 = omega arith in rw e p₄
+
+pub record-card : (version : ℕ) (rec : List ℕ) → recordOf version rec .card ≡ cardAt version rec
+unfolding recordOf stateAt
+record-card version rec = refl
+
+module _ (version : ℕ) (rec : List ℕ) (l : LaidRecord version rec) where
+  abbrev n : ℕ
+  n = cardAt version rec .layers
+
+  few : n ≤ 64
+  few = accepted-layers version (cardAt version rec) (l .card-accepted) .1
+
+  pub accepted-good : batteryAccepted version (recordOf version rec) ≡ true → GoodRecord version rec
+  unfolding recordOf stateAt
+  accepted-good h =
+      let a = accepted-battery version (recordOf version rec) h in
+      record {
+        card-there = l .card-there;
+        card-accepted = l .card-accepted;
+        long = l .long;
+        zones = λ i k. ap finite64 (sym (zonesAt-below rec (cardLength version) n i few k)) ∙ zone-finite (zonesAt rec (cardLength version) n) n (a .zones) i k;
+        totals =
+            five (λ (i : ℕ). finite64 (nthF64 rec (cardLength version + 8 * n) i) ≡ true) (a .total) (a .pump) (a .direct) (a .charged) (a .electric);
+      }
+
+  pub good-accepted : GoodRecord version rec → batteryAccepted version (recordOf version rec) ≡ true
+  unfolding recordOf stateAt batteryAccepted totalsFinite
+  good-accepted g =
+      let t : (i : ℕ) → i < 5 → finite64 (nthF64 rec (cardLength version + 8 * n) i) ≡ true = g .totals in
+      let z : zonesFinite (zonesAt rec (cardLength version) n) n ≡ true =
+      zones-finite-of (zonesAt rec (cardLength version) n) n (λ i k. ap finite64 (zonesAt-below rec (cardLength version) n i few k) ∙ g .zones i k) in
+      rw (
+        eq-eqb (cardRefusal version (cardAt version rec)) 0 (l .card-accepted),
+        eq-eqb n n refl,
+        z,
+        t 0 (omega arith),
+        t 1 (omega arith),
+        t 2 (omega arith),
+        t 3 (omega arith),
+        t 4 (omega arith),
+      )

@@ -1,0 +1,12 @@
+pub mod Opening
+pub mod Calling
+pub mod Finite
+pub mod CallCases
+pub mod Encodings
+pub mod EqualSteps
+pub mod GoodAnswers
+pub mod DemandCases
+pub mod CallNumbers
+pub mod CardCases
+pub mod OpenCases
+pub mod OwnRecord

@@ -1,0 +1,20 @@
+-- The caller's own record: a refused call leaves it as it was, places above the count too.
+use Prim.Native.Nat.{ℕ}
+use mathlib.Core.Path.{_≡_, refl}
+use mathlib.Core.List.{List}
+use Rattle.battery.specs.Answer.{refusedWith}
+use Rattle.battery.specs.declared.Battery.{Battery}
+use Rattle.engine.proofs.AdvanceKeeps.{advance-refused-keeps-state}
+use Rattle.sheet.specs.Calls.{callOf}
+use Rattle.sheet.specs.declared.ReadCall.{ReadCall}
+use Rattle.sheet.specs.declared.ReadCall.the-variants.{Good, Bad}
+use Rattle.heat_battery.specs.Record.{shownOf, advancedBy, advancedRead, advancedOf}
+
+read-stays : (version : ℕ) (b : Battery) (r : ReadCall) → (advancedRead version b r .shown .refusal ≡ 0 → ⊥) → advancedRead version b r .battery ≡ b
+unfolding advancedRead advancedBy shownOf refusedWith
+read-stays version b Bad h = refl
+read-stays version b (Good call) h = advance-refused-keeps-state version b call h
+
+pub refused-record-stays : (version : ℕ) (b : Battery) (call : List ℕ) → (advancedOf version b call .shown .refusal ≡ 0 → ⊥) → advancedOf version b call .battery ≡ b
+unfolding advancedOf
+refused-record-stays version b call h = read-stays version b (callOf version call) h

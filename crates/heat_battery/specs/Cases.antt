@@ -1,0 +1,128 @@
+-- Document 01, 'Who can cause a refusal': the case of each number that A's entries give before a step runs, apart from what the entries compute.
+use Prim.Native.Nat.{ℕ, _+_, _*_, _≤_, _<_}
+use mathlib.Core.Path.{_≡_}
+use mathlib.Core.Logic.{_⊎_}
+use mathlib.Core.List.{List}
+use mathlib.Core.Bool.{true, false}
+use lib.ListN.{length}
+use lib.Ieee.{Float, lt, le}
+use Rattle.floats.specs.Constants.{maxRelative, tolerance, ratedAmbient}
+use Rattle.floats.specs.Standins.{finite64, nearlyEqual}
+use Rattle.codec.specs.Bytes.{nthF64}
+use Rattle.card.specs.Card.{cardInRange, cardRefusal}
+use Rattle.card.specs.declared.Card.{Card}
+use Rattle.battery.specs.Call.{callInRange}
+use Rattle.battery.specs.declared.Call.{Call}
+use Rattle.battery.specs.declared.Call.the-variants.{DemandEnergy}
+use Rattle.battery.specs.declared.Demand.{Demand}
+use Rattle.battery.specs.declared.Given.the-variants.{Absent, Value}
+use Rattle.sheet.specs.Cards.{cardLength, cardAt}
+use Rattle.sheet.specs.Records.{recordLength}
+use Rattle.sheet.specs.Calls.{callOf}
+use Rattle.sheet.specs.Lines.{openingLength, lineSize}
+use Rattle.sheet.specs.Laid.{LaidCall}
+use Rattle.sheet.specs.declared.ReadCall.the-variants.{Good}
+
+-- ---- opening: 'There a card is its bytes as in line 0 (another length is 1)'
+
+-- '1 a field not finite or out of range'
+abbrev pub OpenCase1 : ℕ → List ℕ → Type 0
+OpenCase1 version card = (length card ≡ cardLength version → ⊥) ⊎ (cardInRange (cardAt version card) ≡ false)
+
+-- a card of its length whose fields are in range
+pub record InRange (version : ℕ) (card : List ℕ) : Type 0 where
+  pub long : length card ≡ cardLength version
+  pub fields : cardInRange (cardAt version card) ≡ true
+
+-- '2 lower above upper'
+pub record OpenCase2 (version : ℕ) (card : List ℕ) : Type 0 where
+  pub in-range : InRange version card
+  pub lower-above : lt (cardAt version card .upper) (cardAt version card .lower) ≡ true
+
+-- '3 max at most 20'
+pub record OpenCase3 (version : ℕ) (card : List ℕ) : Type 0 where
+  pub in-range : InRange version card
+  pub ordered : le (cardAt version card .lower) (cardAt version card .upper) ≡ true
+  pub max-low : le (cardAt version card .max) ratedAmbient ≡ true
+
+-- '4 max below ref or nearly equal to it (epsilon 1e-10)'
+pub record OpenCase4 (version : ℕ) (card : List ℕ) : Type 0 where
+  pub in-range : InRange version card
+  pub ordered : le (cardAt version card .lower) (cardAt version card .upper) ≡ true
+  pub warm : lt ratedAmbient (cardAt version card .max) ≡ true
+  pub nothing-to-store :
+      (lt (cardAt version card .max) (cardAt version card .reference) ≡ true)
+      ⊎ (nearlyEqual (cardAt version card .max) (cardAt version card .reference) tolerance maxRelative ≡ true)
+
+-- 1 to 4 don't apply
+pub record AcceptedBytes (version : ℕ) (card : List ℕ) : Type 0 where
+  pub long : length card ≡ cardLength version
+  pub accepted : cardRefusal version (cardAt version card) ≡ 0
+
+-- 'another length of either is 10, on opening after 1 to 4'
+pub record OpenCase10 (version : ℕ) (card rec : List ℕ) : Type 0 where
+  pub card-good : AcceptedBytes version card
+  pub other-length : length rec ≡ recordLength version (cardAt version card) → ⊥
+
+-- '11 fewer free sheet bytes than the line needs (for line 0 the version byte too, after 1 to 4)'
+pub record OpenCase11 (version : ℕ) (card rec free : List ℕ) : Type 0 where
+  pub card-good : AcceptedBytes version card
+  pub long : length rec ≡ recordLength version (cardAt version card)
+  pub no-room : length free < openingLength version
+
+-- none of them
+pub record Opens (version : ℕ) (card rec free : List ℕ) : Type 0 where
+  pub card-good : AcceptedBytes version card
+  pub long : length rec ≡ recordLength version (cardAt version card)
+  pub room : openingLength version ≤ length free
+
+-- ---- a call
+
+-- a battery handed in that 10 lets through: 'its card, zones and totals as in the lines'
+pub record GoodRecord (version : ℕ) (rec : List ℕ) : Type 0 where
+  pub card-there : cardLength version ≤ length rec
+  pub card-accepted : cardRefusal version (cardAt version rec) ≡ 0
+  pub long : length rec ≡ recordLength version (cardAt version rec)
+  pub zones : (i : ℕ) → i < cardAt version rec .layers → finite64 (nthF64 rec (cardLength version) i) ≡ true
+  pub totals : (i : ℕ) → i < 5 → finite64 (nthF64 rec (cardLength version + 8 * cardAt version rec .layers) i) ≡ true
+
+-- a call that 10 lets through: laid out as its kind, and its fields in their ranges
+pub record GoodCall (version : ℕ) (card : Card) (call : List ℕ) : Type 0 where
+  pub laid : LaidCall version call
+  pub in-range : (c : Call) → callOf version call ≡ Good c → callInRange version card c ≡ true
+
+-- '10 a call field not finite or out of range .., or a battery handed in whose card 1 to 4 refuse or whose zones or totals aren't finite'
+pub data CallCase10 (version : ℕ) (rec call : List ℕ) : Type 0 where
+  bad-record : (GoodRecord version rec → ⊥) → CallCase10 version rec call
+  bad-call : (GoodCall version (cardAt version rec) call → ⊥) → CallCase10 version rec call
+
+-- 'fewer free sheet bytes than the line needs. 10 before 11'
+pub record CallCase11 (version : ℕ) (rec call free : List ℕ) : Type 0 where
+  pub record-good : GoodRecord version rec
+  pub call-good : GoodCall version (cardAt version rec) call
+  pub no-room : length free < lineSize version (cardAt version rec) (length call)
+
+-- neither 10 nor 11: the call gets a line
+pub record GetsLine (version : ℕ) (rec call free : List ℕ) : Type 0 where
+  pub record-good : GoodRecord version rec
+  pub call-good : GoodCall version (cardAt version rec) call
+  pub room : lineSize version (cardAt version rec) (length call) ≤ length free
+
+-- '20 required above 1e-10 without return temperature'
+pub record CallCase20 (version : ℕ) (rec call free : List ℕ) : Type 0 where
+  pub gets-line : GetsLine version rec call free
+  pub demand : Demand
+  pub read : callOf version call ≡ Good (DemandEnergy demand)
+  pub above : lt tolerance (demand .required) ≡ true
+  pub absent : demand .feed ≡ Absent
+
+-- '21 committed, required above 1e-10, service type 0'; '20 before 21'
+pub record CallCase21 (version : ℕ) (rec call free : List ℕ) : Type 0 where
+  pub gets-line : GetsLine version rec call free
+  pub demand : Demand
+  pub read : callOf version call ≡ Good (DemandEnergy demand)
+  pub above : lt tolerance (demand .required) ≡ true
+  pub temperature : Float
+  pub given : demand .feed ≡ Value temperature
+  pub committed : demand .commit ≡ true
+  pub combi : demand .service ≡ 0

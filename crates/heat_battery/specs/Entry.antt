@@ -1,0 +1,88 @@
+-- Document 01, module 9: what A's entries answer, and what the lent memory holds afterwards.
+use Prim.Native.Nat.{ℕ}
+use mathlib.Core.Path.{_≡_}
+use mathlib.Core.Bool.{Bool, false, cond}
+use mathlib.Core.List.{List}
+use lib.Dec.{leb, eqb}
+use lib.ListN.{length, take}
+use Rattle.codec.specs.Bytes.{over}
+use Rattle.card.specs.Card.{cardRefusal}
+use Rattle.battery.specs.Battery.{fresh}
+use Rattle.battery.specs.declared.Answer.{Answer}
+use Rattle.engine.specs.Steps.{advanceOf}
+use Rattle.sheet.specs.Cards.{cardLength, cardAt}
+use Rattle.sheet.specs.Records.{recordLength, recordOf, recordBytes}
+use Rattle.sheet.specs.Calls.{callOf}
+use Rattle.sheet.specs.Lines.{lineSize, lineBytes, openingLength, openingBytes}
+use Rattle.sheet.specs.declared.ReadCall.{ReadCall}
+use Rattle.sheet.specs.declared.ReadCall.the-variants.{Good, Bad}
+
+-- the refusal, the battery record and the lent part of the sheet afterwards
+pub record After : Type 0 where
+  pub code : ℕ
+  pub record' : List ℕ
+  pub sheet : List ℕ
+
+-- that is what an entry returned and left
+pub record WasAfter (a : After) (code : ℕ) (record' sheet : List ℕ) : Type 0 where
+  pub code-is : code ≡ a .code
+  pub record-is : record' ≡ a .record'
+  pub sheet-is : sheet ≡ a .sheet
+
+-- a refusal that changes no byte
+abbrev pub unchanged : ℕ → List ℕ → List ℕ → After
+unchanged r rec free = record { code = r; record' = rec; sheet = free }
+
+-- a fresh battery, and the version and line 0 at the front of the lent part
+abbrev pub openedWith : ℕ → List ℕ → List ℕ → After
+openedWith version card free =
+    record { code = 0; record' = recordBytes version card (fresh (cardAt version card)); sheet = over (openingBytes version card) free }
+
+-- opening: 'There a card is its bytes as in line 0 (another length is 1)', 1 to 4, then 10 for another length of the record,
+-- then 11: 'fewer free sheet bytes than the line needs (for line 0 the version byte too, after 1 to 4)'
+unfoldable pub openOf : ℕ → List ℕ → List ℕ → List ℕ → After
+openOf version card rec free =
+    let c = cardAt version card in
+    cond (eqb (length card) (cardLength version))
+    (cond (eqb (cardRefusal version c) 0)
+    (cond (eqb (length rec) (recordLength version c))
+    (cond (leb (openingLength version) (length free))
+    (openedWith version card free)
+    (unchanged 11 rec free))
+    (unchanged 10 rec free))
+    (unchanged (cardRefusal version c) rec free))
+    (unchanged 1 rec free)
+
+-- the record renewed; a refused call leaves zones and totals as they are
+unfoldable pub renewed : ℕ → List ℕ → Answer → List ℕ
+renewed version rec a = cond (eqb (a .refusal) 0) (recordBytes version (take (cardLength version) rec) (a .battery)) rec
+
+-- 'The line goes to the front of the lent part of the sheet, the battery's bytes are renewed, and the entry returns the refusal'
+abbrev pub entered : ℕ → List ℕ → List ℕ → List ℕ → Answer → After
+entered version rec call free a = record { code = a .refusal; record' = renewed version rec a; sheet = over (lineBytes version call a) free }
+
+-- '10 before 11, both before 20 to 25'
+unfoldable pub lineAfter : ℕ → List ℕ → List ℕ → List ℕ → Answer → After
+lineAfter version rec call free a =
+    cond (eqb (a .refusal) 10)
+    (unchanged 10 rec free)
+    (cond (leb (lineSize version (a .battery .card) (length call)) (length free))
+    (entered version rec call free a)
+    (unchanged 11 rec free))
+
+unfoldable pub entryRead : ℕ → List ℕ → List ℕ → List ℕ → ReadCall → After
+entryRead version rec call free Bad = unchanged 10 rec free
+entryRead version rec call free (Good c) = lineAfter version rec call free (advanceOf version (recordOf version rec) c)
+
+-- a record of a length that its accepted card gives
+unfoldable pub recordLaid : ℕ → List ℕ → Bool
+recordLaid version rec =
+    cond (leb (cardLength version) (length rec))
+    (cond (eqb (cardRefusal version (cardAt version rec)) 0)
+    (eqb (length rec) (recordLength version (cardAt version rec)))
+    false)
+    false
+
+-- a call: 10 for another length of record or call, a record that is refused, a call field that is
+unfoldable pub entryOf : ℕ → List ℕ → List ℕ → List ℕ → After
+entryOf version rec call free = cond (recordLaid version rec) (entryRead version rec call free (callOf version call)) (unchanged 10 rec free)

@@ -1,0 +1,4 @@
+pub mod Entry
+pub mod Cases
+pub mod Lists
+pub mod Record

@@ -1,0 +1,124 @@
+-- Document 01, 'What demand 3 speaks of': a list of calls on A's entries, and on the steps.
+use Prim.Native.Nat.{ℕ, _+_}
+use mathlib.Core.Path.{_≡_}
+use mathlib.Core.List.{List, [], _∷_, _++_}
+use mathlib.Core.Bool.{Bool, cond, _||_}
+use lib.Dec.{eqb}
+use lib.ListN.{length, take, drop}
+use Rattle.codec.specs.Bytes.{beAt}
+use Rattle.battery.specs.Answer.{refusedWith}
+use Rattle.battery.specs.Battery.{fresh, GoodBattery}
+use Rattle.battery.specs.declared.Battery.{Battery}
+use Rattle.battery.specs.declared.Answer.{Answer}
+use Rattle.engine.specs.Steps.{stepOf}
+use Rattle.sheet.specs.Cards.{cardLength, cardAt}
+use Rattle.sheet.specs.Records.{recordBytes}
+use Rattle.sheet.specs.Calls.{callOf}
+use Rattle.sheet.specs.Lines.{lineBytes, openingLength, openingBytes}
+use Rattle.sheet.specs.declared.ReadCall.{ReadCall}
+use Rattle.sheet.specs.declared.ReadCall.the-variants.{Good, Bad}
+use Rattle.heat_battery.specs.Entry.{After, openOf, entryOf}
+
+-- ---- the entries
+
+-- 10 or 11: no line was written
+unfoldable pub noLine : After → Bool
+noLine a = eqb (a .code) 10 || eqb (a .code) 11
+
+-- the bytes that the call's line takes at the front of the lent part, by its own length
+unfoldable pub lineTaken : After → ℕ
+lineTaken a = cond (noLine a) 0 (2 + beAt (a .sheet) 0 2)
+
+-- the free bytes behind the call's line
+unfoldable pub freeBehind : After → List ℕ
+freeBehind a = drop (lineTaken a) (a .sheet)
+
+-- 'Each gets the battery that the last one left and the free bytes behind the last line': the record, and the free bytes, after the calls
+unfoldable pub recordAfter : ℕ → List ℕ → List ℕ → List (List ℕ) → List ℕ
+recordAfter version rec free [] = rec
+recordAfter version rec free (call ∷ calls) =
+    let a = entryOf version rec call free in
+    recordAfter version (a .record') (freeBehind a) calls
+
+unfoldable pub freeAfter : ℕ → List ℕ → List ℕ → List (List ℕ) → List ℕ
+freeAfter version rec free [] = free
+freeAfter version rec free (call ∷ calls) =
+    let a = entryOf version rec call free in
+    freeAfter version (a .record') (freeBehind a) calls
+
+-- the lines that the calls left, in order
+unfoldable pub written : ℕ → List ℕ → List ℕ → List (List ℕ) → List ℕ
+written version rec free [] = []
+written version rec free (call ∷ calls) =
+    let a = entryOf version rec call free in
+    take (lineTaken a) (a .sheet) ++ written version (a .record') (freeBehind a) calls
+
+-- the calls to which neither 10 nor 11 applied, in order
+unfoldable pub spared : ℕ → List ℕ → List ℕ → List (List ℕ) → List (List ℕ)
+spared version rec free [] = []
+spared version rec free (call ∷ calls) =
+    let a = entryOf version rec call free in
+    let others = spared version (a .record') (freeBehind a) calls in
+    cond (noLine a) others (call ∷ others)
+
+-- A's sheet: 'the version, line 0 and one call line .. for each call to which neither 10 nor 11 applies'; and the free bytes behind it
+unfoldable pub sheetOf : ℕ → List ℕ → List ℕ → List ℕ → List (List ℕ) → List ℕ
+sheetOf version card rec free calls =
+    let o = openOf version card rec free in
+    take (openingLength version) (o .sheet) ++ written version (o .record') (drop (openingLength version) (o .sheet)) calls
+
+unfoldable pub behindSheet : ℕ → List ℕ → List ℕ → List ℕ → List (List ℕ) → List ℕ
+behindSheet version card rec free calls =
+    let o = openOf version card rec free in
+    freeAfter version (o .record') (drop (openingLength version) (o .sheet)) calls
+
+-- the record that A keeps then
+unfoldable pub lastRecord : ℕ → List ℕ → List ℕ → List ℕ → List (List ℕ) → List ℕ
+lastRecord version card rec free calls =
+    let o = openOf version card rec free in
+    recordAfter version (o .record') (drop (openingLength version) (o .sheet)) calls
+
+-- the calls of the list that got a line
+unfoldable pub sparedOf : ℕ → List ℕ → List ℕ → List ℕ → List (List ℕ) → List (List ℕ)
+sparedOf version card rec free calls =
+    let o = openOf version card rec free in
+    spared version (o .record') (drop (openingLength version) (o .sheet)) calls
+
+-- ---- the steps, fed a call's kind and fields, never an answer
+
+unfoldable pub answerRead : ℕ → Battery → ReadCall → Answer
+answerRead version b (Good c) = stepOf version b c
+answerRead version b Bad = refusedWith 10 b
+
+unfoldable pub answerTo : ℕ → Battery → List ℕ → Answer
+answerTo version b call = answerRead version b (callOf version call)
+
+-- their state after a list of calls, and the lines with their answers
+unfoldable pub stateAfter : ℕ → Battery → List (List ℕ) → Battery
+stateAfter version b [] = b
+stateAfter version b (call ∷ calls) = stateAfter version (answerTo version b call .battery) calls
+
+unfoldable pub stepLines : ℕ → Battery → List (List ℕ) → List ℕ
+stepLines version b [] = []
+stepLines version b (call ∷ calls) = lineBytes version call (answerTo version b call) ++ stepLines version (answerTo version b call .battery) calls
+
+-- ---- the two agree
+
+-- a record that is the encoding of a good battery, with the bytes of its card
+pub record Encoded (version : ℕ) (card : List ℕ) (b : Battery) (rec : List ℕ) : Type 0 where
+  pub long : length card ≡ cardLength version
+  pub card-read : cardAt version card ≡ b .card
+  pub good : GoodBattery version b
+  pub bytes : rec ≡ recordBytes version card b
+
+-- after the calls: each line and the record are the encodings of the steps' answer and state, and the bytes behind are as before
+pub record SameAsSteps (version : ℕ) (card : List ℕ) (b : Battery) (rec free : List ℕ) (calls : List (List ℕ)) : Type 0 where
+  pub lines : written version rec free calls ≡ stepLines version b (spared version rec free calls)
+  pub encoded : Encoded version card (stateAfter version b (spared version rec free calls)) (recordAfter version rec free calls)
+  pub behind : freeAfter version rec free calls ≡ drop (length (written version rec free calls)) free
+
+-- the same of A's sheet, from the fresh battery on
+pub record SheetOfSteps (version : ℕ) (card rec free : List ℕ) (calls : List (List ℕ)) : Type 0 where
+  pub sheet : sheetOf version card rec free calls ≡ openingBytes version card ++ stepLines version (fresh (cardAt version card)) (sparedOf version card rec free calls)
+  pub encoded : Encoded version card (stateAfter version (fresh (cardAt version card)) (sparedOf version card rec free calls)) (lastRecord version card rec free calls)
+  pub behind : behindSheet version card rec free calls ≡ drop (length (sheetOf version card rec free calls)) free

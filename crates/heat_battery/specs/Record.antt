@@ -1,0 +1,29 @@
+-- Document 01, module 9: 'One more entry takes the caller's own battery record and advances it by a call.' There is no sheet, so no 11.
+use Prim.Native.Nat.{ℕ}
+use mathlib.Core.List.{List}
+use Rattle.battery.specs.Answer.{refusedWith}
+use Rattle.battery.specs.declared.Battery.{Battery}
+use Rattle.battery.specs.declared.Answer.{Answer}
+use Rattle.engine.specs.Steps.{advanceOf}
+use Rattle.sheet.specs.Calls.{callOf}
+use Rattle.sheet.specs.declared.ReadCall.{ReadCall}
+use Rattle.sheet.specs.declared.ReadCall.the-variants.{Good, Bad}
+use Rattle.heat_battery.specs.declared.Shown.{Shown}
+use Rattle.heat_battery.specs.declared.Advanced.{Advanced}
+
+-- an answer without its battery, as a line shows it
+unfoldable pub shownOf : Answer → Shown
+shownOf a =
+    record { refusal = a .refusal; mark = a .mark; substeps = a .substeps; energy = a .energy; outlet = a .outlet; time = a .time }
+
+-- the record afterwards, and what the call answers
+unfoldable pub advancedBy : Answer → Advanced
+advancedBy a = record { battery = a .battery; shown = shownOf a }
+
+-- 10 for a call that can't be read
+unfoldable pub advancedRead : ℕ → Battery → ReadCall → Advanced
+advancedRead version b Bad = advancedBy (refusedWith 10 b)
+advancedRead version b (Good call) = advancedBy (advanceOf version b call)
+
+unfoldable pub advancedOf : ℕ → Battery → List ℕ → Advanced
+advancedOf version b call = advancedRead version b (callOf version call)

@@ -1,0 +1,172 @@
+// The C entries: opening a sheet and a call for laboratory A, the audit for laboratory B, and a call on the caller's own record.
+// include/heat_battery.h says what a caller must know.
+use battery::Answer;
+use battery::Battery;
+use sheet::ReadCall;
+ghost use mathlib.Core.Path.{_≡_};
+ghost use mathlib.Core.Bool.{true};
+ghost use Prim.Native.Nat.{_≤_, _<_};
+ghost use lib.ListN.{length};
+ghost use Rattle.sheet.specs.Records.{recordLength};
+ghost use Rattle.sheet.specs.Calls.{callOf};
+ghost use Rattle.auditor.specs.Audit.{verdictWord, limitedAuditOf};
+ghost use Rattle.heat_battery.specs.Record.{shownOf, advancedBy, advancedOf};
+ghost use Rattle.heat_battery.specs.Entry.{WasAfter, openOf, lineAfter, entryRead, recordLaid, entryOf};
+
+// The version of the sheets that these entries write.
+const VERSION: u8 = 1;
+
+// Opens a sheet: its version and card line, and a fresh battery.
+#[no_mangle]
+pub extern "C" fn heat_battery_open(card: &[u8], record: &mut [u8], sheet: &mut [u8]) -> u8
+    ensures { λ r. ⌜ WasAfter (openOf 1 (now (card .entry)) (now («record» .entry)) (now (sheet .entry))) r (now («record» .exit)) (now (sheet .exit)) ⌝ }
+{
+    if card.len() != sheet::cards::card_length(VERSION) {
+        return 1;
+    }
+    let c = sheet::cards::read_card(VERSION, card);
+    let refusal = card::refusal(VERSION, c);
+    if refusal != 0 {
+        return refusal;
+    }
+    if record.len() != sheet::records::record_length(VERSION, c) {
+        return 10;
+    }
+    if sheet.len() < sheet::lines::opening_length(VERSION) {
+        return 11;
+    }
+    let b = battery::fresh(c);
+    sheet::records::put_record(VERSION, record, card, b);
+    sheet::lines::put_opening(VERSION, sheet, card);
+    0
+}
+
+// Whether a record has the length that its accepted card gives.
+fn record_laid(record: &[u8]) -> bool
+    ensures { λ r. ⌜ r ≡ recordLaid 1 (now («record» .entry)) ⌝ }
+{
+    if sheet::cards::card_length(VERSION) <= record.len() {
+        let c = sheet::cards::read_card(VERSION, record);
+        if card::refusal(VERSION, c) == 0 {
+            return record.len() == sheet::records::record_length(VERSION, c);
+        }
+        return false;
+    }
+    false
+}
+
+// The line of an answer, and the record renewed; 10 and 11 leave every byte.
+fn enter(record: &mut [u8], call: &[u8], sheet: &mut [u8], a: Answer) -> u8
+    requires { ⌜ (a .battery .card .layers ≤ 64) × (length (now call) < 65536) × (length (now «record») ≡ recordLength 1 (a .battery .card)) ⌝ }
+    ensures { λ r. ⌜ WasAfter (lineAfter 1 (now («record» .entry)) (now (call .entry)) (now (sheet .entry)) a) r (now («record» .exit)) (now (sheet .exit)) ⌝ }
+{
+    if a.refusal == 10 {
+        return 10;
+    }
+    let card = a.battery.card;
+    if sheet.len() < sheet::lines::line_size(VERSION, card, call.len()) {
+        return 11;
+    }
+    sheet::lines::put_line(VERSION, sheet, call, a);
+    if a.refusal != 0 {
+        return a.refusal;
+    }
+    let b = a.battery;
+    sheet::records::renew_record(VERSION, record, b);
+    0
+}
+
+// A call on a record that is laid out: read, advanced, entered.
+fn advance(record: &mut [u8], call: &[u8], sheet: &mut [u8]) -> u8
+    requires { ⌜ recordLaid 1 (now «record») ≡ true ⌝ }
+    ensures { λ r. ⌜ WasAfter (entryRead 1 (now («record» .entry)) (now (call .entry)) (now (sheet .entry)) (callOf 1 (now (call .entry)))) r (now («record» .exit)) (now (sheet .exit)) ⌝ }
+{
+    let read = sheet::calls::read_call(VERSION, call);
+    match read {
+        ReadCall::Bad => 10,
+        ReadCall::Good(c) => {
+            let card = sheet::cards::read_card(VERSION, record);
+            let b = sheet::records::read_record(VERSION, card, record);
+            let a = engine::steps::advance(VERSION, b, c);
+            enter(record, call, sheet, a)
+        }
+    }
+}
+
+// One call on a battery record: its line at the front of the lent part of the sheet, and the record renewed.
+#[no_mangle]
+pub extern "C" fn heat_battery_call(record: &mut [u8], call: &[u8], sheet: &mut [u8]) -> u8
+    ensures { λ r. ⌜ WasAfter (entryOf 1 (now («record» .entry)) (now (call .entry)) (now (sheet .entry))) r (now («record» .exit)) (now (sheet .exit)) ⌝ }
+{
+    if record_laid(record) {
+        return advance(record, call, sheet);
+    }
+    10
+}
+
+// Audits a sheet: line × 256 + refusal, or lines × 256 where it is accepted; 44 above 65,536 bytes.
+#[no_mangle]
+pub extern "C" fn heat_battery_audit(sheet: &[u8]) -> u64
+    ensures { λ r. ⌜ r ≡ verdictWord (limitedAuditOf (now (sheet .entry))) ⌝ }
+{
+    auditor::limited_audit_word(sheet)
+}
+
+// What a call answers, without the battery.
+#[repr(C)]
+pub struct Shown {
+    // 0 for none
+    pub refusal: u8,
+    // 1 where there is an outlet temperature
+    pub mark: u8,
+    pub substeps: u32,
+    // kWh, or the state of charge
+    pub energy: f64,
+    pub outlet: f64,
+    // seconds
+    pub time: f64,
+}
+
+pub struct Advanced {
+    pub battery: Battery,
+    pub shown: Shown,
+}
+
+fn advanced_by(a: Answer) -> Advanced
+    ensures { λ r. ⌜ r ≡ advancedBy a ⌝ }
+{
+    let battery = a.battery;
+    let shown = Shown {
+        refusal: a.refusal,
+        mark: a.mark,
+        substeps: a.substeps,
+        energy: a.energy,
+        outlet: a.outlet,
+        time: a.time,
+    };
+    Advanced { battery, shown }
+}
+
+// The battery by value, and a call's bytes.
+pub fn advance_battery(b: Battery, call: &[u8]) -> Advanced
+    ensures { λ r. ⌜ r ≡ advancedOf 1 b (now (call .entry)) ⌝ }
+{
+    let read = sheet::calls::read_call(VERSION, call);
+    match read {
+        ReadCall::Bad => advanced_by(battery::refused(10, b)),
+        ReadCall::Good(c) => {
+            let a = engine::steps::advance(VERSION, b, c);
+            advanced_by(a)
+        }
+    }
+}
+
+// Advances the caller's own battery by a call: 10, or the steps. A refused battery is as it was.
+#[no_mangle]
+pub extern "C" fn heat_battery_advance(b: &mut Battery, call: &[u8]) -> Shown
+    ensures { λ r. ⌜ (r ≡ advancedOf 1 (now (b .entry)) (now (call .entry)) .shown) × (now (b .exit) ≡ advancedOf 1 (now (b .entry)) (now (call .entry)) .battery) ⌝ }
+{
+    let out = advance_battery(*b, call);
+    *b = out.battery;
+    out.shown
+}

@@ -1,0 +1,46 @@
+use native.Mathlib.Omega.{arith}
+use borrow.Author.Needs.{needs}
+use lib.ListN.{length-append}
+use Rattle.codec.proofs.Puts.{nothing-written, then}
+use Rattle.report.specs.Report.{acceptedText, newline}
+use Rattle.report.proofs.Texts.{text-here}
+use Rattle.report.proofs.put_accepted.Statement.{statement}
+use Rattle.report.proofs.put_accepted.Tie as tie
+
+slice-aggregate-put-bytes : tie.Need-slice-aggregate-put-bytes
+slice-aggregate-put-bytes c = search needs
+
+put-bytes-requires : tie.Need-put-bytes-requires
+put-bytes-requires c κs = search needs
+
+put-decimal-requires : tie.Need-put-decimal-requires
+put-decimal-requires c κs = search needs
+
+slice-aggregate-put-bytes-2 : tie.Need-slice-aggregate-put-bytes-2
+slice-aggregate-put-bytes-2 c = search needs
+
+put-bytes-requires-2 : tie.Need-put-bytes-requires-2
+put-bytes-requires-2 c κs = search needs
+
+same-length : tie.Need-same-length
+same-length c = search needs
+
+returns : tie.Need-returns
+returns c = let d = c .before .before .before .before .before .before .before .put-decimal .ensures in
+    let w1 = then (c .before .before .before .before .before .before .before .before .before .before .before .put-bytes .result) _ acceptedText (nothing-written (c .before .before .before .before .before .before .before .before .before .before .before .before .before .before .before .args .out .now) 0) (c .before .before .before .before .before .before .before .before .before .before .before .put-bytes .ensures .0) (c .before .before .before .before .before .before .before .before .before .before .before .put-bytes .ensures .1) in
+    let w2 = then (c .before .before .before .before .before .before .before .put-decimal .result) _ (d .text) w1 (d .end-is) (d .after-is) in
+    let w3 = then (c .before .before .put-bytes2 .result) _ newline w2 (c .before .before .put-bytes2 .ensures .0) (c .before .before .put-bytes2 .ensures .1) in
+    let t = text-here w3 (simp length-append (omega (arith, d .short, c .before .before .before .before .before .before .before .before .before .before .before .before .before .before .before .pre))) in
+    (t .0, record { count = d .text; count-is = d .decimal; text = t .1 })
+
+pub put-accepted-spec : {M : Type 1} → statement M
+put-accepted-spec =
+    tie.close
+    (tie.spec
+    slice-aggregate-put-bytes
+    put-bytes-requires
+    put-decimal-requires
+    slice-aggregate-put-bytes-2
+    put-bytes-requires-2
+    same-length
+    returns)

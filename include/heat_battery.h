@@ -1,0 +1,167 @@
+/* The C entries of the heat battery: opening a sheet, a call, the audit, and a
+   call on the caller's own record.
+
+   Link libheat_battery.a (`rt staticlib heat_battery`, x86-64 Linux). The
+   library allocates nothing, keeps nothing between calls, and reads and writes
+   only the bytes it is lent and its stack. Of C's functions it needs memcpy and
+   memset. Two threads may call it at once on memory of their own.
+
+   Lent memory. Each slice is a pointer and then a length in bytes. It belongs
+   to the caller before, during and after the call. A pointer is not null, with
+   length 0 too (any address will do there). The slices of one call do not
+   overlap. A const slice is never written. Nothing else is asked of the bytes:
+   any bytes and any lengths get an answer or a refusal.
+
+   Numbers are big-endian; an f64 is the 8 bytes of its IEEE 754 binary64 bits,
+   the highest byte first. */
+
+#ifndef HEAT_BATTERY_H
+#define HEAT_BATTERY_H
+
+#include <stddef.h>
+#include <stdint.h>
+
+#ifdef __cplusplus
+extern "C" {
+#endif
+
+/* The version byte that opening writes. */
+#define HEAT_BATTERY_VERSION 1
+
+/* A card: layers (u8, 1..64), units (u16), simultaneous (u8), budget (u16),
+   then 19 f64: substep s, timestep h, initial inlet, estimated outlet, max,
+   ref, lower, upper, totals below, during, above, velocity, diameter, a, b,
+   flow, losses, start temperature, power. */
+#define HEAT_BATTERY_CARD_LENGTH 158
+
+#define HEAT_BATTERY_MOST_LAYERS 64
+
+/* A battery record: the bytes of its card, then an f64 for each zone, then five
+   f64: total, pump and direct running hours, charged total, charged electric.
+   The layers are the card's first byte. */
+#define HEAT_BATTERY_RECORD_LENGTH(layers) (198 + 8 * (size_t)(layers))
+
+/* A call: its kind (u8), then its fields. Kinds and their lengths, the kind's
+   byte included; the fields in order:
+   1 demand             type, commit, control on (u8 each), required kWh,
+                        start h, return mark (u8) and temperature
+   2 electric charge    power kW, target 0..1
+   3 hydronic charge    inlet, hours, flow, target, limit kWh, hex a, hex b,
+                        velocity, diameter m
+   4 standing loss      none
+   5 close timestep     none
+   6 state of charge    none
+   7 charge energy      mark (u8) and flow maximum, target
+     demand
+   A mark is 0 with eight zero bytes behind it, or 1 with an f64. */
+#define HEAT_BATTERY_DEMAND_LENGTH 29
+#define HEAT_BATTERY_ELECTRIC_LENGTH 17
+#define HEAT_BATTERY_HYDRONIC_LENGTH 73
+#define HEAT_BATTERY_BARE_LENGTH 1 /* kinds 4, 5 and 6 */
+#define HEAT_BATTERY_ENERGY_DEMAND_LENGTH 18
+#define HEAT_BATTERY_MOST_CALL_LENGTH 73
+
+/* What opening writes at the front of the free part: the version byte and line
+   0, which is the length 158 (u16) and the card. */
+#define HEAT_BATTERY_OPENING_LENGTH 161
+
+/* A call line: the length of what follows it (u16), the call's own bytes,
+   refusal (u8), energy kWh, outlet mark (u8) and f64, time run s, substeps
+   (u32), zones and totals as in the record. */
+#define HEAT_BATTERY_LINE_LENGTH(layers, call_len) (72 + 8 * (size_t)(layers) + (size_t)(call_len))
+
+/* Refusals. An entry returns the first that applies, in the order of its list;
+   0 is none. */
+#define HEAT_BATTERY_ANSWERED 0
+#define HEAT_BATTERY_CARD_OUT_OF_RANGE 1   /* or a card of another length */
+#define HEAT_BATTERY_LOWER_ABOVE_UPPER 2
+#define HEAT_BATTERY_MAX_TOO_LOW 3         /* max at most 20 */
+#define HEAT_BATTERY_NOTHING_TO_STORE 4    /* max below ref, or nearly equal */
+#define HEAT_BATTERY_BAD_CALL 10           /* or a bad record */
+#define HEAT_BATTERY_NO_ROOM 11
+#define HEAT_BATTERY_NO_RETURN 20          /* required above 1e-10, no return temperature */
+#define HEAT_BATTERY_NO_SERVICE 21         /* the same, committed, of type 0 */
+#define HEAT_BATTERY_OVER_BUDGET 22        /* a substep after the card's budget */
+#define HEAT_BATTERY_NOT_FINITE 23         /* a zone, number or total is not finite */
+#define HEAT_BATTERY_NO_LOGARITHM 24       /* its argument is not positive, normal and finite */
+#define HEAT_BATTERY_OVER_FULL 25          /* state of charge above 1 + 1e-10 */
+
+/* Opens a sheet: writes the version and line 0 to the front of `sheet`, and a
+   fresh battery to `record`. The bytes of `sheet` behind them stay.
+
+   Refused with 1 to 4 for the card, in this order; then with 10 if record_len
+   is not the card's record length; then with 11 if sheet_len is below 161. A
+   refused opening writes nothing. */
+uint8_t heat_battery_open(const uint8_t *card, size_t card_len,
+                          uint8_t *record, size_t record_len,
+                          uint8_t *sheet, size_t sheet_len);
+
+/* Advances the battery of `record` by a call: writes the call's line to the
+   front of `sheet`, which is the free part behind the last line, and renews the
+   record. The bytes of `sheet` behind the line stay; the next call gets the
+   part behind it, which starts at HEAT_BATTERY_LINE_LENGTH.
+
+   Refused with 10 if the record is not one: shorter than a card, with a card
+   that 1 to 4 refuse, of another length than its card's, or with a zone or
+   total that is not finite; or if the call is not one: of an unknown kind, of
+   another length than its kind's, with a flag or mark other than 0 or 1,
+   nonzero bytes under an absent mark, or a field not finite or out of range.
+   Then with 11 if the line does not fit. These two write nothing.
+
+   Then with 20 to 25, the first to occur: these write the call's line, with the
+   refusal, energy 0, no outlet, time 0, substeps 0 and zones and totals as they
+   were, and leave the record. */
+uint8_t heat_battery_call(uint8_t *record, size_t record_len,
+                          const uint8_t *call, size_t call_len,
+                          uint8_t *sheet, size_t sheet_len);
+
+/* Audits a sheet, version byte first: accepted with N call lines, N x 256; or
+   refused with R at line K (the card's line is 0, the first call line 1),
+   K x 256 + R. */
+#define HEAT_BATTERY_NO_VERSION 40  /* no first byte, or not 1; K is 0 */
+#define HEAT_BATTERY_BAD_CARD 41    /* card line missing, of wrong length or refused; K is 0 */
+#define HEAT_BATTERY_BAD_LINE 42    /* cut short, or not laid out as its kind, or a field that 10 refuses */
+#define HEAT_BATTERY_DISAGREES 43   /* an answer is not that of the steps */
+#define HEAT_BATTERY_TOO_LONG 44    /* more than 65,536 bytes; K is 0, and it is tested first */
+uint64_t heat_battery_audit(const uint8_t *sheet, size_t sheet_len);
+
+/* The caller's own record: a card and a battery as C structs. */
+struct heat_battery_card {
+    uint8_t layers;
+    uint16_t units;
+    uint8_t simultaneous;
+    uint16_t budget;
+    double substep, timestep;
+    double inlet, outlet, max, reference, lower, upper;
+    double below, during, above;
+    double velocity, diameter, a, b, flow;
+    double losses, start, power;
+};
+
+struct heat_battery {
+    struct heat_battery_card card;
+    /* the first `count` zones; the places above are neither read nor written */
+    double zones[HEAT_BATTERY_MOST_LAYERS];
+    /* the card's layers, or 10 */
+    uint8_t count;
+    double total, pump, direct, charged, electric;
+};
+
+/* What a call answers, as its line would show it. */
+struct heat_battery_shown {
+    uint8_t refusal;
+    uint8_t mark;
+    uint32_t substeps;
+    double energy, outlet, time;
+};
+
+/* Advances the caller's own battery by a call, without a sheet: refused with 10
+   as above, then with 20 to 25; there is no 11. A refused battery is as it was. */
+struct heat_battery_shown heat_battery_advance(struct heat_battery *battery,
+                                               const uint8_t *call, size_t call_len);
+
+#ifdef __cplusplus
+}
+#endif
+
+#endif
