@@ -1,3 +1,4 @@
 pub mod Spared
 pub mod Lined
 pub mod AList
+pub mod Promises

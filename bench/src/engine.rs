@@ -1,0 +1,164 @@
+//! Our engine through the C entries of libheat_battery.a, as include/heat_battery.h has them.
+
+use oracle::model::{Battery, Call};
+use oracle::sheet;
+
+const MOST_LAYERS: usize = 64;
+
+#[repr(C)]
+#[derive(Clone, Copy)]
+struct Card {
+    layers: u8,
+    units: u16,
+    simultaneous: u8,
+    budget: u16,
+    /// Substep to power, in the header's order.
+    numbers: [f64; 19],
+}
+
+#[repr(C)]
+#[derive(Clone, Copy)]
+struct Record {
+    card: Card,
+    zones: [f64; MOST_LAYERS],
+    count: u8,
+    totals: [f64; 5],
+}
+
+const _: () = assert!(size_of::<Card>() == 160 && size_of::<Record>() == 720);
+
+#[repr(C)]
+struct Shown {
+    refusal: u8,
+    mark: u8,
+    substeps: u32,
+    energy: f64,
+    outlet: f64,
+    time: f64,
+}
+
+extern "C" {
+    fn heat_battery_advance(battery: *mut Record, call: *const u8, call_len: usize) -> Shown;
+    fn heat_battery_open(
+        card: *const u8,
+        card_len: usize,
+        record: *mut u8,
+        record_len: usize,
+        sheet: *mut u8,
+        sheet_len: usize,
+    ) -> u8;
+    fn heat_battery_call(
+        record: *mut u8,
+        record_len: usize,
+        call: *const u8,
+        call_len: usize,
+        sheet: *mut u8,
+        sheet_len: usize,
+    ) -> u8;
+    fn heat_battery_audit(sheet: *const u8, sheet_len: usize) -> u64;
+}
+
+/// A battery and a list of calls, on the caller's own record.
+pub struct Engine {
+    start: Record,
+    calls: Vec<Vec<u8>>,
+}
+
+impl Engine {
+    pub fn new(battery: &Battery, calls: &[Call]) -> Self {
+        let card = &battery.card;
+        let zones = &battery.state.zones;
+        let mut start = Record {
+            card: Card {
+                layers: card.layers,
+                units: card.units,
+                simultaneous: card.simultaneous,
+                budget: card.budget,
+                numbers: card.numbers(),
+            },
+            zones: [0.0; MOST_LAYERS],
+            count: card.layers,
+            totals: battery.state.totals.numbers(),
+        };
+        start.zones[..zones.len()].copy_from_slice(zones);
+        Engine { start, calls: calls.iter().map(sheet::call_bytes).collect() }
+    }
+
+    /// The list from the start on: the sum of energies, refusals and the first zone, and the substeps.
+    pub fn list(&self) -> (f64, u64) {
+        let (mut sum, mut substeps) = (0.0, 0);
+        let mut battery = self.start;
+        for call in &self.calls {
+            // SAFETY: the record and the call's bytes are whole and apart, and live for the call.
+            let shown = unsafe { heat_battery_advance(&mut battery, call.as_ptr(), call.len()) };
+            sum = sum + shown.energy + f64::from(shown.refusal);
+            substeps += u64::from(shown.substeps);
+        }
+        (sum + battery.zones[0], substeps)
+    }
+}
+
+/// A list of calls from a fresh battery, on bytes, with its sheet.
+pub struct Day {
+    card: Vec<u8>,
+    calls: Vec<Vec<u8>>,
+    record: Vec<u8>,
+    pub sheet: Vec<u8>,
+}
+
+impl Day {
+    pub fn new(card: &oracle::model::Card, calls: &[Call]) -> Self {
+        let calls: Vec<Vec<u8>> = calls.iter().map(sheet::call_bytes).collect();
+        let lines: usize =
+            calls.iter().map(|call| 2 + call.len() + sheet::answer_length(card.layers)).sum();
+        Day {
+            card: sheet::card_bytes(card),
+            calls,
+            record: vec![0; sheet::record_length(card.layers)],
+            sheet: vec![0; sheet::OPENING_BYTES + lines],
+        }
+    }
+
+    pub fn lines(&self) -> usize {
+        self.calls.len()
+    }
+
+    /// Opens the sheet and writes every line: the last result.
+    pub fn write(&mut self) -> u8 {
+        let Day { card, calls, record, sheet } = self;
+        let answer = record.len() - card.len() + sheet::ANSWER_HEAD_BYTES;
+        // SAFETY: the slices are whole and apart, and live for the call.
+        let mut result = unsafe {
+            heat_battery_open(
+                card.as_ptr(),
+                card.len(),
+                record.as_mut_ptr(),
+                record.len(),
+                sheet.as_mut_ptr(),
+                sheet.len(),
+            )
+        };
+        let mut free = &mut sheet[sheet::OPENING_BYTES..];
+        for call in calls.iter() {
+            // SAFETY: as above.
+            result = unsafe {
+                heat_battery_call(
+                    record.as_mut_ptr(),
+                    record.len(),
+                    call.as_ptr(),
+                    call.len(),
+                    free.as_mut_ptr(),
+                    free.len(),
+                )
+            };
+            free = &mut free[2 + call.len() + answer..];
+        }
+        result
+    }
+
+    /// The audit's verdict on the sheet.
+    pub fn audit(&self) -> u64 {
+        // SAFETY: as above.
+        unsafe { heat_battery_audit(self.sheet.as_ptr(), self.sheet.len()) }
+    }
+}
