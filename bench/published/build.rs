@@ -14,11 +14,7 @@ const STAND_INS: [(&str, &str, usize); 5] = [
     (".min(", ".min_first(", 6),
     (".powi(2)", ".square()", 1),
     (".ln()", ".ln_or_nan()", 1),
-    (
-        "self.time_available(0., timestep);",
-        "self.time_available(0., timestep).max_zero();",
-        1,
-    ),
+    ("self.time_available(0., timestep);", "self.time_available(0., timestep).max_zero();", 1),
 ];
 
 fn published(folder: &Path) -> PathBuf {

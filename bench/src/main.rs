@@ -96,8 +96,7 @@ fn contenders(row: &Row) -> Vec<(&'static str, Runner<'_>)> {
     let battery = oracle_battery(&row.start);
     let calls = oracle_calls(row);
     let engine = Engine::new(&battery, &calls);
-    let plain =
-        move || oracle_list(oracle::plain::step, black_box(&battery), black_box(&calls)).0;
+    let plain = move || oracle_list(oracle::plain::step, black_box(&battery), black_box(&calls)).0;
     vec![
         ("published", rounds_of(move || published.list(black_box(&row.calls)))),
         ("stand-ins", rounds_of(move || stand_ins.list(black_box(&row.calls)))),
