@@ -13,9 +13,9 @@ use Rattle.auditor.specs.declared.Verdict.the-variants.{Accepted, Refuse
 use Rattle.auditor.specs.Audit.{auditFrom, auditLines, auditOf}
 use Rattle.auditor.specs.Sheet.{linesBytes, stepsFrom, Sheet}
 use Rattle.auditor.specs.Cases.{Opened}
-use Rattle.auditor.proofs.Turns.{audit-none}
+use Rattle.auditor.proofs.Turns.{audit-none, From}
 use Rattle.auditor.proofs.Stepped.{Stepped, stepped}
-use Rattle.auditor.proofs.Walks.{Comes, walk}
+use Rattle.auditor.proofs.Walks.{walk}
 use Rattle.auditor.proofs.Opened.{fresh-own, audit-opened}
 use Rattle.auditor.proofs.Outcomes.{Outcome, no-version, no-card, a-sheet, bad-line, disagrees, outcome}
 
@@ -58,7 +58,7 @@ module _ (bs : List ℕ) (n : ℕ) (s : Sheet bs n) where
   sheet-stepped = stepped 1 (cardAt 1 (s .card)) [] (s .lines) (s .calls) (s .layout .laid) (s .agreed)
 
   -- the auditor comes to what lies behind a sheet
-  pub sheet-walk : (r : List ℕ) → Comes 1 (cardAt 1 (s .card)) (auditOf (bs ++ r)) (stepsFrom 1 (fresh (cardAt 1 (s .card))) (s .calls)) n r
+  pub sheet-walk : (r : List ℕ) → From 1 (cardAt 1 (s .card)) (stepsFrom 1 (fresh (cardAt 1 (s .card))) (s .calls)) n r (auditOf (bs ++ r))
   unfolding auditLines then-opened
   sheet-walk r =
       let c = cardAt 1 (s .card) in

@@ -5,12 +5,9 @@ use mathlib.Core.Bool.{true}
 use Prim.Native.Nat.{ℕ, _+_, _≤_}
 use native.Mathlib.Omega.{arith}
 use borrow.Author.Tests.{eq-eqb, le-leb}
-use lib.Dec.{T}
 use lib.ListN.{length, take, drop, getD, length-append, length-drop, take-append-drop}
 use lib.Seq.{take-at, drop-at, drop-drop, length-take-le}
-use lib.Ieee.{binary64, fits}
-use lib.Ieee.Bits.{ofBits-fits}
-use Rattle.codec.specs.Bytes.{be, f64Of}
+use Rattle.codec.specs.Bytes.{be}
 use Rattle.card.specs.Card.{cardRefusal}
 use Rattle.battery.specs.Battery.{fresh}
 use Rattle.battery.proofs.FreshGood.{fresh-good}
@@ -21,15 +18,11 @@ use Rattle.auditor.specs.Sheet.{CardAccepted}
 use Rattle.auditor.specs.Cases.{Opened}
 use Rattle.auditor.proofs.Opening.{opening-is, card-line}
 use Rattle.auditor.proofs.Walks.{Own}
-
--- a card's numbers fit their format, whatever its bytes are
-start-fits : (card : List ℕ) → T (fits binary64 (cardAt 1 card .start))
-unfolding cardAt f64Of
-start-fits card = ofBits-fits binary64 (be (take 8 (drop 142 card)))
+use Rattle.auditor.proofs.ReadCalls.{card-held}
 
 pub fresh-own : (card : List ℕ) → CardAccepted card → Own 1 (cardAt 1 card) (fresh (cardAt 1 card))
 unfolding fresh
-fresh-own card a = record { good = fresh-good 1 (cardAt 1 card) a (start-fits card); card = refl }
+fresh-own card a = record { good = fresh-good 1 (cardAt 1 card) a (card-held card .start); card = refl }
 
 -- ---- taken apart
 module _ (head card rest : List ℕ) (two : length head ≡ 2) (long : length card ≡ cardLength 1) where

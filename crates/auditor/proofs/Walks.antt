@@ -18,10 +18,9 @@ use Rattle.engine.specs.Steps.{stepOf, advanceOf}
 use Rattle.engine.proofs.AdvanceKeeps.{advance-is-step}
 use Rattle.engine.proofs.StepKeeps.{step-refusals, step-keeps-card, step-keeps-good}
 use Rattle.sheet.specs.Answers.{answerAt}
-use Rattle.auditor.specs.declared.Verdict.{Verdict}
 use Rattle.auditor.specs.Audit.{judge, auditLine, auditFrom}
 use Rattle.auditor.specs.Sheet.{Line, bytesOf, linesBytes, Laid, stepsFrom}
-use Rattle.auditor.proofs.Turns.{audit-some}
+use Rattle.auditor.proofs.Turns.{audit-some, From}
 use Rattle.auditor.proofs.Stepped.{Stepped}
 use Rattle.auditor.proofs.LaidLines.{line-long, answer-part, behind-part, line-call}
 
@@ -52,12 +51,6 @@ module _ (version : ℕ) (c : Card) (b : Battery) (o : Own version c b) (call : 
 
 -- ---- the walk over lines that are laid and agree, to what lies behind them
 
--- the lines of bs give what those of rest give, in front of which the battery is b and k lines lie
-pub record Comes (version : ℕ) (c : Card) (v : Verdict) (b : Battery) (k : ℕ) (rest : List ℕ) : Type 0 where
-  pub most : ℕ
-  pub enough : length rest ≤ most
-  pub gives : v ≡ auditFrom version c most b k rest
-
 pub one-line : (version : ℕ) (c : Card) (most : ℕ) (b : Battery) (k : ℕ) (l : Line) (call : Call) (r : List ℕ) → Own version c b → Laid version c l call
     → auditFrom version c (suc most) b k (bytesOf l ++ r)
     ≡ judge k (answerAt version c (l .answer)) (stepOf version b call) (λ next. auditFrom version c most next (k + 1) r)
@@ -73,7 +66,7 @@ own-behind version c [] b o = o
 own-behind version c (call ∷ calls) b o = own-behind version c calls (stepOf version b call .battery) (next-own version c b o call)
 
 pub walk : (version : ℕ) (c : Card) (ls : List Line) (calls : List Call) (most : ℕ) (b : Battery) (k : ℕ) (r : List ℕ) → Own version c b → Stepped version c b ls calls
-    → length (linesBytes ls ++ r) ≤ most → Comes version c (auditFrom version c most b k (linesBytes ls ++ r)) (stepsFrom version b calls) (k + length ls) r
+    → length (linesBytes ls ++ r) ≤ most → From version c (stepsFrom version b calls) (k + length ls) r (auditFrom version c most b k (linesBytes ls ++ r))
 unfolding stepsFrom judge
 walk version c [] [] most b k r o s h = record { most = most; enough = h; gives = ap (λ (m : ℕ). auditFrom version c most b m r) (sym (add-zero k)) }
 walk version c [] (call ∷ calls) most b k r o s h = absurd s

@@ -11,7 +11,11 @@ use Rattle.battery.specs.declared.Battery.{Battery}
 use Rattle.battery.specs.declared.Call.{Call}
 use Rattle.engine.specs.Steps.{stepOf}
 use Rattle.engine.specs.Budget.{BudgetUsed}
+use Rattle.engine.specs.Faults.{OverFull, NoLogarithmTaken, NotFiniteFound}
 use Rattle.engine.proofs.OverBudget.{over-budget-only}
+use Rattle.engine.proofs.OverFull.{over-full-only}
+use Rattle.engine.proofs.NoLogarithm.{no-logarithm-only}
+use Rattle.engine.proofs.NotFinite.{not-finite-only}
 use Rattle.sheet.specs.Cards.{cardAt}
 use Rattle.sheet.specs.Records.{recordOf}
 use Rattle.sheet.specs.Lines.{lineBytes}
@@ -95,8 +99,11 @@ pub call-refusals : (rec call free : List ℕ)
     × ((entryOf 1 rec call free .code ≡ 20) ↔ CallCase20 1 rec call free) × ((entryOf 1 rec call free .code ≡ 21) ↔ CallCase21 1 rec call free)
 call-refusals rec call free = (call-10 1 rec call free, call-11 1 rec call free, call-20 1 rec call free, call-21 1 rec call free)
 
-pub over-budget : (b : Battery) (call : Call) → stepOf 1 b call .refusal ≡ 22 → BudgetUsed b call
-over-budget = over-budget-only 1
+-- 22 to 25 only at their test
+pub run-refusals : (b : Battery) (call : Call)
+    → (stepOf 1 b call .refusal ≡ 22 → BudgetUsed b call) × (stepOf 1 b call .refusal ≡ 23 → NotFiniteFound b call)
+    × (stepOf 1 b call .refusal ≡ 24 → NoLogarithmTaken b call) × (stepOf 1 b call .refusal ≡ 25 → OverFull b call)
+run-refusals b call = (over-budget-only 1 b call, not-finite-only 1 b call, no-logarithm-only 1 b call, over-full-only 1 b call)
 
 pub audit-refusals : (bs : List ℕ) (k : ℕ)
     → ((auditOf bs ≡ Refused 40 0) ↔ NoVersion bs) × ((auditOf bs ≡ Refused 41 0) ↔ NoCard bs)

@@ -11,3 +11,8 @@ pub mod StepKeeps
 pub mod StepOutcomes
 pub mod Turns
 pub mod Warmth
+pub mod Faulty
+pub mod Refused
+pub mod OverFull
+pub mod NoLogarithm
+pub mod NotFinite

@@ -19,34 +19,55 @@ opening-length-requires : tie.Need-opening-length-requires
 opening-length-requires c κs = search needs
 
 sub-read-card : tie.Need-sub-read-card
-sub-read-card c = omega (arith, opening-is 1, c .opening-length .ensures, (card-line 1 (c .before .before .before .before .before .before .args .sheet .now) (sym (c .before .before .card-line-ok .ensures) ∙ c .before .if2 .taken)) .long)
+sub-read-card c =
+    let ok = sym (c .before .before .card-line-ok .ensures) ∙ c .before .if2 .taken in
+    omega (arith, opening-is 1, c .opening-length .ensures, (card-line 1 (c .before .before .before .before .before .before .args .sheet .now) ok) .long)
 
 part-read-card-start : tie.Need-part-read-card-start
-part-read-card-start c = omega (arith, opening-is 1, c .opening-length .ensures, (card-line 1 (c .before .before .before .before .before .before .args .sheet .now) (sym (c .before .before .card-line-ok .ensures) ∙ c .before .if2 .taken)) .long)
+part-read-card-start c =
+    let ok = sym (c .before .before .card-line-ok .ensures) ∙ c .before .if2 .taken in
+    omega (arith, opening-is 1, c .opening-length .ensures, (card-line 1 (c .before .before .before .before .before .before .args .sheet .now) ok) .long)
 
 part-read-card-end : tie.Need-part-read-card-end
-part-read-card-end c = omega (arith, opening-is 1, c .opening-length .ensures, (card-line 1 (c .before .before .before .before .before .before .args .sheet .now) (sym (c .before .before .card-line-ok .ensures) ∙ c .before .if2 .taken)) .long)
+part-read-card-end c =
+    let ok = sym (c .before .before .card-line-ok .ensures) ∙ c .before .if2 .taken in
+    omega (arith, opening-is 1, c .opening-length .ensures, (card-line 1 (c .before .before .before .before .before .before .args .sheet .now) ok) .long)
 
 read-card-requires : tie.Need-read-card-requires
-read-card-requires c κs = card-fits 1 (c .before .before .before .before .before .before .before .args .sheet .now) (c .before .opening-length .result) (c .before .opening-length .ensures) (omega (arith, opening-is 1, c .before .opening-length .ensures, (card-line 1 (c .before .before .before .before .before .before .before .args .sheet .now) (sym (c .before .before .before .card-line-ok .ensures) ∙ c .before .before .if2 .taken)) .long))
+read-card-requires c κs =
+    let a = c .before .before .before .before .before .before .before .args in
+    let opening = c .before .opening-length in
+    let ok = sym (c .before .before .before .card-line-ok .ensures) ∙ c .before .before .if2 .taken in
+    card-fits 1 (a .sheet .now) (opening .result) (opening .ensures) (omega (arith, opening-is 1, opening .ensures, (card-line 1 (a .sheet .now) ok) .long))
 
 sub-audit-lines : tie.Need-sub-audit-lines
-sub-audit-lines c = omega (arith, opening-is 1, c .before .before .opening-length .ensures, (card-line 1 (c .before .before .before .before .before .before .before .before .args .sheet .now) (sym (c .before .before .before .before .card-line-ok .ensures) ∙ c .before .before .before .if2 .taken)) .long)
+sub-audit-lines c =
+    let ok = sym (c .before .before .before .before .card-line-ok .ensures) ∙ c .before .before .before .if2 .taken in
+    omega (arith, opening-is 1, c .before .before .opening-length .ensures, (card-line 1 (c .before .before .before .before .before .before .before .before .args .sheet .now) ok) .long)
 
 part-audit-lines-start : tie.Need-part-audit-lines-start
-part-audit-lines-start c = omega (arith, opening-is 1, c .before .before .opening-length .ensures, (card-line 1 (c .before .before .before .before .before .before .before .before .args .sheet .now) (sym (c .before .before .before .before .card-line-ok .ensures) ∙ c .before .before .before .if2 .taken)) .long)
+part-audit-lines-start c =
+    let ok = sym (c .before .before .before .before .card-line-ok .ensures) ∙ c .before .before .before .if2 .taken in
+    omega (arith, opening-is 1, c .before .before .opening-length .ensures, (card-line 1 (c .before .before .before .before .before .before .before .before .args .sheet .now) ok) .long)
 
 part-audit-lines-end : tie.Need-part-audit-lines-end
 part-audit-lines-end c = search needs
 
 audit-lines-requires : tie.Need-audit-lines-requires
-audit-lines-requires c κs = rw (c .before .read-card .ensures, card-slice 1 (c .before .before .before .before .before .before .before .before .before .args .sheet .now) (c .before .before .before .opening-length .result) (c .before .before .before .opening-length .ensures)) (few-layers 1 (c .before .before .before .before .before .before .before .before .before .args .sheet .now) (card-line 1 (c .before .before .before .before .before .before .before .before .before .args .sheet .now) (sym (c .before .before .before .before .before .card-line-ok .ensures) ∙ c .before .before .before .before .if2 .taken)))
+audit-lines-requires c κs =
+    let a = c .before .before .before .before .before .before .before .before .before .args in
+    let opening = c .before .before .before .opening-length in
+    let ok = sym (c .before .before .before .before .before .card-line-ok .ensures) ∙ c .before .before .before .before .if2 .taken in
+    rw (c .before .read-card .ensures, card-slice 1 (a .sheet .now) (opening .result) (opening .ensures)) (few-layers 1 (a .sheet .now) (card-line 1 (a .sheet .now) ok))
 
 returns : tie.Need-returns
 unfolding auditOf
-returns c = c .audit-lines .ensures
-    ∙ rw (rest-of, c .before .before .read-card .ensures, card-slice 1 (c .before .before .before .before .before .before .before .before .before .before .args .sheet .now) (c .before .before .before .before .opening-length .result) (c .before .before .before .before .opening-length .ensures), c .before .before .before .before .opening-length .ensures)
-    (via-true _ _ (eq-eqb _ _ (sym (c .before .before .before .before .before .before .before .before .byte-or-zero .ensures) ∙ c .before .before .before .before .before .before .before .if1 .taken)) (via-true _ _ (sym (c .before .before .before .before .before .before .card-line-ok .ensures) ∙ c .before .before .before .before .before .if2 .taken) refl))
+returns c =
+    let opening = c .before .before .before .before .opening-length in
+    let ok = sym (c .before .before .before .before .before .before .card-line-ok .ensures) ∙ c .before .before .before .before .before .if2 .taken in
+    c .audit-lines .ensures
+    ∙ rw (rest-of, c .before .before .read-card .ensures, card-slice 1 (c .before .before .before .before .before .before .before .before .before .before .args .sheet .now) (opening .result) (opening .ensures), opening .ensures)
+    (via-true _ _ (eq-eqb _ _ (sym (c .before .before .before .before .before .before .before .before .byte-or-zero .ensures) ∙ c .before .before .before .before .before .before .before .if1 .taken)) (via-true _ _ ok refl))
 
 returns-2 : tie.Need-returns-2
 unfolding auditOf

@@ -27,14 +27,20 @@ part-read-card-end : tie.Need-part-read-card-end
 part-read-card-end c = search needs
 
 read-card-requires : tie.Need-read-card-requires
-read-card-requires c κs = card-fits (c .before .before .before .before .before .before .before .args .version) (c .before .before .before .before .before .before .before .args .sheet .now) (c .before .before .before .before .before .opening-length .result) (c .before .before .before .before .before .opening-length .ensures) (c .before .before .before .before .if1 .taken)
+read-card-requires c κs =
+    let a = c .before .before .before .before .before .before .before .args in
+    let opening = c .before .before .before .before .before .opening-length in
+    card-fits (a .version) (a .sheet .now) (opening .result) (opening .ensures) (c .before .before .before .before .if1 .taken)
 
 refusal-requires : tie.Need-refusal-requires
 refusal-requires c κs = search needs
 
 returns : tie.Need-returns
 unfolding cardLineOk
-returns c = rw (← (c .before .before .before .before .before .before .before .opening-length .ensures), ← card-slice (c .before .before .before .before .before .before .before .before .before .args .version) (c .before .before .before .before .before .before .before .before .before .args .sheet .now) (c .before .before .before .before .before .before .before .opening-length .result) (c .before .before .before .before .before .before .before .opening-length .ensures), ← (c .before .before .before .before .before .card-length .ensures), ← (c .before .before .before .before .read-be .ensures), ← (c .before .read-card .ensures), ← (c .refusal .ensures)) (via-true _ _ (le-leb _ _ (c .before .before .before .before .before .before .if1 .taken)) (via-true _ _ (eq-eqb _ _ (c .before .before .before .if2 .taken)) refl))
+returns c =
+    let a = c .before .before .before .before .before .before .before .before .before .args in
+    let opening = c .before .before .before .before .before .before .before .opening-length in
+    rw (← (opening .ensures), ← card-slice (a .version) (a .sheet .now) (opening .result) (opening .ensures), ← (c .before .before .before .before .before .card-length .ensures), ← (c .before .before .before .before .read-be .ensures), ← (c .before .read-card .ensures), ← (c .refusal .ensures)) (via-true _ _ (le-leb _ _ (c .before .before .before .before .before .before .if1 .taken)) (via-true _ _ (eq-eqb _ _ (c .before .before .before .if2 .taken)) refl))
 
 returns-2 : tie.Need-returns-2
 unfolding cardLineOk

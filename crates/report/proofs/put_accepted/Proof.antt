@@ -26,8 +26,10 @@ same-length : tie.Need-same-length
 same-length c = search needs
 
 returns : tie.Need-returns
-returns c = let d = c .before .before .before .before .before .before .before .put-decimal .ensures in
-    let w1 = then (c .before .before .before .before .before .before .before .before .before .before .before .put-bytes .result) _ acceptedText (nothing-written (c .before .before .before .before .before .before .before .before .before .before .before .before .before .before .before .args .out .now) 0) (c .before .before .before .before .before .before .before .before .before .before .before .put-bytes .ensures .0) (c .before .before .before .before .before .before .before .before .before .before .before .put-bytes .ensures .1) in
+returns c =
+    let w = c .before .before .before .before .before .before .before .before .before .before .before .put-bytes in
+    let d = c .before .before .before .before .before .before .before .put-decimal .ensures in
+    let w1 = then (w .result) _ acceptedText (nothing-written (c .before .before .before .before .before .before .before .before .before .before .before .before .before .before .before .args .out .now) 0) (w .ensures .0) (w .ensures .1) in
     let w2 = then (c .before .before .before .before .before .before .before .put-decimal .result) _ (d .text) w1 (d .end-is) (d .after-is) in
     let w3 = then (c .before .before .put-bytes2 .result) _ newline w2 (c .before .before .put-bytes2 .ensures .0) (c .before .before .put-bytes2 .ensures .1) in
     let t = text-here w3 (simp length-append (omega (arith, d .short, c .before .before .before .before .before .before .before .before .before .before .before .before .before .before .before .pre))) in

@@ -14,13 +14,19 @@ slice-aggregate-put-bytes : tie.Need-slice-aggregate-put-bytes
 slice-aggregate-put-bytes c = search needs
 
 put-bytes-requires : tie.Need-put-bytes-requires
-put-bytes-requires c κs = omega (arith, c .before .before .decimal .ensures .0, few-digits (c .before .before .before .before .before .args .n) (c .before .before .decimal .result) (omega (arith, c .before .before .before .before .before .fits)) (c .before .before .decimal .ensures .1 .0))
+put-bytes-requires c κs =
+    let d = c .before .before .decimal in
+    omega (arith, d .ensures .0, few-digits (c .before .before .before .before .before .args .n) (d .result) (omega (arith, c .before .before .before .before .before .fits)) (d .ensures .1 .0))
 
 same-length : tie.Need-same-length
 same-length c = search needs
 
 returns : tie.Need-returns
-returns c = put (c .before .before .before .before .before .before .before .before .args .n) (c .before .before .before .before .before .before .before .before .args .at) (c .before .before .before .before .before .decimal .result) (c .before .before .put-bytes .result) _ _ _ (omega (arith, c .before .before .before .before .before .before .before .before .fits)) (c .before .before .before .before .before .decimal .ensures .0 .1) (c .before .before .before .before .before .decimal .ensures .1 .0) (c .before .before .before .before .before .decimal .ensures .1 .1) (c .before .before .put-bytes .ensures .0) (c .before .before .put-bytes .ensures .1)
+returns c =
+    let a = c .before .before .before .before .before .before .before .before .args in
+    let d = c .before .before .before .before .before .decimal in
+    let w = c .before .before .put-bytes in
+    put (a .n) (a .at) (d .result) (w .result) _ _ _ (omega (arith, c .before .before .before .before .before .before .before .before .fits)) (d .ensures .0 .1) (d .ensures .1 .0) (d .ensures .1 .1) (w .ensures .0) (w .ensures .1)
 
 pub put-decimal-spec : {M : Type 1} → statement M
 put-decimal-spec =

@@ -36,9 +36,10 @@ same-length c = search needs
 
 returns : tie.Need-returns
 returns c =
+    let w = c .before .before .before .before .before .before .before .before .before .before .before .before .before .before .before .before .before .before .before .before .put-bytes in
     let d = c .before .before .before .before .before .before .before .before .before .before .before .before .before .before .before .before .put-decimal .ensures in
     let e = c .before .before .before .before .before .before .before .put-decimal2 .ensures in
-    let w1 = then (c .before .before .before .before .before .before .before .before .before .before .before .before .before .before .before .before .before .before .before .before .put-bytes .result) _ refusedText (nothing-written (c .before .before .before .before .before .before .before .before .before .before .before .before .before .before .before .before .before .before .before .before .before .before .before .before .args .out .now) 0) (c .before .before .before .before .before .before .before .before .before .before .before .before .before .before .before .before .before .before .before .before .put-bytes .ensures .0) (c .before .before .before .before .before .before .before .before .before .before .before .before .before .before .before .before .before .before .before .before .put-bytes .ensures .1) in
+    let w1 = then (w .result) _ refusedText (nothing-written (c .before .before .before .before .before .before .before .before .before .before .before .before .before .before .before .before .before .before .before .before .before .before .before .before .args .out .now) 0) (w .ensures .0) (w .ensures .1) in
     let w2 = then (c .before .before .before .before .before .before .before .before .before .before .before .before .before .before .before .before .put-decimal .result) _ (d .text) w1 (d .end-is) (d .after-is) in
     let w3 = then (c .before .before .before .before .before .before .before .before .before .before .before .put-bytes2 .result) _ lineText w2 (c .before .before .before .before .before .before .before .before .before .before .before .put-bytes2 .ensures .0) (c .before .before .before .before .before .before .before .before .before .before .before .put-bytes2 .ensures .1) in
     let w4 = then (c .before .before .before .before .before .before .before .put-decimal2 .result) _ (e .text) w3 (e .end-is) (e .after-is) in

@@ -34,7 +34,11 @@ add-t15 : tie.Need-add-t15 Inv-loop μ-loop
 add-t15 c = search needs
 
 returns : tie.Need-returns Inv-loop μ-loop
-returns c = sym (turn-bad (c .before .before .before .before .before .before .before .args .version) (c .before .before .before .before .before .before .before .args .card) (c .before .before .before .before .loop .b) (c .before .before .before .before .loop .k) (c .before .before .before .before .loop .rest .now) _ (c .before .before .before .loop-test .taken) (c .before .before .before .before .loop .inv .1) (sym (c .before .before .line-call .ensures) ∙ c .enum-told .given .1))
+returns c =
+    let a = c .before .before .before .before .before .before .before .args in
+    let l = c .before .before .before .before .loop in
+    let read = sym (c .before .before .line-call .ensures) ∙ c .enum-told .given .1 in
+    sym (turn-bad (a .version) (a .card) (l .b) (l .k) (l .rest .now) _ (c .before .before .before .loop-test .taken) (l .inv .1) read)
 
 enum-known-call : tie.Need-enum-known-call Inv-loop μ-loop
 enum-known-call c = search needs
@@ -46,17 +50,28 @@ add-t17 : tie.Need-add-t17 Inv-loop μ-loop
 add-t17 c = search needs
 
 returns-2 : tie.Need-returns-2 Inv-loop μ-loop
-returns-2 c = sym (turn-out (c .before .before .before .before .before .before .before .before .before .before .before .args .version) (c .before .before .before .before .before .before .before .before .before .before .before .args .card) (c .before .before .before .before .before .before .before .before .loop .b) (c .before .before .before .before .before .before .before .before .loop .k) (c .before .before .before .before .before .before .before .before .loop .rest .now) _ (c .before .before .before .before .before .before .before .loop-test .taken) (c .before .before .before .before .before .before .before .before .loop .inv .1) _ (sym (c .before .before .before .before .before .before .line-call .ensures) ∙ c .before .before .before .before .call .given .1) (c .before .before .advance .result) (c .before .before .advance .ensures) (c .if1 .taken))
+returns-2 c =
+    let a = c .before .before .before .before .before .before .before .before .before .before .before .args in
+    let l = c .before .before .before .before .before .before .before .before .loop in
+    let own = c .before .before .advance in
+    let read = sym (c .before .before .before .before .before .before .line-call .ensures) ∙ c .before .before .before .before .call .given .1 in
+    sym (turn-out (a .version) (a .card) (l .b) (l .k) (l .rest .now) _ (c .before .before .before .before .before .before .before .loop-test .taken) (l .inv .1) _ read (own .result) (own .ensures) (c .if1 .taken))
 
 line-answer-requires : tie.Need-line-answer-requires Inv-loop μ-loop
-line-answer-requires c κs = (c .before .before .before .before .before .before .before .before .before .before .before .pre, head-read (c .before .before .before .before .before .before .before .before .before .before .before .args .version) (c .before .before .before .before .before .before .before .before .before .before .before .args .card) (c .before .before .before .before .before .before .before .before .loop .rest .now) _ (sym (c .before .before .before .before .before .before .line-call .ensures) ∙ c .before .before .before .before .call .given .1))
+line-answer-requires c κs =
+    let a = c .before .before .before .before .before .before .before .before .before .before .before .args in
+    let read = sym (c .before .before .before .before .before .before .line-call .ensures) ∙ c .before .before .before .before .call .given .1 in
+    (c .before .before .before .before .before .before .before .before .before .before .before .pre, head-read (a .version) (a .card) (c .before .before .before .before .before .before .before .before .loop .rest .now) _ read)
 
 answers-agree-requires : tie.Need-answers-agree-requires Inv-loop μ-loop
 unfolding answerAt stateAt
 answers-agree-requires c κs = rw (c .line-answer .ensures) (c .before .before .before .before .before .before .before .before .before .before .before .before .pre)
 
 front-size-requires : tie.Need-front-size-requires Inv-loop μ-loop
-front-size-requires c κs = head-read (c .before .before .before .before .before .before .before .before .before .before .before .before .before .before .before .args .version) (c .before .before .before .before .before .before .before .before .before .before .before .before .before .before .before .args .card) (c .before .before .before .before .before .before .before .before .before .before .before .before .loop .rest .now) _ (sym (c .before .before .before .before .before .before .before .before .before .before .line-call .ensures) ∙ c .before .before .before .before .before .before .before .before .call .given .1)
+front-size-requires c κs =
+    let a = c .before .before .before .before .before .before .before .before .before .before .before .before .before .before .before .args in
+    let read = sym (c .before .before .before .before .before .before .before .before .before .before .line-call .ensures) ∙ c .before .before .before .before .before .before .before .before .call .given .1 in
+    head-read (a .version) (a .card) (c .before .before .before .before .before .before .before .before .before .before .before .before .loop .rest .now) _ read
 
 sub-rest : tie.Need-sub-rest Inv-loop μ-loop
 sub-rest c = search needs
@@ -69,30 +84,48 @@ part-rest-end c = search needs
 
 add-k : tie.Need-add-k Inv-loop μ-loop
 add-k c =
-    let k : c .before .before .before .before .before .before .before .before .before .before .before .before .before .before .loop .k + 1 ≤ length (c .before .before .before .before .before .before .before .before .before .before .before .before .before .before .before .before .before .args .bytes .now) = omega (arith, c .before .before .before .before .before .before .before .before .before .before .before .before .before .before .loop .inv .0, c .before .before .before .before .before .before .before .before .before .before .before .before .before .loop-test .taken) in
+    let l = c .before .before .before .before .before .before .before .before .before .before .before .before .before .before .loop in
+    let k : l .k + 1 ≤ length (c .before .before .before .before .before .before .before .before .before .before .before .before .before .before .before .before .before .args .bytes .now) = omega (arith, l .inv .0, c .before .before .before .before .before .before .before .before .before .before .before .before .before .loop-test .taken) in
     omega (arith, k, c .before .before .before .before .before .before .before .before .before .before .before .before .before .before .before .before .before .good)
 
 loop-less : tie.Need-loop-less Inv-loop μ-loop
-loop-less c = rest-less (c .before .before .before .before .before .before .before .before .before .before .before .before .before .before .loop .rest .now) (c .before .front-size .result) (c .before .front-size .ensures .2) (c .before .front-size .ensures .0)
+loop-less c =
+    let front = c .before .front-size in
+    rest-less (c .before .before .before .before .before .before .before .before .before .before .before .before .before .before .loop .rest .now) (front .result) (front .ensures .2) (front .ensures .0)
 
 loop-again : tie.Need-loop-again Inv-loop μ-loop
-loop-again c = walked-on (c .before .before .before .before .before .before .before .before .before .before .before .before .before .before .before .before .before .args .version) (c .before .before .before .before .before .before .before .before .before .before .before .before .before .before .before .before .before .args .card) (c .before .before .before .before .before .before .before .before .before .before .before .before .before .before .before .before .before .args .bytes .now) (c .before .before .before .before .before .before .before .before .before .before .before .before .before .before .loop .rest .now) _ (c .before .before .before .before .before .before .before .before .before .before .before .before .before .before .loop .b) _ (c .before .before .before .before .before .before .before .before .before .before .before .before .before .before .loop .k) (c .before .front-size .result)
-    (c .before .before .before .before .before .before .before .before .before .before .before .before .before .before .loop .inv) (c .before .front-size .ensures .2) (c .before .front-size .ensures .0) (c .before .front-size .ensures .1)
-    (turn-next (c .before .before .before .before .before .before .before .before .before .before .before .before .before .before .before .before .before .args .version) (c .before .before .before .before .before .before .before .before .before .before .before .before .before .before .before .before .before .args .card) (c .before .before .before .before .before .before .before .before .before .before .before .before .before .before .loop .b) (c .before .before .before .before .before .before .before .before .before .before .before .before .before .before .loop .k) (c .before .before .before .before .before .before .before .before .before .before .before .before .before .before .loop .rest .now) _ (c .before .before .before .before .before .before .before .before .before .before .before .before .before .loop-test .taken) (c .before .before .before .before .before .before .before .before .before .before .before .before .before .before .loop .inv .1) _ (sym (c .before .before .before .before .before .before .before .before .before .before .before .before .line-call .ensures) ∙ c .before .before .before .before .before .before .before .before .before .before .call .given .1) (c .before .before .before .before .before .before .before .before .advance .result) (c .before .before .before .before .before .before .before .before .advance .ensures) (c .before .before .before .before .before .before .if1 .left)
-    (ap (λ (x : Answer). agrees x (c .before .before .before .before .before .before .before .before .advance .result)) (sym (c .before .before .before .before .before .line-answer .ensures)) ∙ sym (c .before .before .before .before .answers-agree .ensures) ∙ c .before .before .before .if2 .taken))
+loop-again c =
+    let a = c .before .before .before .before .before .before .before .before .before .before .before .before .before .before .before .before .before .args in
+    let l = c .before .before .before .before .before .before .before .before .before .before .before .before .before .before .loop in
+    let own = c .before .before .before .before .before .before .before .before .advance in
+    let front = c .before .front-size in
+    let read = sym (c .before .before .before .before .before .before .before .before .before .before .before .before .line-call .ensures) ∙ c .before .before .before .before .before .before .before .before .before .before .call .given .1 in
+    walked-on (a .version) (a .card) (a .bytes .now) (l .rest .now) _ (l .b) _ (l .k) (front .result)
+    (l .inv) (front .ensures .2) (front .ensures .0) (front .ensures .1)
+    (turn-next (a .version) (a .card) (l .b) (l .k) (l .rest .now) _ (c .before .before .before .before .before .before .before .before .before .before .before .before .before .loop-test .taken) (l .inv .1) _ read (own .result) (own .ensures) (c .before .before .before .before .before .before .if1 .left)
+    (ap (λ (x : Answer). agrees x (own .result)) (sym (c .before .before .before .before .before .line-answer .ensures)) ∙ sym (c .before .before .before .before .answers-agree .ensures) ∙ c .before .before .before .if2 .taken))
 
 add-t22 : tie.Need-add-t22 Inv-loop μ-loop
 add-t22 c =
-    let k : c .before .before .before .before .before .before .before .before .before .before .before .loop .k + 1 ≤ length (c .before .before .before .before .before .before .before .before .before .before .before .before .before .before .args .bytes .now) = omega (arith, c .before .before .before .before .before .before .before .before .before .before .before .loop .inv .0, c .before .before .before .before .before .before .before .before .before .before .loop-test .taken) in
+    let l = c .before .before .before .before .before .before .before .before .before .before .before .loop in
+    let k : l .k + 1 ≤ length (c .before .before .before .before .before .before .before .before .before .before .before .before .before .before .args .bytes .now) = omega (arith, l .inv .0, c .before .before .before .before .before .before .before .before .before .before .loop-test .taken) in
     omega (arith, k, c .before .before .before .before .before .before .before .before .before .before .before .before .before .before .good)
 
 returns-3 : tie.Need-returns-3 Inv-loop μ-loop
-returns-3 c = sym
-    (turn-differs (c .before .before .before .before .before .before .before .before .before .before .before .before .before .before .args .version) (c .before .before .before .before .before .before .before .before .before .before .before .before .before .before .args .card) (c .before .before .before .before .before .before .before .before .before .before .before .loop .b) (c .before .before .before .before .before .before .before .before .before .before .before .loop .k) (c .before .before .before .before .before .before .before .before .before .before .before .loop .rest .now) _ (c .before .before .before .before .before .before .before .before .before .before .loop-test .taken) (c .before .before .before .before .before .before .before .before .before .before .before .loop .inv .1) _ (sym (c .before .before .before .before .before .before .before .before .before .line-call .ensures) ∙ c .before .before .before .before .before .before .before .call .given .1) (c .before .before .before .before .before .advance .result) (c .before .before .before .before .before .advance .ensures) (c .before .before .before .if1 .left)
-    (ap (λ (x : Answer). agrees x (c .before .before .before .before .before .advance .result)) (sym (c .before .before .line-answer .ensures)) ∙ sym (c .before .answers-agree .ensures) ∙ c .if2 .left))
+returns-3 c =
+    let a = c .before .before .before .before .before .before .before .before .before .before .before .before .before .before .args in
+    let l = c .before .before .before .before .before .before .before .before .before .before .before .loop in
+    let own = c .before .before .before .before .before .advance in
+    let read = sym (c .before .before .before .before .before .before .before .before .before .line-call .ensures) ∙ c .before .before .before .before .before .before .before .call .given .1 in
+    sym
+    (turn-differs (a .version) (a .card) (l .b) (l .k) (l .rest .now) _ (c .before .before .before .before .before .before .before .before .before .before .loop-test .taken) (l .inv .1) _ read (own .result) (own .ensures) (c .before .before .before .if1 .left)
+    (ap (λ (x : Answer). agrees x (own .result)) (sym (c .before .before .line-answer .ensures)) ∙ sym (c .before .answers-agree .ensures) ∙ c .if2 .left))
 
 returns-4 : tie.Need-returns-4 Inv-loop μ-loop
-returns-4 c = sym (at-end (c .before .before .before .before .args .version) (c .before .before .before .before .args .card) (c .before .loop .b) (c .before .loop .k) (c .before .loop .rest .now) _ (omega arith) (c .before .loop .inv .1))
+returns-4 c =
+    let a = c .before .before .before .before .args in
+    let l = c .before .loop in
+    sym (at-end (a .version) (a .card) (l .b) (l .k) (l .rest .now) _ (omega arith) (l .inv .1))
 
 pub audit-lines-spec : {M : Type 1} → statement M
 audit-lines-spec =

@@ -13,7 +13,10 @@ line-size-requires c κs = search needs
 
 returns : tie.Need-returns
 unfolding behind
-returns c = let f = fits-slice (c .before .before .before .args .version) (c .before .before .before .args .card) (c .before .before .before .args .bytes .now) (c .before .kind-length .result) (c .line-size .result) (front (c .before .before .before .args .version) (c .before .before .before .args .card) (c .before .before .before .args .bytes .now) (c .before .before .before .pre)) (c .before .kind-length .ensures .0) (c .line-size .ensures) in (f .1, rw (c .line-size .ensures, c .before .kind-length .ensures .0), omega (arith, f .0))
+returns c =
+    let a = c .before .before .before .args in
+    let n = c .before .kind-length in
+    let f = fits-slice (a .version) (a .card) (a .bytes .now) (n .result) (c .line-size .result) (front (a .version) (a .card) (a .bytes .now) (c .before .before .before .pre)) (n .ensures .0) (c .line-size .ensures) in (f .1, rw (c .line-size .ensures, n .ensures .0), omega (arith, f .0))
 
 pub front-size-spec : {M : Type 1} → statement M
 front-size-spec = tie.close (tie.spec kind-length-requires line-size-requires returns)

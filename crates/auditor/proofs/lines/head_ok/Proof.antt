@@ -18,7 +18,9 @@ line-length-requires : tie.Need-line-length-requires
 line-length-requires c κs = search needs
 
 read-be-requires : tie.Need-read-be-requires
-read-be-requires c κs = omega (arith, size-is (c .before .before .before .before .before .before .args .version) (c .before .before .before .before .before .before .args .card) (c .before .before .before .before .kind-length .result), c .before .before .line-size .ensures)
+read-be-requires c κs =
+    let a = c .before .before .before .before .before .before .args in
+    omega (arith, size-is (a .version) (a .card) (c .before .before .before .before .kind-length .result), c .before .before .line-size .ensures)
 
 returns : tie.Need-returns
 unfolding headOk

@@ -14,7 +14,9 @@ call-length-requires : tie.Need-call-length-requires
 call-length-requires c κs = search needs
 
 returns : tie.Need-returns
-returns c = let e = c .call-length .ensures ∙ ap (callLength (c .before .before .before .args .version)) (c .before .byte-or-zero .ensures) in (e, omega (arith, e, call-short (c .before .before .before .args .version) (getD (c .before .before .before .args .bytes .now) 2 0)))
+returns c =
+    let a = c .before .before .before .args in
+    let e = c .call-length .ensures ∙ ap (callLength (a .version)) (c .before .byte-or-zero .ensures) in (e, omega (arith, e, call-short (a .version) (getD (a .bytes .now) 2 0)))
 
 pub kind-length-spec : {M : Type 1} → statement M
 kind-length-spec = tie.close (tie.spec byte-or-zero-requires call-length-requires returns)

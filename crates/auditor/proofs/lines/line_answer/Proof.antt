@@ -16,19 +16,36 @@ line-size-requires : tie.Need-line-size-requires
 line-size-requires c κs = search needs
 
 sub-read-answer : tie.Need-sub-read-answer
-sub-read-answer c = omega (arith, fits-slice (c .before .before .before .args .version) (c .before .before .before .args .card) (c .before .before .before .args .bytes .now) (c .before .kind-length .result) (c .line-size .result) (front (c .before .before .before .args .version) (c .before .before .before .args .card) (c .before .before .before .args .bytes .now) (c .before .before .before .pre .1)) (c .before .kind-length .ensures .0) (c .line-size .ensures))
+sub-read-answer c =
+    let a = c .before .before .before .args in
+    let n = c .before .kind-length in
+    omega (arith, fits-slice (a .version) (a .card) (a .bytes .now) (n .result) (c .line-size .result) (front (a .version) (a .card) (a .bytes .now) (c .before .before .before .pre .1)) (n .ensures .0) (c .line-size .ensures))
 
 part-read-answer-start : tie.Need-part-read-answer-start
-part-read-answer-start c = omega (arith, fits-slice (c .before .before .before .args .version) (c .before .before .before .args .card) (c .before .before .before .args .bytes .now) (c .before .kind-length .result) (c .line-size .result) (front (c .before .before .before .args .version) (c .before .before .before .args .card) (c .before .before .before .args .bytes .now) (c .before .before .before .pre .1)) (c .before .kind-length .ensures .0) (c .line-size .ensures))
+part-read-answer-start c =
+    let a = c .before .before .before .args in
+    let n = c .before .kind-length in
+    omega (arith, fits-slice (a .version) (a .card) (a .bytes .now) (n .result) (c .line-size .result) (front (a .version) (a .card) (a .bytes .now) (c .before .before .before .pre .1)) (n .ensures .0) (c .line-size .ensures))
 
 part-read-answer-end : tie.Need-part-read-answer-end
-part-read-answer-end c = omega (arith, fits-slice (c .before .before .before .args .version) (c .before .before .before .args .card) (c .before .before .before .args .bytes .now) (c .before .kind-length .result) (c .line-size .result) (front (c .before .before .before .args .version) (c .before .before .before .args .card) (c .before .before .before .args .bytes .now) (c .before .before .before .pre .1)) (c .before .kind-length .ensures .0) (c .line-size .ensures))
+part-read-answer-end c =
+    let a = c .before .before .before .args in
+    let n = c .before .kind-length in
+    omega (arith, fits-slice (a .version) (a .card) (a .bytes .now) (n .result) (c .line-size .result) (front (a .version) (a .card) (a .bytes .now) (c .before .before .before .pre .1)) (n .ensures .0) (c .line-size .ensures))
 
 read-answer-requires : tie.Need-read-answer-requires
-read-answer-requires c κs = (c .before .before .before .before .pre .0, rw (answer-slice (c .before .before .before .before .args .version) (c .before .before .before .before .args .card) (c .before .before .before .before .args .bytes .now) (c .before .before .kind-length .result) (c .before .line-size .result) (c .before .before .kind-length .ensures .0) (c .before .line-size .ensures)) (omega (arith, answer-long (c .before .before .before .before .args .version) (c .before .before .before .before .args .card) (c .before .before .before .before .args .bytes .now) (front (c .before .before .before .before .args .version) (c .before .before .before .before .args .card) (c .before .before .before .before .args .bytes .now) (c .before .before .before .before .pre .1)))))
+read-answer-requires c κs =
+    let a = c .before .before .before .before .args in
+    let n = c .before .before .kind-length in
+    let size = c .before .line-size in
+    (c .before .before .before .before .pre .0, rw (answer-slice (a .version) (a .card) (a .bytes .now) (n .result) (size .result) (n .ensures .0) (size .ensures)) (omega (arith, answer-long (a .version) (a .card) (a .bytes .now) (front (a .version) (a .card) (a .bytes .now) (c .before .before .before .before .pre .1)))))
 
 returns : tie.Need-returns
-returns c = c .read-answer .ensures ∙ ap (answerAt (c .before .before .before .before .before .args .version) (c .before .before .before .before .before .args .card)) (answer-slice (c .before .before .before .before .before .args .version) (c .before .before .before .before .before .args .card) (c .before .before .before .before .before .args .bytes .now) (c .before .before .before .kind-length .result) (c .before .before .line-size .result) (c .before .before .before .kind-length .ensures .0) (c .before .before .line-size .ensures))
+returns c =
+    let a = c .before .before .before .before .before .args in
+    let n = c .before .before .before .kind-length in
+    let size = c .before .before .line-size in
+    c .read-answer .ensures ∙ ap (answerAt (a .version) (a .card)) (answer-slice (a .version) (a .card) (a .bytes .now) (n .result) (size .result) (n .ensures .0) (size .ensures))
 
 pub line-answer-spec : {M : Type 1} → statement M
 line-answer-spec =

@@ -22,16 +22,33 @@ line-size-requires : tie.Need-line-size-requires
 line-size-requires c κs = search needs
 
 sub-marks-ok : tie.Need-sub-marks-ok
-sub-marks-ok c = omega (arith, fits-slice (c .before .before .before .before .before .args .version) (c .before .before .before .before .before .args .card) (c .before .before .before .before .before .args .bytes .now) (c .before .kind-length .result) (c .line-size .result) (front (c .before .before .before .before .before .args .version) (c .before .before .before .before .before .args .card) (c .before .before .before .before .before .args .bytes .now) (sym (c .before .before .before .head-ok .ensures) ∙ c .before .before .if1 .taken)) (c .before .kind-length .ensures .0) (c .line-size .ensures))
+sub-marks-ok c =
+    let a = c .before .before .before .before .before .args in
+    let n = c .before .kind-length in
+    let ok = sym (c .before .before .before .head-ok .ensures) ∙ c .before .before .if1 .taken in
+    omega (arith, fits-slice (a .version) (a .card) (a .bytes .now) (n .result) (c .line-size .result) (front (a .version) (a .card) (a .bytes .now) ok) (n .ensures .0) (c .line-size .ensures))
 
 part-marks-ok-start : tie.Need-part-marks-ok-start
-part-marks-ok-start c = omega (arith, fits-slice (c .before .before .before .before .before .args .version) (c .before .before .before .before .before .args .card) (c .before .before .before .before .before .args .bytes .now) (c .before .kind-length .result) (c .line-size .result) (front (c .before .before .before .before .before .args .version) (c .before .before .before .before .before .args .card) (c .before .before .before .before .before .args .bytes .now) (sym (c .before .before .before .head-ok .ensures) ∙ c .before .before .if1 .taken)) (c .before .kind-length .ensures .0) (c .line-size .ensures))
+part-marks-ok-start c =
+    let a = c .before .before .before .before .before .args in
+    let n = c .before .kind-length in
+    let ok = sym (c .before .before .before .head-ok .ensures) ∙ c .before .before .if1 .taken in
+    omega (arith, fits-slice (a .version) (a .card) (a .bytes .now) (n .result) (c .line-size .result) (front (a .version) (a .card) (a .bytes .now) ok) (n .ensures .0) (c .line-size .ensures))
 
 part-marks-ok-end : tie.Need-part-marks-ok-end
-part-marks-ok-end c = omega (arith, fits-slice (c .before .before .before .before .before .args .version) (c .before .before .before .before .before .args .card) (c .before .before .before .before .before .args .bytes .now) (c .before .kind-length .result) (c .line-size .result) (front (c .before .before .before .before .before .args .version) (c .before .before .before .before .before .args .card) (c .before .before .before .before .before .args .bytes .now) (sym (c .before .before .before .head-ok .ensures) ∙ c .before .before .if1 .taken)) (c .before .kind-length .ensures .0) (c .line-size .ensures))
+part-marks-ok-end c =
+    let a = c .before .before .before .before .before .args in
+    let n = c .before .kind-length in
+    let ok = sym (c .before .before .before .head-ok .ensures) ∙ c .before .before .if1 .taken in
+    omega (arith, fits-slice (a .version) (a .card) (a .bytes .now) (n .result) (c .line-size .result) (front (a .version) (a .card) (a .bytes .now) ok) (n .ensures .0) (c .line-size .ensures))
 
 marks-ok-requires : tie.Need-marks-ok-requires
-marks-ok-requires c κs = rw (answer-slice (c .before .before .before .before .before .before .args .version) (c .before .before .before .before .before .before .args .card) (c .before .before .before .before .before .before .args .bytes .now) (c .before .before .kind-length .result) (c .before .line-size .result) (c .before .before .kind-length .ensures .0) (c .before .line-size .ensures)) (omega (arith, head-in-answer (c .before .before .before .before .before .before .args .version) (c .before .before .before .before .before .before .args .card), answer-long (c .before .before .before .before .before .before .args .version) (c .before .before .before .before .before .before .args .card) (c .before .before .before .before .before .before .args .bytes .now) (front (c .before .before .before .before .before .before .args .version) (c .before .before .before .before .before .before .args .card) (c .before .before .before .before .before .before .args .bytes .now) (sym (c .before .before .before .before .head-ok .ensures) ∙ c .before .before .before .if1 .taken))))
+marks-ok-requires c κs =
+    let a = c .before .before .before .before .before .before .args in
+    let n = c .before .before .kind-length in
+    let size = c .before .line-size in
+    let ok = sym (c .before .before .before .before .head-ok .ensures) ∙ c .before .before .before .if1 .taken in
+    rw (answer-slice (a .version) (a .card) (a .bytes .now) (n .result) (size .result) (n .ensures .0) (size .ensures)) (omega (arith, head-in-answer (a .version) (a .card), answer-long (a .version) (a .card) (a .bytes .now) (front (a .version) (a .card) (a .bytes .now) ok)))
 
 sub-read-call : tie.Need-sub-read-call
 sub-read-call c = search needs
@@ -40,18 +57,33 @@ part-read-call-start : tie.Need-part-read-call-start
 part-read-call-start c = search needs
 
 part-read-call-end : tie.Need-part-read-call-end
-part-read-call-end c = omega (arith, fits-slice (c .before .before .before .before .before .before .before .before .args .version) (c .before .before .before .before .before .before .before .before .args .card) (c .before .before .before .before .before .before .before .before .args .bytes .now) (c .before .before .before .before .kind-length .result) (c .before .before .before .line-size .result) (front (c .before .before .before .before .before .before .before .before .args .version) (c .before .before .before .before .before .before .before .before .args .card) (c .before .before .before .before .before .before .before .before .args .bytes .now) (sym (c .before .before .before .before .before .before .head-ok .ensures) ∙ c .before .before .before .before .before .if1 .taken)) (c .before .before .before .before .kind-length .ensures .0) (c .before .before .before .line-size .ensures))
+part-read-call-end c =
+    let a = c .before .before .before .before .before .before .before .before .args in
+    let n = c .before .before .before .before .kind-length in
+    let size = c .before .before .before .line-size in
+    let ok = sym (c .before .before .before .before .before .before .head-ok .ensures) ∙ c .before .before .before .before .before .if1 .taken in
+    omega (arith, fits-slice (a .version) (a .card) (a .bytes .now) (n .result) (size .result) (front (a .version) (a .card) (a .bytes .now) ok) (n .ensures .0) (size .ensures))
 
 read-call-requires : tie.Need-read-call-requires
 read-call-requires c κs = search needs
 
 returns : tie.Need-returns
 unfolding lineCall
-returns c = c .read-call .ensures ∙ ap (callOf (c .before .before .before .before .before .before .before .before .before .before .args .version)) (call-slice (c .before .before .before .before .before .before .before .before .before .before .args .version) (c .before .before .before .before .before .before .before .before .before .before .args .card) (c .before .before .before .before .before .before .before .before .before .before .args .bytes .now) (c .before .before .before .before .before .before .kind-length .result) (c .before .before .before .before .before .before .kind-length .ensures .0)) ∙ via-true _ _ (sym (c .before .before .before .before .before .before .before .before .head-ok .ensures) ∙ c .before .before .before .before .before .before .before .if1 .taken) (via-true _ _ (ap (marksOk (c .before .before .before .before .before .before .before .before .before .before .args .version)) (sym (answer-slice (c .before .before .before .before .before .before .before .before .before .before .args .version) (c .before .before .before .before .before .before .before .before .before .before .args .card) (c .before .before .before .before .before .before .before .before .before .before .args .bytes .now) (c .before .before .before .before .before .before .kind-length .result) (c .before .before .before .before .before .line-size .result) (c .before .before .before .before .before .before .kind-length .ensures .0) (c .before .before .before .before .before .line-size .ensures))) ∙ sym (c .before .before .before .marks-ok .ensures) ∙ c .before .before .if2 .taken) refl)
+returns c =
+    let a = c .before .before .before .before .before .before .before .before .before .before .args in
+    let n = c .before .before .before .before .before .before .kind-length in
+    let size = c .before .before .before .before .before .line-size in
+    let ok = sym (c .before .before .before .before .before .before .before .before .head-ok .ensures) ∙ c .before .before .before .before .before .before .before .if1 .taken in
+    c .read-call .ensures ∙ ap (callOf (a .version)) (call-slice (a .version) (a .card) (a .bytes .now) (n .result) (n .ensures .0)) ∙ via-true _ _ ok (via-true _ _ (ap (marksOk (a .version)) (sym (answer-slice (a .version) (a .card) (a .bytes .now) (n .result) (size .result) (n .ensures .0) (size .ensures))) ∙ sym (c .before .before .before .marks-ok .ensures) ∙ c .before .before .if2 .taken) refl)
 
 returns-2 : tie.Need-returns-2
 unfolding lineCall
-returns-2 c = via-true _ _ (sym (c .before .before .before .before .before .before .head-ok .ensures) ∙ c .before .before .before .before .before .if1 .taken) (via-false _ _ (ap (marksOk (c .before .before .before .before .before .before .before .before .args .version)) (sym (answer-slice (c .before .before .before .before .before .before .before .before .args .version) (c .before .before .before .before .before .before .before .before .args .card) (c .before .before .before .before .before .before .before .before .args .bytes .now) (c .before .before .before .before .kind-length .result) (c .before .before .before .line-size .result) (c .before .before .before .before .kind-length .ensures .0) (c .before .before .before .line-size .ensures))) ∙ sym (c .before .marks-ok .ensures) ∙ c .if2 .left) refl)
+returns-2 c =
+    let a = c .before .before .before .before .before .before .before .before .args in
+    let n = c .before .before .before .before .kind-length in
+    let size = c .before .before .before .line-size in
+    let ok = sym (c .before .before .before .before .before .before .head-ok .ensures) ∙ c .before .before .before .before .before .if1 .taken in
+    via-true _ _ ok (via-false _ _ (ap (marksOk (a .version)) (sym (answer-slice (a .version) (a .card) (a .bytes .now) (n .result) (size .result) (n .ensures .0) (size .ensures))) ∙ sym (c .before .marks-ok .ensures) ∙ c .if2 .left) refl)
 
 returns-3 : tie.Need-returns-3
 unfolding lineCall

@@ -1,0 +1,261 @@
+-- A substep's faults, each only at its test, and the runs that end for their sake: the run that is handed out is the one before that substep.
+use mathlib.Core.Path.{_≡_, refl, sym, _∙_, ap}
+use mathlib.Core.Bool.{false, cond}
+use mathlib.Core.List.{List}
+use mathlib.Core.Logic.{_⊎_, inl, inr}
+use Prim.Native.Nat.{ℕ, _+_}
+use lib.Dec.{eqb}
+use lib.Ieee.{Float, lt, le}
+use Rattle.floats.specs.F64.{_⊕_, _⊗_}
+use Rattle.floats.specs.Constants as Constants
+use Rattle.floats.specs.Constants.{smallestNormal, largestFinite}
+use Rattle.floats.specs.Ln.{ln, lnNormal}
+use Rattle.floats.specs.Sum2.{sum2}
+use Rattle.floats.specs.declared.Log.{Log}
+use Rattle.floats.specs.declared.Log.the-variants.{Value, Refused}
+use Rattle.floats.proofs.Cases.{by-test}
+use Rattle.zone.specs.Heat.{kwh, kilowattHours}
+use Rattle.zone.specs.Water.{transferOf, heatTransfer}
+use Rattle.zone.specs.declared.Mode.{Mode}
+use Rattle.zone.specs.declared.Mode.the-variants.{OnlyCharging, Losses, Normal}
+use Rattle.card.specs.declared.Card.{Card}
+use Rattle.card.specs.declared.HeatBatteryPcm.{HeatBatteryPcm}
+use Rattle.substep.specs.Substep.{perLayer, zoneTransfer, withoutLogarithm, passFinite, passFault, substepFrom, withTransfer, processHeatBatteryZones}
+use Rattle.substep.specs.declared.Drive.{Drive}
+use Rattle.substep.specs.declared.Pass.{Pass}
+use Rattle.substep.specs.declared.Substep.{Substep}
+use Rattle.substep.specs.declared.Fault.{Fault}
+use Rattle.substep.specs.declared.Fault.the-variants.{Nothing, Logarithm, NotFinite}
+use Rattle.runs.specs.declared.DemandTask.{DemandTask}
+use Rattle.runs.specs.declared.DemandTurn.{DemandTurn}
+use Rattle.runs.specs.declared.Run.{Run}
+use Rattle.runs.specs.declared.HydronicTask.{HydronicTask}
+use Rattle.runs.specs.declared.HydronicRun.{HydronicRun}
+use Rattle.runs.specs.declared.HydronicTurn.{HydronicTurn}
+use Rattle.runs.specs.declared.Next.{Next}
+use Rattle.runs.specs.declared.Next.the-variants.{On, Stop}
+use Rattle.runs.specs.declared.End.{End}
+use Rattle.runs.specs.declared.End.the-variants.{Done, Negative, Met, NoStep, Level, Limit, Time, OverBudget, NoLogarithm, NotFiniteRun}
+use Rattle.runs.specs.Demand.{demandDrive, demandMet, demandDelivered, demandBy, demandSubstep, demandRun}
+use Rattle.runs.specs.Hydronic.{wetDrive, clearlyBelow, limitReached, replayBy, replayed, fractionSeconds, hydronicWhole, hydronicBy, hydronicStep, hydronicRun}
+use Rattle.runs.specs.Runs.{reynoldBetween}
+use Rattle.engine.specs.Budget.{wholeFrom, FractionDue}
+use Rattle.engine.specs.Faults.{ArgumentRefused, passOf, PassNotFinite, FaultTest, SubstepFault, heatOf, absorbedWith, fractionDrive, HydronicFault}
+use Rattle.engine.proofs.Inductions.{demand-induction, hydronic-induction}
+use Rattle.engine.proofs.Turns.{never}
+
+-- the logarithm's argument
+abbrev BadArgument : Float → Type 0
+BadArgument x = (le smallestNormal x ≡ false) ⊎ (le x largestFinite ≡ false)
+
+ln-refuses : (x : Float) → ln x ≡ Refused → BadArgument x
+unfolding ln
+ln-refuses x =
+    by-test (λ (l : Log). l ≡ Refused → BadArgument x) (le smallestNormal x) (cond (le x largestFinite) (Value (lnNormal x)) Refused) Refused
+    (λ t. by-test (λ (l : Log). l ≡ Refused → BadArgument x) (le x largestFinite) (Value (lnNormal x)) Refused (λ u h. never (cc)) (λ u h. inr u))
+    (λ t h. inl t)
+
+transfer-refuses : (a b : Float) (l : Log) → transferOf a b l ≡ Refused → l ≡ Refused
+unfolding transferOf
+transfer-refuses a b (Value l) h = never (cc)
+transfer-refuses a b Refused h = refl
+
+layer-refuses : (c : Card) (l : Log) → perLayer c l ≡ Refused → l ≡ Refused
+unfolding perLayer
+layer-refuses c (Value u) h = never (cc)
+layer-refuses c Refused h = refl
+
+zone-refuses : (m : Mode) (c : Card) (d : Drive) → zoneTransfer m c d ≡ Refused → (m ≡ Normal) × BadArgument (d .reynold ⊗ d .flow)
+unfolding zoneTransfer heatTransfer
+zone-refuses OnlyCharging c d h = never (cc)
+zone-refuses Losses c d h = never (cc)
+zone-refuses Normal c d h =
+    (refl, ln-refuses (d .reynold ⊗ d .flow) (transfer-refuses (d .a) (d .b) (ln (d .reynold ⊗ d .flow)) (layer-refuses c (transferOf (d .a) (d .b) (ln (d .reynold ⊗ d .flow))) h)))
+
+no-logarithm-fault : (c : Card) (p : Pass) (sum : Float) → passFault c p sum ≡ Logarithm → ⊥
+unfolding passFault
+no-logarithm-fault c p sum =
+    by-test (λ (f : Fault). f ≡ Logarithm → ⊥) (passFinite c p sum) Nothing NotFinite (λ t h. never (cc)) (λ t h. never (cc))
+
+not-finite-fault : (c : Card) (p : Pass) (sum : Float) → passFault c p sum ≡ NotFinite → passFinite c p sum ≡ false
+unfolding passFault
+not-finite-fault c p sum =
+    by-test (λ (f : Fault). f ≡ NotFinite → passFinite c p sum ≡ false) (passFinite c p sum) Nothing NotFinite (λ t h. never (cc)) (λ t h. t)
+
+module _ (c : Card) (pcm : HeatBatteryPcm) (d : Drive) (zones : List Float) where
+  with-refused : (l : Log) → withTransfer c pcm d zones l .fault ≡ Logarithm → l ≡ Refused
+  unfolding withTransfer substepFrom
+  with-refused Refused h = refl
+  with-refused (Value u) h =
+      let p = passOf c pcm d zones u in
+      absurd (no-logarithm-fault c p (sum2 (p .energies) (c .layers)) h)
+
+  with-not-finite : (l : Log) → zoneTransfer (d .mode) c d ≡ l → withTransfer c pcm d zones l .fault ≡ NotFinite → PassNotFinite c pcm d zones
+  unfolding withTransfer withoutLogarithm substepFrom
+  with-not-finite Refused e h = never (cc)
+  with-not-finite (Value u) e h =
+      let p = passOf c pcm d zones u in
+      record { transfer = u; taken = e; found = not-finite-fault c p (sum2 (p .energies) (c .layers)) h }
+
+  -- 24 only where the logarithm refuses its argument, in a demand's or hydronic substep
+  pub logarithm-only : processHeatBatteryZones c pcm d zones .fault ≡ Logarithm → ArgumentRefused d
+  unfolding processHeatBatteryZones
+  logarithm-only h =
+      let w = zone-refuses (d .mode) c d (with-refused (zoneTransfer (d .mode) c d) h) in
+      record { normal = w .0; argument = w .1 }
+
+  -- 23 only where a number behind the substep is not finite
+  pub pass-not-finite-only : processHeatBatteryZones c pcm d zones .fault ≡ NotFinite → PassNotFinite c pcm d zones
+  unfolding processHeatBatteryZones
+  pass-not-finite-only h = with-not-finite (zoneTransfer (d .mode) c d) refl h
+
+  tested : (f : Fault) → (f ≡ Nothing → ⊥) → processHeatBatteryZones c pcm d zones .fault ≡ f → FaultTest f c pcm d zones
+  tested Nothing q h = q refl
+  tested Logarithm q h = logarithm-only h
+  tested NotFinite q h = pass-not-finite-only h
+
+  pub substep-fault : (f : Fault) → (f ≡ Nothing → ⊥) → processHeatBatteryZones c pcm d zones .fault ≡ f → SubstepFault f c pcm d zones
+  substep-fault f q h = record { fault = h; test = tested f q h }
+
+-- the substep from s
+abbrev pub demandFromRun : DemandTask → Run → Substep
+demandFromRun x s = processHeatBatteryZones (x .card) (x .pcm) (demandDrive x s) (s .zones)
+
+-- the fractional substep behind the whole substep u from s
+abbrev fractionFrom : HydronicTask → HydronicRun → Substep → Substep
+fractionFrom x s u = processHeatBatteryZones (x .card) (x .pcm) (fractionDrive x s u) (s .zones)
+
+record FractionTold (x : HydronicTask) (s : HydronicRun) (u : Substep) (f : Fault) : Type 0 where
+  due : FractionDue x s u
+  fault : fractionFrom x s u .fault ≡ f
+
+-- the fault that an end tells of
+abbrev pub endFault : End → Fault
+endFault Done = Nothing
+endFault Negative = Nothing
+endFault Met = Nothing
+endFault NoStep = Nothing
+endFault Level = Nothing
+endFault Limit = Nothing
+endFault Time = Nothing
+endFault OverBudget = Nothing
+endFault NoLogarithm = Logarithm
+endFault NotFiniteRun = NotFinite
+
+abbrev nextFault : Next → Fault
+nextFault On = Nothing
+nextFault (Stop e) = endFault e
+
+-- the turn t behind s with the substep u
+record DemandTold (s : Run) (u : Substep) (t : DemandTurn) : Type 0 where
+  same : (nextFault (t .next) ≡ Nothing → ⊥) → t .run ≡ s
+  fault : (nextFault (t .next) ≡ Nothing → ⊥) → u .fault ≡ nextFault (t .next)
+
+module _ (x : DemandTask) (s : Run) (u : Substep) where
+  told-delivered : DemandTold s u (demandDelivered x s u)
+  unfolding demandDelivered
+  told-delivered =
+      by-test (DemandTold s u) (lt (u .delivered .0) Constants.zero) _ _
+      (λ a. record { same = λ q. absurd (q refl); fault = λ q. absurd (q refl) })
+      (λ a. by-test (DemandTold s u) (demandMet x (kwh (s .delivered .0 ⊕ kilowattHours (u .delivered) .0))) _ _
+      (λ b. record { same = λ q. absurd (q refl); fault = λ q. absurd (q refl) })
+      (λ b. record { same = λ q. absurd (q refl); fault = λ q. absurd (q refl) }))
+
+  told-by : (f : Fault) → u .fault ≡ f → DemandTold s u (demandBy x s u f)
+  unfolding demandBy
+  told-by Nothing w = told-delivered
+  told-by Logarithm w = record { same = λ q. refl; fault = λ q. w }
+  told-by NotFinite w = record { same = λ q. refl; fault = λ q. w }
+
+demand-told : (x : DemandTask) (s : Run) → DemandTold s (demandFromRun x s) (demandSubstep x s)
+unfolding demandSubstep
+demand-told x s = told-by x s (demandFromRun x s) (demandFromRun x s .fault) refl
+
+module _ (x : DemandTask) where
+  demand-stops :
+      (s : Run) (e : End) → demandSubstep x s .next ≡ Stop e → (endFault e ≡ Nothing → ⊥) → demandFromRun x (demandSubstep x s .run) .fault ≡ endFault e
+  demand-stops s e h q =
+      let k = demand-told x s in
+      let r : nextFault (demandSubstep x s .next) ≡ Nothing → ⊥ = λ z. q (sym (ap nextFault h) ∙ z) in
+      rw (k .same r) (k .fault r ∙ ap nextFault h)
+
+  pub demand-run-faults : (k n : ℕ) (s : Run) → (endFault (demandRun x k n s .end) ≡ Nothing → ⊥) → demandFromRun x (demandRun x k n s .run) .fault ≡ endFault (demandRun x k n s .end)
+  demand-run-faults =
+      demand-induction x (λ k n s d. (endFault (d .end) ≡ Nothing → ⊥) → demandFromRun x (d .run) .fault ≡ endFault (d .end))
+      (λ k n s q. absurd (q refl))
+      (λ n s h q. absurd (q refl))
+      (λ k n s e h q. demand-stops s e h q)
+      (λ k n s d h r q. r q)
+
+record HydronicTold (x : HydronicTask) (s : HydronicRun) (u : Substep) (t : HydronicTurn) : Type 0 where
+  same : (nextFault (t .next) ≡ Nothing → ⊥) → t .run ≡ s
+  fault : (nextFault (t .next) ≡ Nothing → ⊥) → (u .fault ≡ nextFault (t .next)) ⊎ FractionTold x s u (nextFault (t .next))
+
+module _ (x : HydronicTask) (n : ℕ) (s : HydronicRun) (u : Substep) where
+  abbrev Told : HydronicTurn → Type 0
+  Told = HydronicTold x s u
+
+  module _ (w : FractionDue x s u) (seconds reynold : Float) where
+    told-replay : (f : Fault) → fractionFrom x s u .fault ≡ f → Told (replayBy x (n + 1) s seconds reynold (fractionFrom x s u) f)
+    unfolding replayBy
+    told-replay Nothing h = record { same = λ q. absurd (q refl); fault = λ q. absurd (q refl) }
+    told-replay Logarithm h = record { same = λ q. refl; fault = λ q. inr (record { due = w; fault = h }) }
+    told-replay NotFinite h = record { same = λ q. refl; fault = λ q. inr (record { due = w; fault = h }) }
+
+  told-replayed :
+      FractionDue x s u →
+      Told (replayed x n s (fractionSeconds x (absorbedWith s u) (heatOf u)) (reynoldBetween (x .wet .inlet) (u .outlet) (x .wet .velocity) (x .wet .diameter)))
+  unfolding replayed
+  told-replayed w =
+      by-test Told (eqb n (x .card .budget)) _ _
+      (λ h. record { same = λ q. absurd (q refl); fault = λ q. absurd (q refl) })
+      (λ h. told-replay w _ _ (fractionFrom x s u .fault) refl)
+
+  told-whole : u .fault ≡ Nothing → Told (hydronicWhole x n s u)
+  unfolding hydronicWhole
+  told-whole w =
+      by-test Told (clearlyBelow (u .outlet) (x .wet .inlet)) _ _
+      (λ a. by-test Told (limitReached (absorbedWith s u) (x .limit)) _ _
+      (λ b. by-test Told (lt Constants.zero (heatOf u .0)) _ _
+      (λ c. told-replayed (record { worked = w; below = a; passed = b; heat = c }))
+      (λ c. record { same = λ q. absurd (q refl); fault = λ q. absurd (q refl) }))
+      (λ b. record { same = λ q. absurd (q refl); fault = λ q. absurd (q refl) }))
+      (λ a. record { same = λ q. absurd (q refl); fault = λ q. absurd (q refl) })
+
+  told-turn : (f : Fault) → u .fault ≡ f → Told (hydronicBy x n s u f)
+  unfolding hydronicBy
+  told-turn Nothing w = told-whole w
+  told-turn Logarithm w = record { same = λ q. refl; fault = λ q. inl w }
+  told-turn NotFinite w = record { same = λ q. refl; fault = λ q. inl w }
+
+hydronic-told : (x : HydronicTask) (n : ℕ) (s : HydronicRun) → HydronicTold x s (wholeFrom x s) (hydronicStep x n s)
+unfolding hydronicStep
+hydronic-told x n s = told-turn x (n + 1) s (wholeFrom x s) (wholeFrom x s .fault) refl
+
+module _ (x : HydronicTask) where
+  abbrev Ends : HydronicRun → Fault → Type 0
+  Ends s f = (wholeFrom x s .fault ≡ f) ⊎ FractionTold x s (wholeFrom x s) f
+
+  hydronic-stops : (n : ℕ) (s : HydronicRun) (e : End) → hydronicStep x n s .next ≡ Stop e → (endFault e ≡ Nothing → ⊥) → Ends (hydronicStep x n s .run) (endFault e)
+  hydronic-stops n s e h q =
+      let k = hydronic-told x n s in
+      let r : nextFault (hydronicStep x n s .next) ≡ Nothing → ⊥ = λ z. q (sym (ap nextFault h) ∙ z) in
+      let w : Ends s (endFault e) = rw (ap nextFault h) at (k .fault r) in
+      rw (k .same r) w
+
+  hydronic-ends : (k n : ℕ) (s : HydronicRun) → (endFault (hydronicRun x k n s .end) ≡ Nothing → ⊥) → Ends (hydronicRun x k n s .run) (endFault (hydronicRun x k n s .end))
+  hydronic-ends =
+      hydronic-induction x (λ k n s d. (endFault (d .end) ≡ Nothing → ⊥) → Ends (d .run) (endFault (d .end)))
+      (λ n s q. absurd (q refl))
+      (λ k n s h q. absurd (q refl))
+      (λ k n s e b h q. hydronic-stops n s e h q)
+      (λ k n s d b h r q. r q)
+
+  at-test : (s : HydronicRun) (f : Fault) → (f ≡ Nothing → ⊥) → Ends s f → HydronicFault f x s
+  at-test s f q (inl h) = inl (substep-fault (x .card) (x .pcm) (wetDrive x (x .card .substep) (s .reynold)) (s .zones) f q h)
+  at-test s f q (inr w) =
+      inr (record { due = w .due; fault = substep-fault (x .card) (x .pcm) (fractionDrive x s (wholeFrom x s)) (s .zones) f q (w .fault) })
+
+  pub hydronic-run-faults :
+      (k n : ℕ) (s : HydronicRun) → (endFault (hydronicRun x k n s .end) ≡ Nothing → ⊥) → HydronicFault (endFault (hydronicRun x k n s .end)) x (hydronicRun x k n s .run)
+  hydronic-run-faults k n s q = at-test (hydronicRun x k n s .run) (endFault (hydronicRun x k n s .end)) q (hydronic-ends k n s q)
