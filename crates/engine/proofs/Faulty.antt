@@ -15,9 +15,9 @@ use Rattle.floats.specs.declared.Log.{Log}
 use Rattle.floats.specs.declared.Log.the-variants.{Value, Refused}
 use Rattle.floats.proofs.Cases.{by-test}
 use Rattle.zone.specs.Heat.{kwh, kilowattHours}
-use Rattle.zone.specs.Water.{transferOf, heatTransfer}
-use Rattle.zone.specs.declared.Mode.{Mode}
-use Rattle.zone.specs.declared.Mode.the-variants.{OnlyCharging, Losses, Normal}
+use Rattle.water.specs.Water.{transferOf, heatTransfer}
+use Rattle.water.specs.declared.Mode.{Mode}
+use Rattle.water.specs.declared.Mode.the-variants.{OnlyCharging, Losses, Normal}
 use Rattle.card.specs.declared.Card.{Card}
 use Rattle.card.specs.declared.HeatBatteryPcm.{HeatBatteryPcm}
 use Rattle.substep.specs.Substep.{perLayer, zoneTransfer, withoutLogarithm, passFinite, passFault, substepFrom, withTransfer, processHeatBatteryZones}

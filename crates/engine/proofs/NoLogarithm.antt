@@ -6,7 +6,7 @@ use Prim.Native.Nat.{ℕ}
 use native.Mathlib.Omega.{arith}
 use lib.Ieee.{Float, le}
 use Rattle.floats.specs.Constants.{tolerance}
-use Rattle.zone.specs.declared.Mode.the-variants.{OnlyCharging, Losses, Normal}
+use Rattle.water.specs.declared.Mode.the-variants.{OnlyCharging, Losses, Normal}
 use Rattle.card.specs.Derived.{derived}
 use Rattle.battery.specs.declared.Battery.{Battery}
 use Rattle.battery.specs.declared.Given.the-variants.{Value}

@@ -11,7 +11,7 @@ use Rattle.floats.specs.declared.Log.the-variants.{Value}
 use Rattle.zone.specs.Heat.{kj}
 use Rattle.zone.specs.Layer.{storedEnergy}
 use Rattle.zone.specs.declared.Kilojoules.{Kilojoules}
-use Rattle.zone.specs.declared.Mode.the-variants.{Normal}
+use Rattle.water.specs.declared.Mode.the-variants.{Normal}
 use Rattle.zone.specs.declared.StateOfCharge.the-variants.{Level, Above}
 use Rattle.card.specs.Derived.{derived}
 use Rattle.card.specs.declared.Card.{Card}

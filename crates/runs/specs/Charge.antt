@@ -7,7 +7,7 @@ use Rattle.floats.specs.Standins.{nearlyEqual, maxZero, min}
 use Rattle.zone.specs.Heat.{kj, kwh, kilowattHours, kilojoules}
 use Rattle.zone.specs.declared.Kilojoules.{Kilojoules}
 use Rattle.zone.specs.declared.KilowattHours.{KilowattHours}
-use Rattle.zone.specs.declared.Mode.the-variants.{OnlyCharging, Losses}
+use Rattle.water.specs.declared.Mode.the-variants.{OnlyCharging, Losses}
 use Rattle.card.specs.Derived.{derived, energyAt}
 use Rattle.card.specs.declared.Card.{Card}
 use Rattle.battery.specs.declared.Battery.{Battery}

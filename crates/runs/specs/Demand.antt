@@ -8,7 +8,7 @@ use Rattle.floats.specs.Constants.{tolerance, demandRelative}
 use Rattle.floats.specs.Standins.{nearlyEqual}
 use Rattle.zone.specs.Heat.{kwh, kilowattHours}
 use Rattle.zone.specs.declared.KilowattHours.{KilowattHours}
-use Rattle.zone.specs.declared.Mode.the-variants.{Normal}
+use Rattle.water.specs.declared.Mode.the-variants.{Normal}
 use Rattle.substep.specs.Substep.{processHeatBatteryZones}
 use Rattle.substep.specs.declared.Drive.{Drive}
 use Rattle.substep.specs.declared.Substep.{Substep}

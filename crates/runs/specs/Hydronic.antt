@@ -10,7 +10,7 @@ use Rattle.floats.specs.Standins.{nearlyEqual, truncate}
 use Rattle.zone.specs.Heat.{kj, kilowattHours}
 use Rattle.zone.specs.declared.Kilojoules.{Kilojoules}
 use Rattle.zone.specs.declared.KilowattHours.{KilowattHours}
-use Rattle.zone.specs.declared.Mode.the-variants.{Normal}
+use Rattle.water.specs.declared.Mode.the-variants.{Normal}
 use Rattle.substep.specs.Substep.{processHeatBatteryZones}
 use Rattle.substep.specs.declared.Drive.{Drive}
 use Rattle.substep.specs.declared.Substep.{Substep}

@@ -3,7 +3,7 @@ use Prim.Native.Nat.{ℕ}
 use lib.Ieee.{Float}
 use Rattle.floats.specs.F64.{_⊖_, _⊗_, _⊘_}
 use Rattle.floats.specs.Constants.{one}
-use Rattle.zone.specs.Water.{kinematicViscosity, reynoldNumber}
+use Rattle.water.specs.Water.{kinematicViscosity, reynoldNumber}
 use Rattle.substep.specs.declared.Fault.{Fault}
 use Rattle.substep.specs.declared.Fault.the-variants.{Nothing, Logarithm, NotFinite}
 use Rattle.battery.specs.declared.Battery.{Battery}

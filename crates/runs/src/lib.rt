@@ -163,8 +163,8 @@ pub fn end_refusal(end: End) -> u8
 pub fn reynold_between(inlet: f64, outlet: f64, velocity: f64, diameter: f64) -> f64
     ensures { λ r. ⌜ r ≡ reynoldBetween inlet outlet velocity diameter ⌝ }
 {
-    let viscosity = zone::water::calculate_water_kinematic_viscosity_m2_per_s(inlet, outlet);
-    zone::water::calculate_reynold_number_at_1_l_per_min(viscosity, velocity, diameter)
+    let viscosity = water::calculate_water_kinematic_viscosity_m2_per_s(inlet, outlet);
+    water::calculate_reynold_number_at_1_l_per_min(viscosity, velocity, diameter)
 }
 
 // Hours.

@@ -11,8 +11,8 @@ use Rattle.floats.specs.Standins.{finite64}
 use Rattle.zone.specs.Layer.{zoneSalt}
 use Rattle.zone.specs.declared.Kilojoules.{Kilojoules}
 use Rattle.zone.specs.declared.KilowattHours.{KilowattHours}
-use Rattle.zone.specs.declared.Mode.{Mode}
-use Rattle.zone.specs.declared.Mode.the-variants.{OnlyCharging, Losses, Normal}
+use Rattle.water.specs.declared.Mode.{Mode}
+use Rattle.water.specs.declared.Mode.the-variants.{OnlyCharging, Losses, Normal}
 use Rattle.substep.specs.Substep.{zoneIndex, zoneStep, zoneAt, zonesAfter}
 use Rattle.substep.specs.declared.Course.{Course}
 use Rattle.substep.specs.declared.Pass.{Pass}

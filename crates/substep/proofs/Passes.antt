@@ -8,8 +8,8 @@ use lib.Seq.{getD-set-other}
 use lib.Ieee.{nan}
 use Rattle.floats.specs.F64.{_⊕_}
 use Rattle.zone.specs.Layer.{zoneSalt}
-use Rattle.zone.specs.declared.Mode.{Mode}
-use Rattle.zone.specs.declared.Mode.the-variants.{OnlyCharging, Losses, Normal}
+use Rattle.water.specs.declared.Mode.{Mode}
+use Rattle.water.specs.declared.Mode.the-variants.{OnlyCharging, Losses, Normal}
 use Rattle.zone.specs.declared.Salt.{Salt}
 use Rattle.substep.specs.Substep.{zoneIndex, zoneStep, zoneAt, zonesAfter}
 use Rattle.substep.specs.declared.Course.{Course}

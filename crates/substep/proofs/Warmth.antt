@@ -17,14 +17,15 @@ use Rattle.floats.proofs.Standins.{finite64-finite}
 use Rattle.zone.specs.Good.{GoodSalt}
 use Rattle.zone.specs.Heat.{kj}
 use Rattle.zone.specs.Layer.{zoneSalt}
-use Rattle.zone.specs.Update.{newZoneTemperature}
-use Rattle.zone.specs.Water.{zoneProperties}
-use Rattle.zone.specs.declared.Charged.{Charged}
+use Rattle.update.specs.Update.{newZoneTemperature}
+use Rattle.water.specs.Water.{zoneProperties}
+use Rattle.charging.specs.declared.Charged.{Charged}
 use Rattle.zone.specs.declared.Kilojoules.{Kilojoules}
 use Rattle.zone.specs.declared.KilowattHours.{KilowattHours}
-use Rattle.zone.specs.declared.Mode.the-variants.{OnlyCharging, Losses}
-use Rattle.zone.proofs.Directions.{negative-never-lowers, loss-never-warms}
-use Rattle.zone.proofs.Charges.{charge-never-cools, charging-left-nonpositive}
+use Rattle.water.specs.declared.Mode.the-variants.{OnlyCharging, Losses}
+use Rattle.update.proofs.Directions.{negative-never-lowers}
+use Rattle.water.proofs.Exchanged.{loss-never-warms}
+use Rattle.charging.proofs.Charges.{charge-never-cools, charging-left-nonpositive}
 use Rattle.card.specs.declared.Card.{Card}
 use Rattle.card.specs.declared.HeatBatteryPcm.{HeatBatteryPcm}
 use Rattle.substep.specs.Substep.{zoneCharge, zoneStep, zonesAfter, zoneTransfer, courseOf, passFrom, substepFrom, withTransfer, processHeatBatteryZones}

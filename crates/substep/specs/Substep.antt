@@ -13,15 +13,15 @@ use Rattle.floats.specs.declared.Log.{Log}
 use Rattle.floats.specs.declared.Log.the-variants.{Value, Refused}
 use Rattle.zone.specs.Heat.{kj, kwh}
 use Rattle.zone.specs.Layer.{socToTemp, zoneSalt}
-use Rattle.zone.specs.Update.{newZoneTemperature}
-use Rattle.zone.specs.Charging.{charged, zoneSimultaneousCharging}
-use Rattle.zone.specs.Water.{massFlow, heatTransfer, zoneProperties}
+use Rattle.update.specs.Update.{newZoneTemperature}
+use Rattle.charging.specs.Charging.{charged, zoneSimultaneousCharging}
+use Rattle.water.specs.Water.{massFlow, heatTransfer, zoneProperties}
 use Rattle.zone.specs.declared.Kilojoules.{Kilojoules}
 use Rattle.zone.specs.declared.KilowattHours.{KilowattHours}
 use Rattle.zone.specs.declared.Salt.{Salt}
-use Rattle.zone.specs.declared.Charged.{Charged}
-use Rattle.zone.specs.declared.Mode.{Mode}
-use Rattle.zone.specs.declared.Mode.the-variants.{OnlyCharging, Losses, Normal}
+use Rattle.charging.specs.declared.Charged.{Charged}
+use Rattle.water.specs.declared.Mode.{Mode}
+use Rattle.water.specs.declared.Mode.the-variants.{OnlyCharging, Losses, Normal}
 use Rattle.card.specs.Derived.{layersOf}
 use Rattle.card.specs.declared.Card.{Card}
 use Rattle.card.specs.declared.HeatBatteryPcm.{HeatBatteryPcm}

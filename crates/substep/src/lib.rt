@@ -1,13 +1,13 @@
 // One substep over the zones: document 01, module 5.
 use card::Card;
 use card::HeatBatteryPcm;
+use charging::Charged;
 use floats::Log;
-use zone::Charged;
+use water::Mode;
+use water::Shared;
 use zone::Kilojoules;
 use zone::KilowattHours;
-use zone::Mode;
 use zone::Salt;
-use zone::Shared;
 ghost use mathlib.Core.Path.{_≡_};
 ghost use Prim.Native.Nat.{_≤_, _<_};
 ghost use Rattle.substep.specs.Substep.{zoneIndex, zoneCharge, zoneStep, zonesAfter, perLayer, zoneTransfer, courseOf, chargerHeat, passFrom, withoutLogarithm, passFinite, passFault, substepFrom, withTransfer, processHeatBatteryZones};
@@ -101,7 +101,7 @@ fn zone_charge(
     ensures { λ r. ⌜ r ≡ zoneCharge salt zone target left energy charged ⌝ }
 {
     if left.0 < 0.0 {
-        return zone::charging::process_zone_simultaneous_charging(
+        return charging::process_zone_simultaneous_charging(
             salt,
             zone,
             target,
@@ -129,11 +129,11 @@ fn zone_step(
 {
     let mode = course.mode;
     let shared = course.shared;
-    let p = zone::water::get_zone_properties(mode, shared, zone, inlet, left);
+    let p = water::get_zone_properties(mode, shared, zone, inlet, left);
     let energy = p.energy;
     let c = zone_charge(salt, zone, course.target, left, energy, charged);
     let heat = c.heat;
-    let update = zone::update::calculate_new_zone_temperature(salt, zone, heat);
+    let update = update::calculate_new_zone_temperature(salt, zone, heat);
     let left = c.left;
     let charged = c.charged;
     ZoneStep {
@@ -184,7 +184,7 @@ fn zone_transfer(mode: Mode, card: Card, d: Drive) -> Log
         Mode::OnlyCharging => Log::Value(0.0),
         Mode::Losses => Log::Value(0.0),
         Mode::Normal => {
-            let whole = zone::water::calculate_heat_transfer_kw_per_k(d.a, d.b, d.flow, d.reynold);
+            let whole = water::calculate_heat_transfer_kw_per_k(d.a, d.b, d.flow, d.reynold);
             per_layer(card, whole)
         }
     }
@@ -205,7 +205,7 @@ fn course_of(card: Card, pcm: HeatBatteryPcm, d: Drive, transfer: f64) -> Course
     let mode = d.mode;
     let salt = pcm.salt;
     let target = zone::layer::soc_to_temp(salt, card.reference, card.max, d.target);
-    let mass = zone::water::mass_flow(d.flow);
+    let mass = water::mass_flow(d.flow);
     let shared = Shared {
         layers: card.layers,
         inlet: d.inlet,

@@ -1,8 +1,8 @@
 // The ids of oracle/VECTORS.md, each with the module that replays its records. A later layer adds its module here.
 use crate::cards;
+use crate::exchanger;
 use crate::standins;
 use crate::substeps;
-use crate::water;
 use crate::zones;
 
 // What replaying one record shows.
@@ -25,7 +25,7 @@ pub fn replay(id: u64, s: &[u8]) -> Outcome {
     match id {
         1..=8 => outcome_of(standins::replay(id, s)),
         20..=25 => outcome_of(zones::replay(id, s)),
-        26..=30 => outcome_of(water::replay(id, s)),
+        26..=30 => outcome_of(exchanger::replay(id, s)),
         31 => outcome_of(cards::card(s)),
         40 => outcome_of(substeps::substep(s)),
         _ => Outcome::UnknownId,
@@ -37,7 +37,7 @@ pub fn say_name(fd: i32, id: u64) -> bool {
     match id {
         1..=8 => standins::say_name(fd, id),
         20..=25 => zones::say_name(fd, id),
-        26..=30 => water::say_name(fd, id),
+        26..=30 => exchanger::say_name(fd, id),
         31 => io::write_all(fd, b"card"),
         40 => io::write_all(fd, b"substep"),
         51 => io::write_all(fd, b"lists"),

@@ -1,12 +1,12 @@
 // Replays the vector files that its arguments name (oracle/VECTORS.md) and compares every answer bit for bit.
 // A later layer adds a module with its ids; what a list carries from record to record goes into `Run`.
 mod cards;
+mod exchanger;
 mod ids;
 mod lists;
 mod report;
 mod standins;
 mod substeps;
-mod water;
 mod words;
 mod zones;
 

@@ -1,6 +1,6 @@
 // Id 40: one substep over the zones, module 5.
 use crate::cards;
-use crate::water;
+use crate::exchanger;
 use crate::words;
 use substep::Drive;
 use substep::Fault;
@@ -14,7 +14,7 @@ fn drive(s: &[u8], n: usize) -> Drive
     requires { ⌜ n ≤ 64 ⌝ }
 {
     let at = n + FIRST_ZONE;
-    let mode = water::mode_of(words::word(s, at));
+    let mode = exchanger::mode_of(words::word(s, at));
     Drive {
         mode,
         inlet: words::number(s, at + 1),

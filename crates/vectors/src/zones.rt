@@ -1,7 +1,7 @@
 // Ids 20 to 25: modules 1 to 3. The function of an id answers whether a record agrees.
 use crate::cards;
 use crate::words;
-use zone::Charged;
+use charging::Charged;
 use zone::Kilojoules;
 use zone::KilowattHours;
 use zone::Salt;
@@ -95,7 +95,7 @@ fn energy_required(s: &[u8]) -> bool {
 fn new_temperature(s: &[u8]) -> bool {
     let zone = words::number(s, 5);
     let energy = Kilojoules(words::number(s, 6));
-    let r = zone::update::calculate_new_zone_temperature(salt(s, 0), zone, energy);
+    let r = update::calculate_new_zone_temperature(salt(s, 0), zone, energy);
     floats::both(words::has(s, 8), words::number_is(s, 7, r.temperature))
 }
 
@@ -116,13 +116,6 @@ fn simultaneous(s: &[u8]) -> bool {
     let heat = Kilojoules(words::number(s, 8));
     let charged = KilowattHours(words::number(s, 9));
     let own = salt(s, 0);
-    let r = zone::charging::process_zone_simultaneous_charging(
-        own,
-        zone,
-        target,
-        left,
-        heat,
-        charged,
-    );
+    let r = charging::process_zone_simultaneous_charging(own, zone, target, left, heat, charged);
     floats::both(words::has(s, 13), charged_is(s, r))
 }

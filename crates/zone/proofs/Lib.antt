@@ -1,5 +1,1 @@
 pub mod Sums
-pub mod Falls
-pub mod Directions
-pub mod Charges
-pub mod Points

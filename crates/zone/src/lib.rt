@@ -1,8 +1,5 @@
-// One zone: document 01, modules 1 to 4, under the Rust's names. The definitions are in specs/, in the same order.
-pub mod charging;
+// One zone: heat, salts and document 01's module 1, under the Rust's names. Modules 2 to 4 are the crates update, charging and water.
 pub mod layer;
-pub mod update;
-pub mod water;
 
 ghost use mathlib.Core.Path.{_≡_};
 ghost use Rattle.zone.specs.Heat.{kilowattHours, kilojoules as kilojoulesOf};
@@ -42,51 +39,4 @@ pub struct Salt {
 pub enum StateOfCharge {
     Level(f64),
     Above,
-}
-
-// Falls of a zone's temperature above, within and below the melting range.
-pub struct Deltas {
-    pub above: f64,
-    pub during: f64,
-    pub below: f64,
-}
-
-// A zone after an energy transfer.
-pub struct ZoneUpdate {
-    pub temperature: f64,
-}
-
-// A zone's part of a charge: the charger's heat left (negative), the energy charged so far, the heat that the zone gives up.
-pub struct Charged {
-    pub left: Kilojoules,
-    pub charged: KilowattHours,
-    pub heat: Kilojoules,
-}
-
-// The Rust's HeatBatteryPcmOperationMode.
-pub enum Mode {
-    OnlyCharging,
-    Losses,
-    Normal,
-}
-
-// What all zones of a substep share.
-pub struct Shared {
-    // their number
-    pub layers: u8,
-    // °C of the water, or of the surroundings in the losses mode
-    pub inlet: f64,
-    // temperature difference of the rated losses
-    pub rated: f64,
-    // kW/K of one zone
-    pub transfer: f64,
-    // kg/s
-    pub mass: f64,
-    // length of the substep
-    pub seconds: f64,
-}
-
-pub struct ZoneProperties {
-    pub energy: Kilojoules,
-    pub outlet: f64,
 }

@@ -1,0 +1,133 @@
+// Ids 26 to 30: module 4. The function of an id answers whether a record agrees.
+use crate::cards;
+use crate::words;
+use card::Card;
+use floats::Log;
+use water::Mode;
+use water::Shared;
+use water::ZoneProperties;
+use zone::Kilojoules;
+
+pub fn replay(id: u64, s: &[u8]) -> bool {
+    match id {
+        26 => viscosity(s),
+        27 => reynolds(s),
+        28 => heat_transfer(s),
+        29 => outlet(s),
+        30 => zone_properties(s),
+        _ => false,
+    }
+}
+
+pub fn say_name(fd: i32, id: u64) -> bool {
+    match id {
+        26 => io::write_all(fd, b"viscosity"),
+        27 => io::write_all(fd, b"reynolds"),
+        28 => io::write_all(fd, b"heat_transfer"),
+        29 => io::write_all(fd, b"outlet"),
+        30 => io::write_all(fd, b"zone_properties"),
+        _ => false,
+    }
+}
+
+fn viscosity(s: &[u8]) -> bool {
+    let inlet = words::number(s, 0);
+    let outlet = words::number(s, 1);
+    let r = water::calculate_water_kinematic_viscosity_m2_per_s(inlet, outlet);
+    floats::both(words::has(s, 3), words::number_is(s, 2, r))
+}
+
+fn reynolds(s: &[u8]) -> bool {
+    let viscosity = words::number(s, 0);
+    let velocity = words::number(s, 1);
+    let diameter = words::number(s, 2);
+    let r = water::calculate_reynold_number_at_1_l_per_min(viscosity, velocity, diameter);
+    floats::both(words::has(s, 4), words::number_is(s, 3, r))
+}
+
+// The heat transfer of a, b, flow and Reynolds number at the words given.
+fn transfer(s: &[u8], a: usize, b: usize, flow: usize, reynolds: usize) -> Log {
+    let flow = words::number(s, flow);
+    let reynold = words::number(s, reynolds);
+    let a = words::number(s, a);
+    water::calculate_heat_transfer_kw_per_k(a, words::number(s, b), flow, reynold)
+}
+
+fn heat_transfer(s: &[u8]) -> bool {
+    let r = transfer(s, 0, 1, 2, 3);
+    floats::both(words::has(s, 6), words::log_is(s, 4, r))
+}
+
+fn outlet(s: &[u8]) -> bool {
+    let zone = words::number(s, 1);
+    let inlet = words::number(s, 2);
+    let mass = words::number(s, 3);
+    let r = water::calculate_outlet_temp_c(words::number(s, 0), zone, inlet, mass);
+    floats::both(words::has(s, 5), words::number_is(s, 4, r))
+}
+
+// Document 01's modes as VECTORS.md numbers them.
+pub fn mode_of(word: u64) -> Mode {
+    match word {
+        0 => Mode::OnlyCharging,
+        1 => Mode::Losses,
+        _ => Mode::Normal,
+    }
+}
+
+fn properties_are(s: &[u8], mark: u64, p: ZoneProperties) -> bool {
+    let both = floats::both(
+        words::number_is(s, 34, p.energy.0),
+        words::number_is(s, 35, p.outlet),
+    );
+    floats::both(
+        words::has(s, 36),
+        floats::both(words::word_is(s, 33, mark), both),
+    )
+}
+
+// Of a zone with its share of the heat transfer.
+fn properties(s: &[u8], card: Card, mode: Mode, share: f64) -> ZoneProperties {
+    let pcm = card::derived(card);
+    let mass = water::mass_flow(words::number(s, 30));
+    let shared = Shared {
+        layers: card.layers,
+        inlet: words::number(s, 25),
+        rated: pcm.rated,
+        transfer: share,
+        mass,
+        seconds: words::number(s, 29),
+    };
+    let left = Kilojoules(words::number(s, 27));
+    let zone = words::number(s, 24);
+    water::get_zone_properties(mode, shared, zone, words::number(s, 26), left)
+}
+
+fn zone_properties(s: &[u8]) -> bool {
+    if s.len() < 8 {
+        return false;
+    }
+    let card = cards::read(&s[8..]);
+    let mode = mode_of(words::word(s, 0));
+    match mode {
+        Mode::OnlyCharging => properties_are(s, 1, properties(s, card, mode, 0.0)),
+        Mode::Losses => properties_are(s, 1, properties(s, card, mode, 0.0)),
+        Mode::Normal => normal_properties(s, card),
+    }
+}
+
+fn normal_properties(s: &[u8], card: Card) -> bool {
+    match transfer(s, 31, 32, 30, 28) {
+        Log::Value(whole) => {
+            let share = whole / (card.layers as f64);
+            properties_are(s, 1, properties(s, card, Mode::Normal, share))
+        }
+        Log::Refused => {
+            let nothing = ZoneProperties {
+                energy: Kilojoules(0.0),
+                outlet: 0.0,
+            };
+            properties_are(s, 0, nothing)
+        }
+    }
+}
