@@ -21,7 +21,7 @@ use Rattle.battery.specs.declared.Call.{Call}
 use Rattle.battery.specs.declared.Answer.{Answer}
 use Rattle.engine.specs.Steps.{stepOf}
 use Rattle.engine.proofs.StepKeeps.{charge-adds-energy, charged-stays}
-use Rattle.sheet.specs.Cards.{cardAt}
+use Rattle.records.specs.Cards.{cardAt}
 use Rattle.sheet.specs.Answers.{agrees}
 use Rattle.auditor.specs.Sheet.{Line, Laid, Sheet}
 use Rattle.auditor.specs.Claims.{shown, answeredCharge, sumAfter, AllSummed}

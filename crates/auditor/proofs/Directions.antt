@@ -26,7 +26,7 @@ use Rattle.battery.proofs.Zones.{zones-finite-at}
 use Rattle.engine.specs.Steps.{stepOf}
 use Rattle.engine.proofs.StepKeeps.{refused-keeps-state, trial-keeps-state}
 use Rattle.engine.proofs.Warmth.{loss-warms-none, electric-cools-none}
-use Rattle.sheet.specs.Cards.{cardAt}
+use Rattle.records.specs.Cards.{cardAt}
 use Rattle.sheet.specs.Answers.{agrees}
 use Rattle.auditor.specs.Sheet.{Line, Laid, Sheet}
 use Rattle.auditor.specs.Claims.{shown, zonesIn, NoneWarmer, NoneCooler, NoneAltered, Directed, AllDirected}

@@ -7,7 +7,7 @@ use Prim.Native.Nat.{ℕ, _+_}
 use native.Mathlib.Omega.{arith}
 use lib.ListN.{length}
 use Rattle.battery.specs.Battery.{fresh}
-use Rattle.sheet.specs.Cards.{cardAt}
+use Rattle.records.specs.Cards.{cardAt}
 use Rattle.auditor.specs.declared.Verdict.{Verdict}
 use Rattle.auditor.specs.declared.Verdict.the-variants.{Accepted, Refused}
 use Rattle.auditor.specs.Audit.{auditFrom, auditLines, auditOf}

@@ -11,12 +11,12 @@ use Rattle.codec.specs.Bytes.{be, beAt}
 use Rattle.card.specs.declared.Card.{Card}
 use Rattle.battery.specs.Call.{callInRange}
 use Rattle.battery.specs.declared.Call.{Call}
-use Rattle.sheet.specs.Calls.{callLength, callOf}
+use Rattle.calls.specs.Calls.{callLength, callOf}
 use Rattle.sheet.specs.Answers.{answerLength, marksOk}
 use Rattle.sheet.specs.Lines.{lineLength, lineSize}
-use Rattle.sheet.specs.declared.ReadCall.the-variants.{Good, Bad}
-use Rattle.sheet.proofs.CallLaws.{test-good, call-length}
-use Rattle.sheet.proofs.CallExact.{call-laid}
+use Rattle.calls.specs.declared.ReadCall.the-variants.{Good, Bad}
+use Rattle.calls.proofs.CallLaws.{test-good, call-length}
+use Rattle.calls.proofs.CallExact.{call-laid}
 use Rattle.auditor.specs.Audit.{lineCallLength, callPart, answerPart, behind, headOk, lineCall}
 use Rattle.auditor.specs.Sheet.{Line, bytesOf, Laid}
 use Rattle.auditor.proofs.Fronts.{size-is, Front, front, call-long, answer-long}

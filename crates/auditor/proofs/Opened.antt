@@ -11,7 +11,7 @@ use Rattle.codec.specs.Bytes.{be}
 use Rattle.card.specs.Card.{cardRefusal}
 use Rattle.battery.specs.Battery.{fresh}
 use Rattle.battery.proofs.FreshGood.{fresh-good}
-use Rattle.sheet.specs.Cards.{cardLength, cardAt}
+use Rattle.records.specs.Cards.{cardLength, cardAt}
 use Rattle.sheet.specs.Lines.{openingLength}
 use Rattle.auditor.specs.Audit.{cardPart, cardLineOk, auditLines, auditOf}
 use Rattle.auditor.specs.Sheet.{CardAccepted}

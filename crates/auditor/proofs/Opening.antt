@@ -10,7 +10,7 @@ use lib.ListN.{length, take, drop, length-take, length-drop}
 use Rattle.codec.specs.Bytes.{beAt}
 use Rattle.card.specs.Card.{cardRefusal}
 use Rattle.card.proofs.Accepted.{accepted-layers}
-use Rattle.sheet.specs.Cards.{cardLength, cardAt}
+use Rattle.records.specs.Cards.{cardLength, cardAt}
 use Rattle.sheet.specs.Lines.{openingLength}
 use Rattle.auditor.specs.Audit.{cardPart, cardLineOk}
 use Rattle.auditor.proofs.Fronts.{three-tests}

@@ -15,11 +15,11 @@ use Rattle.battery.specs.Kinds.{isCharge}
 use Rattle.battery.specs.declared.Demand.{Demand}
 use Rattle.battery.specs.declared.Call.{Call}
 use Rattle.battery.specs.declared.Call.the-variants.{DemandEnergy, ChargeElectric, ChargeHydronic, HeatLoss, CloseTimestep, ReadStateOfCharge, ChargeEnergyDemand}
-use Rattle.sheet.specs.Cards.{cardAt}
-use Rattle.sheet.specs.Calls.{callLength, commitPlace, controlPlace, returnPlace, markOk, demandAt, demandCall, callBy, callOf}
-use Rattle.sheet.specs.declared.ReadCall.{ReadCall}
-use Rattle.sheet.specs.declared.ReadCall.the-variants.{Good}
-use Rattle.sheet.proofs.CallLaws.{test-good, call-kind}
+use Rattle.records.specs.Cards.{cardAt}
+use Rattle.calls.specs.Calls.{callLength, commitPlace, controlPlace, returnPlace, markOk, demandAt, demandCall, callBy, callOf}
+use Rattle.calls.specs.declared.ReadCall.{ReadCall}
+use Rattle.calls.specs.declared.ReadCall.the-variants.{Good}
+use Rattle.calls.proofs.CallLaws.{test-good, call-kind}
 
 -- ---- numbers
 

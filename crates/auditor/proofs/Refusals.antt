@@ -12,7 +12,7 @@ use Rattle.card.specs.declared.Card.{Card}
 use Rattle.battery.specs.Battery.{fresh}
 use Rattle.battery.specs.declared.Battery.{Battery}
 use Rattle.engine.specs.Steps.{stepOf}
-use Rattle.sheet.specs.Cards.{cardAt}
+use Rattle.records.specs.Cards.{cardAt}
 use Rattle.auditor.specs.declared.Verdict.{Verdict}
 use Rattle.auditor.specs.declared.Verdict.the-variants.{Refused}
 use Rattle.auditor.specs.Audit.{cardLineOk, judge, auditFrom, auditOf, limit, limitedAuditOf}

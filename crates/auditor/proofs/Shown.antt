@@ -18,7 +18,7 @@ use Rattle.battery.specs.declared.Answer.{Answer}
 use Rattle.battery.proofs.Answers.{finite-answer, finite-totals}
 use Rattle.engine.specs.Steps.{stepOf}
 use Rattle.engine.proofs.StepKeeps.{answer-finite}
-use Rattle.sheet.specs.Records.{stateAt}
+use Rattle.records.specs.Records.{stateAt}
 use Rattle.sheet.specs.Answers.{answerAt, sameNumber, agrees}
 use Rattle.sheet.proofs.Agreement.{Agreed, agreed}
 use Rattle.auditor.specs.Sheet.{Line}

@@ -13,8 +13,8 @@ use Rattle.battery.specs.declared.Call.{Call}
 use Rattle.battery.specs.declared.Answer.{Answer}
 use Rattle.engine.specs.Steps.{advanceOf}
 use Rattle.sheet.specs.Answers.{agrees}
-use Rattle.sheet.specs.declared.ReadCall.the-variants.{Good, Bad}
-use Rattle.sheet.proofs.CallLaws.{test-good}
+use Rattle.calls.specs.declared.ReadCall.the-variants.{Good, Bad}
+use Rattle.calls.proofs.CallLaws.{test-good}
 use Rattle.auditor.specs.declared.Verdict.{Verdict}
 use Rattle.auditor.specs.declared.Verdict.the-variants.{Accepted, Refused}
 use Rattle.auditor.specs.Audit.{lineCallLength, behind, headOk, lineCall, lineAnswer, judge, auditLine, auditFrom}

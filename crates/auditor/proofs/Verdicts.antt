@@ -13,8 +13,8 @@ use Rattle.battery.specs.declared.Call.{Call}
 use Rattle.battery.specs.declared.Answer.{Answer}
 use Rattle.engine.specs.Steps.{stepOf, advanceOf}
 use Rattle.sheet.specs.Answers.{answerAt, agrees}
-use Rattle.sheet.specs.declared.ReadCall.{ReadCall}
-use Rattle.sheet.specs.declared.ReadCall.the-variants.{Good, Bad}
+use Rattle.calls.specs.declared.ReadCall.{ReadCall}
+use Rattle.calls.specs.declared.ReadCall.the-variants.{Good, Bad}
 use Rattle.auditor.specs.declared.Verdict.{Verdict}
 use Rattle.auditor.specs.declared.Verdict.the-variants.{Accepted, Refused}
 use Rattle.auditor.specs.Audit.{behind, lineCall, lineAnswer, judge, auditLine, auditFrom}

@@ -11,12 +11,12 @@ use Rattle.battery.specs.Battery.{fresh}
 use Rattle.battery.specs.declared.Battery.{Battery}
 use Rattle.battery.specs.declared.Answer.{Answer}
 use Rattle.engine.specs.Steps.{advanceOf}
-use Rattle.sheet.specs.Cards.{cardLength, cardAt}
-use Rattle.sheet.specs.Calls.{callLength, callOf}
+use Rattle.records.specs.Cards.{cardLength, cardAt}
+use Rattle.calls.specs.Calls.{callLength, callOf}
 use Rattle.sheet.specs.Answers.{answerLength, answerAt, marksOk, agrees}
 use Rattle.sheet.specs.Lines.{lineLength, lineSize, openingLength}
-use Rattle.sheet.specs.declared.ReadCall.{ReadCall}
-use Rattle.sheet.specs.declared.ReadCall.the-variants.{Good, Bad}
+use Rattle.calls.specs.declared.ReadCall.{ReadCall}
+use Rattle.calls.specs.declared.ReadCall.the-variants.{Good, Bad}
 use Rattle.auditor.specs.declared.Verdict.{Verdict}
 use Rattle.auditor.specs.declared.Verdict.the-variants.{Accepted, Refused}
 

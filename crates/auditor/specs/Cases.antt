@@ -8,7 +8,7 @@ use lib.ListN.{length}
 use Rattle.codec.specs.Bytes.{be}
 use Rattle.card.specs.declared.Card.{Card}
 use Rattle.battery.specs.declared.Call.{Call}
-use Rattle.sheet.specs.Cards.{cardLength, cardAt}
+use Rattle.records.specs.Cards.{cardLength, cardAt}
 use Rattle.sheet.specs.Answers.{answerAt, agrees}
 use Rattle.auditor.specs.Sheet.{Line, bytesOf, Laid, CardAccepted, expected, Sheet}
 

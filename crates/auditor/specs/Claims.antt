@@ -9,7 +9,7 @@ use lib.Ieee.{Float, nan, le, eq}
 use Rattle.floats.specs.F64.{_⊕_}
 use Rattle.card.specs.declared.Card.{Card}
 use Rattle.battery.specs.declared.Answer.{Answer}
-use Rattle.sheet.specs.Calls.{commitPlace}
+use Rattle.calls.specs.Calls.{commitPlace}
 use Rattle.sheet.specs.Answers.{answerAt}
 use Rattle.auditor.specs.Sheet.{Line}
 

@@ -13,10 +13,10 @@ use Rattle.battery.specs.declared.Battery.{Battery}
 use Rattle.battery.specs.declared.Call.{Call}
 use Rattle.battery.specs.declared.Answer.{Answer}
 use Rattle.engine.specs.Steps.{stepOf}
-use Rattle.sheet.specs.Cards.{cardLength, cardAt}
-use Rattle.sheet.specs.Calls.{callOf}
+use Rattle.records.specs.Cards.{cardLength, cardAt}
+use Rattle.calls.specs.Calls.{callOf}
 use Rattle.sheet.specs.Answers.{answerLength, answerAt, marksOk, agrees}
-use Rattle.sheet.specs.declared.ReadCall.the-variants.{Good}
+use Rattle.calls.specs.declared.ReadCall.the-variants.{Good}
 
 -- ---- Layout: no step is named
 

@@ -34,9 +34,9 @@ fn card_line_ok(version: u8, sheet: &[u8]) -> bool
 {
     let end = sheet::lines::opening_length(version);
     if end <= sheet.len() {
-        let n = sheet::cards::card_length(version) as u64;
+        let n = records::cards::card_length(version) as u64;
         if codec::read_be(sheet, 1, 2) == n {
-            let card = sheet::cards::read_card(version, &sheet[3..end]);
+            let card = records::cards::read_card(version, &sheet[3..end]);
             return card::refusal(version, card) == 0;
         }
         return false;
@@ -51,7 +51,7 @@ pub fn audit(sheet: &[u8]) -> Verdict
     if codec::byte_or_zero(sheet, 0) == VERSION {
         if card_line_ok(VERSION, sheet) {
             let end = sheet::lines::opening_length(VERSION);
-            let card = sheet::cards::read_card(VERSION, &sheet[3..end]);
+            let card = records::cards::read_card(VERSION, &sheet[3..end]);
             return lines::audit_lines(VERSION, card, &sheet[end..]);
         }
         return Verdict::Refused(NO_CARD, 0);

@@ -3,8 +3,8 @@ use crate::BAD_LINE;
 use crate::DISAGREES;
 use crate::Verdict;
 use battery::Answer;
+use calls::ReadCall;
 use card::Card;
-use sheet::ReadCall;
 ghost use mathlib.Core.Path.{_≡_};
 ghost use mathlib.Core.Bool.{true};
 ghost use Prim.Native.Nat.{_≤_};
@@ -19,7 +19,7 @@ fn kind_length(version: u8, bytes: &[u8]) -> usize
     ensures { λ r. ⌜ (r ≡ lineCallLength version (now (bytes .entry))) × (r ≤ 73) ⌝ }
 {
     let kind = codec::byte_or_zero(bytes, 2);
-    sheet::calls::call_length(version, kind)
+    calls::call_length(version, kind)
 }
 
 // The front line's kind is known, it is whole, and says the length that its kind gives.
@@ -46,7 +46,7 @@ fn line_call(version: u8, card: Card, bytes: &[u8]) -> ReadCall
         let answer = 2 + n;
         let end = sheet::lines::line_size(version, card, n);
         if sheet::answers::marks_ok(version, &bytes[answer..end]) {
-            return sheet::calls::read_call(version, &bytes[2..answer]);
+            return calls::read_call(version, &bytes[2..answer]);
         }
         return ReadCall::Bad;
     }

@@ -8,8 +8,8 @@ use Rattle.codec.specs.Bytes.{beBytes}
 use Rattle.codec.proofs.Laws.{length-beBytes, be-beBytes}
 use Rattle.battery.specs.Battery.{fresh}
 use Rattle.battery.specs.declared.Battery.{Battery}
-use Rattle.sheet.specs.Cards.{cardLength, cardAt}
-use Rattle.sheet.specs.Records.{recordBytes}
+use Rattle.records.specs.Cards.{cardLength, cardAt}
+use Rattle.records.specs.Records.{recordBytes}
 use Rattle.sheet.specs.Lines.{openingBytes}
 use Rattle.heat_battery.specs.Entry.{openOf}
 use Rattle.heat_battery.specs.Cases.{Opens}

@@ -15,15 +15,16 @@ use Rattle.battery.specs.declared.Call.{Call}
 use Rattle.battery.specs.declared.Answer.{Answer}
 use Rattle.engine.specs.Steps.{stepOf}
 use Rattle.engine.proofs.StepKeeps.{step-keeps-card, step-keeps-good}
-use Rattle.sheet.specs.Calls.{callOf}
+use Rattle.calls.specs.Calls.{callOf}
 use Rattle.sheet.specs.Answers.{answerLength, answerAt, answerBytes, agrees, GoodAnswer}
 use Rattle.sheet.specs.Lines.{lineLength, lineBytes}
-use Rattle.sheet.specs.declared.ReadCall.the-variants.{Good}
+use Rattle.calls.specs.declared.ReadCall.the-variants.{Good}
 use Rattle.sheet.proofs.Lengths.{length-answerBytes}
 use Rattle.sheet.proofs.AnswerBack.{answer-back, marks-written}
 use Rattle.sheet.proofs.Agreement.{agrees-self}
 use Rattle.sheet.proofs.Good.{good-layers}
-use Rattle.sheet.proofs.CallLaws.{call-length, call-short, line-fits}
+use Rattle.calls.proofs.CallLaws.{call-length, call-short}
+use Rattle.sheet.proofs.LineLaws.{line-fits}
 use Rattle.heat_battery.specs.Lists.{answerRead, answerTo, stepLines}
 use Rattle.heat_battery.proofs.GoodAnswers.{answer-good}
 use Rattle.auditor.specs.Sheet.{Line, bytesOf, linesBytes, Laid}

@@ -16,8 +16,8 @@ use Rattle.engine.proofs.OverBudget.{over-budget-only}
 use Rattle.engine.proofs.OverFull.{over-full-only}
 use Rattle.engine.proofs.NoLogarithm.{no-logarithm-only}
 use Rattle.engine.proofs.NotFinite.{not-finite-only}
-use Rattle.sheet.specs.Cards.{cardAt}
-use Rattle.sheet.specs.Records.{recordOf}
+use Rattle.records.specs.Cards.{cardAt}
+use Rattle.records.specs.Records.{recordOf}
 use Rattle.sheet.specs.Lines.{lineBytes}
 use Rattle.heat_battery.specs.Entry.{unchanged, openOf, entryOf}
 use Rattle.heat_battery.specs.Cases.{OpenCase1, OpenCase2, OpenCase3, OpenCase4, OpenCase10, OpenCase11, Opens, CallCase10, CallCase11, CallCase20, CallCase21}

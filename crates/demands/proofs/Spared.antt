@@ -10,10 +10,10 @@ use Rattle.battery.specs.declared.Battery.{Battery}
 use Rattle.battery.specs.declared.Call.{Call}
 use Rattle.engine.specs.Steps.{stepOf}
 use Rattle.engine.proofs.StepKeeps.{step-keeps-card}
-use Rattle.sheet.specs.Calls.{callOf}
-use Rattle.sheet.specs.Records.{recordBytes}
+use Rattle.calls.specs.Calls.{callOf}
+use Rattle.records.specs.Records.{recordBytes}
 use Rattle.sheet.specs.Lines.{lineBytes}
-use Rattle.sheet.specs.declared.ReadCall.the-variants.{Good}
+use Rattle.calls.specs.declared.ReadCall.the-variants.{Good}
 use Rattle.heat_battery.specs.Entry.{unchanged}
 use Rattle.heat_battery.specs.Lists.{noLine, spared, Encoded}
 use Rattle.heat_battery.proofs.Encodings.{lined, Entered, kept-10, kept-11, stepped, entry-on-encoding, step-encoded, gets-line, free-behind}

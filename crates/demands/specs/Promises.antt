@@ -4,7 +4,7 @@ use mathlib.Core.Path.{_≡_}
 use mathlib.Core.List.{List, _++_}
 use lib.ListN.{length, drop, getD}
 use Rattle.battery.specs.Battery.{fresh}
-use Rattle.sheet.specs.Cards.{cardAt}
+use Rattle.records.specs.Cards.{cardAt}
 use Rattle.sheet.specs.Lines.{openingBytes}
 use Rattle.heat_battery.specs.Lists.{sheetOf, behindSheet, sparedOf, stepLines}
 use Rattle.auditor.specs.Audit.{auditOf}

@@ -16,15 +16,15 @@ use Rattle.battery.specs.Battery.{batteryAccepted}
 use Rattle.battery.specs.Call.{callInRange}
 use Rattle.battery.specs.Answer.{refusedWith}
 use Rattle.engine.specs.Steps.{stepOf, advanceOf}
-use Rattle.sheet.specs.Cards.{cardAt}
-use Rattle.sheet.specs.Records.{recordOf}
-use Rattle.sheet.specs.Calls.{callOf}
+use Rattle.records.specs.Cards.{cardAt}
+use Rattle.records.specs.Records.{recordOf}
+use Rattle.calls.specs.Calls.{callOf}
 use Rattle.sheet.specs.Lines.{lineSize, lineBytes}
 use Rattle.codec.specs.Bytes.{over}
 use borrow.Author.Tests.{ne-eqb}
-use Rattle.sheet.specs.declared.ReadCall.{ReadCall}
-use Rattle.sheet.specs.declared.ReadCall.the-variants.{Good, Bad}
-use Rattle.sheet.proofs.CallExact.{call-laid, laid-call}
+use Rattle.calls.specs.declared.ReadCall.{ReadCall}
+use Rattle.calls.specs.declared.ReadCall.the-variants.{Good, Bad}
+use Rattle.calls.proofs.CallExact.{call-laid, laid-call}
 use Rattle.heat_battery.specs.Entry.{After, unchanged, renewed, entered, lineAfter, recordLaid, entryOf}
 use Rattle.heat_battery.specs.Cases.{GoodRecord, GoodCall, CallCase10, bad-record, bad-call, CallCase11, GetsLine}
 use Rattle.heat_battery.proofs.Calling.{LaidRecord, record-laid, laid-record, line-ten, line-room, line-entered, entry-unlaid, entry-bad, entry-read}

@@ -13,9 +13,9 @@ use Rattle.battery.specs.declared.Call.{Call}
 use Rattle.battery.specs.declared.Call.the-variants.{DemandEnergy}
 use Rattle.battery.specs.declared.Demand.{Demand}
 use Rattle.engine.specs.Steps.{demandEnergy, stepOf}
-use Rattle.sheet.specs.Records.{recordOf}
-use Rattle.sheet.specs.Calls.{callOf}
-use Rattle.sheet.specs.declared.ReadCall.the-variants.{Good}
+use Rattle.records.specs.Records.{recordOf}
+use Rattle.calls.specs.Calls.{callOf}
+use Rattle.calls.specs.declared.ReadCall.the-variants.{Good}
 use Rattle.heat_battery.specs.Entry.{After, unchanged, entered, entryOf}
 use Rattle.heat_battery.specs.Cases.{GetsLine, CallCase20, CallCase21}
 use Rattle.heat_battery.proofs.Finite.{record-card}

@@ -12,11 +12,11 @@ use Rattle.card.specs.Card.{cardRefusal}
 use Rattle.battery.specs.declared.Call.{Call}
 use Rattle.battery.specs.declared.Answer.{Answer}
 use Rattle.engine.specs.Steps.{advanceOf}
-use Rattle.sheet.specs.Cards.{cardLength, cardAt}
-use Rattle.sheet.specs.Records.{recordLength, recordOf, recordBytes}
-use Rattle.sheet.specs.Calls.{callOf}
+use Rattle.records.specs.Cards.{cardLength, cardAt}
+use Rattle.records.specs.Records.{recordLength, recordOf, recordBytes}
+use Rattle.calls.specs.Calls.{callOf}
 use Rattle.sheet.specs.Lines.{lineSize, lineBytes}
-use Rattle.sheet.specs.declared.ReadCall.the-variants.{Good, Bad}
+use Rattle.calls.specs.declared.ReadCall.the-variants.{Good, Bad}
 use Rattle.heat_battery.specs.Entry.{unchanged, renewed, entered, lineAfter, entryRead, recordLaid, entryOf}
 
 -- ---- the line of an answer

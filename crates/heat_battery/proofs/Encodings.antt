@@ -16,16 +16,16 @@ use Rattle.battery.specs.declared.Call.{Call}
 use Rattle.battery.specs.declared.Answer.{Answer}
 use Rattle.battery.specs.Call.{callInRange}
 use Rattle.engine.specs.Steps.{stepOf}
-use Rattle.sheet.specs.Cards.{cardLength, cardAt}
-use Rattle.sheet.specs.Records.{recordOf, stateBytes, recordBytes}
-use Rattle.sheet.specs.Calls.{callOf}
+use Rattle.records.specs.Cards.{cardLength, cardAt}
+use Rattle.records.specs.Records.{recordOf, stateBytes, recordBytes}
+use Rattle.calls.specs.Calls.{callOf}
 use Rattle.sheet.specs.Lines.{lineLength, lineSize, lineBytes}
-use Rattle.sheet.specs.declared.ReadCall.the-variants.{Good}
+use Rattle.calls.specs.declared.ReadCall.the-variants.{Good}
 use Rattle.sheet.proofs.Lengths.{length-lineBytes}
 use Rattle.sheet.proofs.Good.{good-layers}
 use Rattle.sheet.proofs.AnswerBack.{record-back, card-front}
-use Rattle.sheet.proofs.CallLaws.{call-length, call-short, line-fits}
-use Rattle.sheet.proofs.LineLaws.{line-says, line-behind}
+use Rattle.calls.proofs.CallLaws.{call-length, call-short}
+use Rattle.sheet.proofs.LineLaws.{line-fits, line-says, line-behind}
 use Rattle.heat_battery.specs.Entry.{After, unchanged, renewed, entered, entryOf}
 use Rattle.heat_battery.specs.Lists.{noLine, lineTaken, freeBehind, answerRead, answerTo, Encoded}
 use Rattle.heat_battery.proofs.CallCases.{CallWay, ten, eleven, line, call-way}

@@ -12,8 +12,8 @@ use Rattle.battery.specs.declared.Battery.{Battery}
 use Rattle.battery.specs.declared.Answer.{Answer}
 use Rattle.battery.specs.Battery.{fresh}
 use Rattle.engine.specs.Steps.{stepOf}
-use Rattle.sheet.specs.Cards.{cardAt}
-use Rattle.sheet.specs.Records.{recordBytes}
+use Rattle.records.specs.Cards.{cardAt}
+use Rattle.records.specs.Records.{recordBytes}
 use Rattle.sheet.specs.Lines.{lineBytes, openingLength, openingBytes}
 use Rattle.heat_battery.specs.Entry.{After, unchanged, openedWith, openOf, entryOf}
 use Rattle.heat_battery.specs.Cases.{AcceptedBytes, Opens}

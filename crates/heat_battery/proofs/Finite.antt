@@ -12,8 +12,8 @@ use Rattle.card.specs.Card.{cardRefusal}
 use Rattle.card.proofs.Accepted.{accepted-layers}
 use Rattle.battery.specs.Battery.{zonesFinite, totalsFinite, batteryAccepted}
 use Rattle.battery.proofs.Zones.{zones-finite-of}
-use Rattle.sheet.specs.Cards.{cardLength, cardAt}
-use Rattle.sheet.specs.Records.{zonesAt, stateAt, recordOf}
+use Rattle.records.specs.Cards.{cardLength, cardAt}
+use Rattle.records.specs.Records.{zonesAt, stateAt, recordOf}
 use Rattle.sheet.proofs.Good.{zone-finite, accepted-battery}
 use Rattle.sheet.proofs.Back.{zonesAt-below}
 use Rattle.heat_battery.specs.Cases.{GoodRecord}

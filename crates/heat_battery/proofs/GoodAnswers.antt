@@ -11,7 +11,7 @@ use Rattle.battery.specs.Battery.{GoodBattery}
 use Rattle.battery.proofs.GoodParts.{shape-fits}
 use Rattle.engine.specs.Steps.{stepOf}
 use Rattle.engine.proofs.StepKeeps.{answer-shape}
-use Rattle.sheet.specs.Cards.{cardAt}
+use Rattle.records.specs.Cards.{cardAt}
 use Rattle.sheet.specs.Answers.{GoodAnswer}
 
 pub answer-good : (version : ℕ) (b : Battery) (c : Call) → GoodBattery version b → b .card .budget < 65536 → GoodAnswer version (stepOf version b c)

@@ -5,9 +5,9 @@ use mathlib.Core.List.{List}
 use Rattle.battery.specs.Answer.{refusedWith}
 use Rattle.battery.specs.declared.Battery.{Battery}
 use Rattle.engine.proofs.AdvanceKeeps.{advance-refused-keeps-state}
-use Rattle.sheet.specs.Calls.{callOf}
-use Rattle.sheet.specs.declared.ReadCall.{ReadCall}
-use Rattle.sheet.specs.declared.ReadCall.the-variants.{Good, Bad}
+use Rattle.calls.specs.Calls.{callOf}
+use Rattle.calls.specs.declared.ReadCall.{ReadCall}
+use Rattle.calls.specs.declared.ReadCall.the-variants.{Good, Bad}
 use Rattle.heat_battery.specs.Record.{shownOf, advancedBy, advancedRead, advancedOf}
 
 read-stays : (version : ℕ) (b : Battery) (r : ReadCall) → (advancedRead version b r .shown .refusal ≡ 0 → ⊥) → advancedRead version b r .battery ≡ b

@@ -16,12 +16,12 @@ use Rattle.battery.specs.declared.Call.{Call}
 use Rattle.battery.specs.declared.Call.the-variants.{DemandEnergy}
 use Rattle.battery.specs.declared.Demand.{Demand}
 use Rattle.battery.specs.declared.Given.the-variants.{Absent, Value}
-use Rattle.sheet.specs.Cards.{cardLength, cardAt}
-use Rattle.sheet.specs.Records.{recordLength}
-use Rattle.sheet.specs.Calls.{callOf}
+use Rattle.records.specs.Cards.{cardLength, cardAt}
+use Rattle.records.specs.Records.{recordLength}
+use Rattle.calls.specs.Calls.{callOf}
 use Rattle.sheet.specs.Lines.{openingLength, lineSize}
-use Rattle.sheet.specs.Laid.{LaidCall}
-use Rattle.sheet.specs.declared.ReadCall.the-variants.{Good}
+use Rattle.calls.specs.Laid.{LaidCall}
+use Rattle.calls.specs.declared.ReadCall.the-variants.{Good}
 
 -- ---- opening: 'There a card is its bytes as in line 0 (another length is 1)'
 

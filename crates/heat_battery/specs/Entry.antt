@@ -10,12 +10,12 @@ use Rattle.card.specs.Card.{cardRefusal}
 use Rattle.battery.specs.Battery.{fresh}
 use Rattle.battery.specs.declared.Answer.{Answer}
 use Rattle.engine.specs.Steps.{advanceOf}
-use Rattle.sheet.specs.Cards.{cardLength, cardAt}
-use Rattle.sheet.specs.Records.{recordLength, recordOf, recordBytes}
-use Rattle.sheet.specs.Calls.{callOf}
+use Rattle.records.specs.Cards.{cardLength, cardAt}
+use Rattle.records.specs.Records.{recordLength, recordOf, recordBytes}
+use Rattle.calls.specs.Calls.{callOf}
 use Rattle.sheet.specs.Lines.{lineSize, lineBytes, openingLength, openingBytes}
-use Rattle.sheet.specs.declared.ReadCall.{ReadCall}
-use Rattle.sheet.specs.declared.ReadCall.the-variants.{Good, Bad}
+use Rattle.calls.specs.declared.ReadCall.{ReadCall}
+use Rattle.calls.specs.declared.ReadCall.the-variants.{Good, Bad}
 
 -- the refusal, the battery record and the lent part of the sheet afterwards
 pub record After : Type 0 where

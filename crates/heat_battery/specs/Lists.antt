@@ -11,12 +11,12 @@ use Rattle.battery.specs.Battery.{fresh, GoodBattery}
 use Rattle.battery.specs.declared.Battery.{Battery}
 use Rattle.battery.specs.declared.Answer.{Answer}
 use Rattle.engine.specs.Steps.{stepOf}
-use Rattle.sheet.specs.Cards.{cardLength, cardAt}
-use Rattle.sheet.specs.Records.{recordBytes}
-use Rattle.sheet.specs.Calls.{callOf}
+use Rattle.records.specs.Cards.{cardLength, cardAt}
+use Rattle.records.specs.Records.{recordBytes}
+use Rattle.calls.specs.Calls.{callOf}
 use Rattle.sheet.specs.Lines.{lineBytes, openingLength, openingBytes}
-use Rattle.sheet.specs.declared.ReadCall.{ReadCall}
-use Rattle.sheet.specs.declared.ReadCall.the-variants.{Good, Bad}
+use Rattle.calls.specs.declared.ReadCall.{ReadCall}
+use Rattle.calls.specs.declared.ReadCall.the-variants.{Good, Bad}
 use Rattle.heat_battery.specs.Entry.{After, openOf, entryOf}
 
 -- ---- the entries

@@ -5,9 +5,9 @@ use Rattle.battery.specs.Answer.{refusedWith}
 use Rattle.battery.specs.declared.Battery.{Battery}
 use Rattle.battery.specs.declared.Answer.{Answer}
 use Rattle.engine.specs.Steps.{advanceOf}
-use Rattle.sheet.specs.Calls.{callOf}
-use Rattle.sheet.specs.declared.ReadCall.{ReadCall}
-use Rattle.sheet.specs.declared.ReadCall.the-variants.{Good, Bad}
+use Rattle.calls.specs.Calls.{callOf}
+use Rattle.calls.specs.declared.ReadCall.{ReadCall}
+use Rattle.calls.specs.declared.ReadCall.the-variants.{Good, Bad}
 use Rattle.heat_battery.specs.declared.Shown.{Shown}
 use Rattle.heat_battery.specs.declared.Advanced.{Advanced}
 

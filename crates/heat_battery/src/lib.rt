@@ -2,13 +2,13 @@
 // include/heat_battery.h says what a caller must know.
 use battery::Answer;
 use battery::Battery;
-use sheet::ReadCall;
+use calls::ReadCall;
 ghost use mathlib.Core.Path.{_≡_};
 ghost use mathlib.Core.Bool.{true};
 ghost use Prim.Native.Nat.{_≤_, _<_};
 ghost use lib.ListN.{length};
-ghost use Rattle.sheet.specs.Records.{recordLength};
-ghost use Rattle.sheet.specs.Calls.{callOf};
+ghost use Rattle.records.specs.Records.{recordLength};
+ghost use Rattle.calls.specs.Calls.{callOf};
 ghost use Rattle.auditor.specs.Audit.{verdictWord, limitedAuditOf};
 ghost use Rattle.heat_battery.specs.Record.{shownOf, advancedBy, advancedOf};
 ghost use Rattle.heat_battery.specs.Entry.{WasAfter, openOf, lineAfter, entryRead, recordLaid, entryOf};
@@ -21,22 +21,22 @@ const VERSION: u8 = 1;
 pub extern "C" fn heat_battery_open(card: &[u8], record: &mut [u8], sheet: &mut [u8]) -> u8
     ensures { λ r. ⌜ WasAfter (openOf 1 (now (card .entry)) (now («record» .entry)) (now (sheet .entry))) r (now («record» .exit)) (now (sheet .exit)) ⌝ }
 {
-    if card.len() != sheet::cards::card_length(VERSION) {
+    if card.len() != records::cards::card_length(VERSION) {
         return 1;
     }
-    let c = sheet::cards::read_card(VERSION, card);
+    let c = records::cards::read_card(VERSION, card);
     let refusal = card::refusal(VERSION, c);
     if refusal != 0 {
         return refusal;
     }
-    if record.len() != sheet::records::record_length(VERSION, c) {
+    if record.len() != records::record_length(VERSION, c) {
         return 10;
     }
     if sheet.len() < sheet::lines::opening_length(VERSION) {
         return 11;
     }
     let b = battery::fresh(c);
-    sheet::records::put_record(VERSION, record, card, b);
+    records::put_record(VERSION, record, card, b);
     sheet::lines::put_opening(VERSION, sheet, card);
     0
 }
@@ -45,10 +45,10 @@ pub extern "C" fn heat_battery_open(card: &[u8], record: &mut [u8], sheet: &mut 
 fn record_laid(record: &[u8]) -> bool
     ensures { λ r. ⌜ r ≡ recordLaid 1 (now («record» .entry)) ⌝ }
 {
-    if sheet::cards::card_length(VERSION) <= record.len() {
-        let c = sheet::cards::read_card(VERSION, record);
+    if records::cards::card_length(VERSION) <= record.len() {
+        let c = records::cards::read_card(VERSION, record);
         if card::refusal(VERSION, c) == 0 {
-            return record.len() == sheet::records::record_length(VERSION, c);
+            return record.len() == records::record_length(VERSION, c);
         }
         return false;
     }
@@ -72,7 +72,7 @@ fn enter(record: &mut [u8], call: &[u8], sheet: &mut [u8], a: Answer) -> u8
         return a.refusal;
     }
     let b = a.battery;
-    sheet::records::renew_record(VERSION, record, b);
+    records::renew_record(VERSION, record, b);
     0
 }
 
@@ -81,12 +81,12 @@ fn advance(record: &mut [u8], call: &[u8], sheet: &mut [u8]) -> u8
     requires { ⌜ recordLaid 1 (now «record») ≡ true ⌝ }
     ensures { λ r. ⌜ WasAfter (entryRead 1 (now («record» .entry)) (now (call .entry)) (now (sheet .entry)) (callOf 1 (now (call .entry)))) r (now («record» .exit)) (now (sheet .exit)) ⌝ }
 {
-    let read = sheet::calls::read_call(VERSION, call);
+    let read = calls::read_call(VERSION, call);
     match read {
         ReadCall::Bad => 10,
         ReadCall::Good(c) => {
-            let card = sheet::cards::read_card(VERSION, record);
-            let b = sheet::records::read_record(VERSION, card, record);
+            let card = records::cards::read_card(VERSION, record);
+            let b = records::read_record(VERSION, card, record);
             let a = engine::steps::advance(VERSION, b, c);
             enter(record, call, sheet, a)
         }
@@ -151,7 +151,7 @@ fn advanced_by(a: Answer) -> Advanced
 pub fn advance_battery(b: Battery, call: &[u8]) -> Advanced
     ensures { λ r. ⌜ r ≡ advancedOf 1 b (now (call .entry)) ⌝ }
 {
-    let read = sheet::calls::read_call(VERSION, call);
+    let read = calls::read_call(VERSION, call);
     match read {
         ReadCall::Bad => advanced_by(battery::refused(10, b)),
         ReadCall::Good(c) => {

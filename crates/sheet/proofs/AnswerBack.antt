@@ -15,9 +15,9 @@ use Rattle.codec.proofs.Places.{bytes-here, number-here, byte-here, f64-here, i
 use Rattle.battery.specs.declared.Battery.{Battery}
 use Rattle.battery.specs.declared.Answer.{Answer}
 use Rattle.battery.specs.Battery.{GoodBattery}
-use Rattle.sheet.specs.Cards.{cardLength, cardAt}
-use Rattle.sheet.specs.Records.{stateAt, stateBytes, recordOf, recordBytes}
-use Rattle.sheet.specs.Calls.{markOk}
+use Rattle.records.specs.Cards.{cardLength, cardAt}
+use Rattle.records.specs.Records.{stateAt, stateBytes, recordOf, recordBytes}
+use Rattle.calls.specs.Calls.{markOk}
 use Rattle.sheet.specs.Answers.{headLength, headBytes, answerAt, answerBytes, marksOk, GoodAnswer}
 use Rattle.sheet.proofs.Lengths.{length-headBytes}
 use Rattle.sheet.proofs.Good.{held, mark-small}

@@ -15,8 +15,8 @@ use Rattle.codec.proofs.Laws.{length-f64Bytes}
 use Rattle.codec.proofs.Places.{f64-here}
 use Rattle.battery.specs.declared.Battery.{Battery}
 use Rattle.battery.specs.Battery.{GoodBattery}
-use Rattle.sheet.specs.Records.{zonesAt, zonesBytes, totalsBytes, stateAt, stateBytes}
-use Rattle.sheet.proofs.Lengths.{length-zonesBytes}
+use Rattle.records.specs.Records.{zonesAt, zonesBytes, totalsBytes, stateAt, stateBytes}
+use Rattle.records.proofs.Lengths.{length-zonesBytes}
 use Rattle.sheet.proofs.Good.{held, accepted-battery, good-layers, zone-finite}
 
 -- ---- zones

@@ -3,6 +3,4 @@ pub mod Good
 pub mod Back
 pub mod AnswerBack
 pub mod Agreement
-pub mod CallLaws
-pub mod CallExact
 pub mod LineLaws

@@ -1,7 +1,7 @@
 -- The parts of a line and of the opening are found again at their places; 01's closing line.
 use mathlib.Core.Path.{_≡_, refl, ap, _∙_}
 use mathlib.Core.List.{List, [], _∷_, _++_, append-assoc}
-use Prim.Native.Nat.{ℕ, _+_, _<_}
+use Prim.Native.Nat.{ℕ, _+_, _≤_, _<_}
 use native.Mathlib.Omega.{arith}
 use lib.ListN.{length, take, drop, getD, replicate, List·getD-append, length-append}
 use lib.Seq.{drop-at, getD-append-add}
@@ -10,14 +10,15 @@ use Rattle.floats.specs.Constants as Constants
 use Rattle.codec.specs.Bytes.{beAt, beBytes, f64Bytes}
 use Rattle.codec.proofs.Laws.{length-beBytes}
 use Rattle.codec.proofs.Places.{bytes-here, number-here, byte-here}
+use Rattle.card.specs.declared.Card.{Card}
 use Rattle.battery.specs.declared.Battery.{Battery}
 use Rattle.battery.specs.declared.Answer.{Answer}
 use Rattle.battery.specs.declared.Call.the-variants.{CloseTimestep}
 use Rattle.battery.specs.Answer.{plainAnswer}
-use Rattle.sheet.specs.declared.ReadCall.the-variants.{Good}
-use Rattle.sheet.specs.Cards.{cardLength}
-use Rattle.sheet.specs.Records.{stateLength, zonesBytes, totalsBytes, stateBytes}
-use Rattle.sheet.specs.Calls.{callLength, bareCall, callBy, callOf}
+use Rattle.calls.specs.declared.ReadCall.the-variants.{Good}
+use Rattle.records.specs.Cards.{cardLength}
+use Rattle.records.specs.Records.{stateLength, zonesBytes, totalsBytes, stateBytes}
+use Rattle.calls.specs.Calls.{callLength, bareCall, callBy, callOf}
 use Rattle.sheet.specs.Answers.{headLength, headBytes, answerLength, answerBytes}
 use Rattle.sheet.specs.Lines.{lineLength, lineSize, lineBytes, openingLength, openingBytes}
 use Rattle.sheet.proofs.Lengths.{length-answerBytes, length-lineBytes, length-openingBytes}
@@ -103,3 +104,8 @@ closing-line b c = rw (c .layers, c .zone, c .total, c .pump, c .direct, c .char
 pub closing-call : callOf 1 (5 ∷ []) ≡ Good CloseTimestep
 unfolding callOf callLength callBy bareCall
 closing-call = refl
+
+-- what a call's line says of its length fits two bytes
+pub line-fits : (version : ℕ) (card : Card) (n : ℕ) → card .layers ≤ 64 → n ≤ 73 → lineLength version card n < 65536
+unfolding lineLength answerLength headLength stateLength
+line-fits version card n h k = omega arith

@@ -14,8 +14,8 @@ use Rattle.card.specs.declared.Card.{Card}
 use Rattle.battery.specs.declared.Battery.{Battery}
 use Rattle.battery.specs.declared.Answer.{Answer}
 use Rattle.battery.specs.Battery.{GoodBattery}
-use Rattle.sheet.specs.Records.{stateLength, stateAt, stateBytes}
-use Rattle.sheet.specs.Calls.{markOk}
+use Rattle.records.specs.Records.{stateLength, stateAt, stateBytes}
+use Rattle.calls.specs.Calls.{markOk}
 
 -- 'refusal (u8, 0 none), energy kWh, outlet mark (u8) and f64, time run s, substeps (u32)'
 unfoldable pub headLength : ℕ → ℕ

@@ -5,7 +5,7 @@ use lib.ListN.{length}
 use Rattle.codec.specs.Bytes.{beBytes}
 use Rattle.card.specs.declared.Card.{Card}
 use Rattle.battery.specs.declared.Answer.{Answer}
-use Rattle.sheet.specs.Cards.{cardLength}
+use Rattle.records.specs.Cards.{cardLength}
 use Rattle.sheet.specs.Answers.{answerLength, answerBytes}
 
 -- what follows the length of a line whose call has n bytes, and all the line's bytes

@@ -20,7 +20,7 @@ pub fn head_length(version: u8) -> usize
 pub fn answer_length(version: u8, card: Card) -> usize
     ensures { λ r. ⌜ r ≡ answerLength version card ⌝ }
 {
-    head_length(version) + crate::records::state_length(version, card)
+    head_length(version) + records::state_length(version, card)
 }
 
 pub fn read_answer(version: u8, card: Card, bytes: &[u8]) -> Answer
@@ -28,7 +28,7 @@ pub fn read_answer(version: u8, card: Card, bytes: &[u8]) -> Answer
     ensures { λ r. ⌜ r ≡ answerAt version card (now (bytes .entry)) ⌝ }
 {
     let at = head_length(version);
-    let battery = crate::records::read_state(version, card, bytes, at);
+    let battery = records::read_state(version, card, bytes, at);
     Answer {
         refusal: bytes[0],
         energy: codec::read_f64(bytes, 1),
@@ -45,7 +45,7 @@ pub fn marks_ok(version: u8, bytes: &[u8]) -> bool
     requires { ⌜ headLength version ≤ length (now bytes) ⌝ }
     ensures { λ r. ⌜ r ≡ marksOk version (now (bytes .entry)) ⌝ }
 {
-    crate::calls::mark_ok(bytes, MARK)
+    calls::mark_ok(bytes, MARK)
 }
 
 fn put_head(version: u8, s: &mut [u8], at: usize, a: Answer) -> usize
@@ -67,7 +67,7 @@ pub fn put_answer(version: u8, s: &mut [u8], at: usize, a: Answer) -> usize
 {
     let b = a.battery;
     let p = put_head(version, s, at, a);
-    crate::records::put_state(version, s, p, b)
+    records::put_state(version, s, p, b)
 }
 
 // Document 01: 'Numbers agree when f64 equality holds'.

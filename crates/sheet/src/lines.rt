@@ -5,7 +5,7 @@ ghost use mathlib.Core.Path.{_≡_};
 ghost use Prim.Native.Nat.{_+_, _≤_, _<_};
 ghost use lib.ListN.{length};
 ghost use Rattle.codec.specs.Bytes.{over};
-ghost use Rattle.sheet.specs.Cards.{cardLength};
+ghost use Rattle.records.specs.Cards.{cardLength};
 ghost use Rattle.sheet.specs.Lines.{lineLength, lineSize, lineBytes, openingLength, openingBytes};
 
 // What follows the length of a line whose call has n bytes.
@@ -39,7 +39,7 @@ pub fn put_line(version: u8, sheet: &mut [u8], call: &[u8], a: Answer)
 pub fn opening_length(version: u8) -> usize
     ensures { λ r. ⌜ r ≡ openingLength version ⌝ }
 {
-    3 + crate::cards::card_length(version)
+    3 + records::cards::card_length(version)
 }
 
 // The version and line 0, with the caller's own card bytes, at the front of a memory that has room for them.
@@ -47,7 +47,7 @@ pub fn put_opening(version: u8, sheet: &mut [u8], card: &[u8])
     requires { ⌜ (length (now card) ≡ cardLength version) × (openingLength version ≤ length (now sheet)) ⌝ }
     ensures { λ r. ⌜ now (sheet .exit) ≡ over (openingBytes version (now (card .entry))) (now (sheet .entry)) ⌝ }
 {
-    let n = crate::cards::card_length(version);
+    let n = records::cards::card_length(version);
     let p1 = codec::put_u8(sheet, 0, version);
     let p2 = codec::put_be(sheet, p1, 2, n as u64);
     codec::put_bytes(sheet, p2, card);

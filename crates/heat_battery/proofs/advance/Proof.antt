@@ -4,16 +4,16 @@ use Prim.Native.Nat.{ℕ, _<_}
 use native.Mathlib.Omega.{arith}
 use lib.ListN.{length, getD}
 use Rattle.battery.specs.declared.Call.{Call}
-use Rattle.sheet.specs.Calls.{callOf}
-use Rattle.sheet.specs.declared.ReadCall.the-variants.{Good}
-use Rattle.sheet.proofs.CallLaws.{call-length, call-short}
+use Rattle.calls.specs.Calls.{callOf}
+use Rattle.calls.specs.declared.ReadCall.the-variants.{Good}
+use Rattle.calls.proofs.CallLaws.{call-length, call-short}
 use Rattle.engine.proofs.AdvanceKeeps.{advance-keeps-card}
 use Rattle.card.proofs.Accepted.{accepted-layers}
 use Rattle.battery.specs.declared.Battery.{Battery}
 use Rattle.battery.specs.declared.Answer.{Answer}
 use Rattle.engine.specs.Steps.{advanceOf}
-use Rattle.sheet.specs.Cards.{cardAt}
-use Rattle.sheet.specs.Records.{recordOf, stateAt}
+use Rattle.records.specs.Cards.{cardAt}
+use Rattle.records.specs.Records.{recordOf, stateAt}
 use Rattle.heat_battery.specs.Entry.{entryRead}
 use Rattle.heat_battery.proofs.Calling.{record-laid}
 use borrow.Author.Needs.{needs}

@@ -4,8 +4,8 @@ use Rattle.card.specs.Card.{cardRefusal}
 use Rattle.card.proofs.Accepted.{accepted-layers}
 use Rattle.battery.specs.Battery.{fresh}
 use Rattle.battery.specs.declared.Battery.{Battery}
-use Rattle.sheet.specs.Cards.{cardAt}
-use Rattle.sheet.specs.Records.{recordLength, recordBytes}
+use Rattle.records.specs.Cards.{cardAt}
+use Rattle.records.specs.Records.{recordLength, recordBytes}
 use Rattle.heat_battery.proofs.Opening.{open-length, open-card, open-record, open-room, opened}
 use borrow.Author.Needs.{needs}
 use Rattle.heat_battery.proofs.heat_battery_open.Statement.{statement}

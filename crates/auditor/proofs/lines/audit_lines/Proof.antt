@@ -6,7 +6,7 @@ use lib.ListN.{length}
 use Rattle.battery.specs.declared.Answer.{Answer}
 use Rattle.auditor.specs.Audit.{auditLines}
 use Rattle.sheet.specs.Answers.{agrees, answerAt}
-use Rattle.sheet.specs.Records.{stateAt}
+use Rattle.records.specs.Records.{stateAt}
 use Rattle.auditor.proofs.Turns.{turn-bad, turn-out, turn-differs, turn-next, at-end, head-read, rest-less, Walked, walked-on}
 use Rattle.auditor.proofs.lines.audit_lines.Statement.{statement}
 use Rattle.auditor.proofs.lines.audit_lines.Tie as tie

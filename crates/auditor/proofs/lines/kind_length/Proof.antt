@@ -2,8 +2,8 @@ use mathlib.Core.Path.{_∙_, ap}
 use native.Mathlib.Omega.{arith}
 use borrow.Author.Needs.{needs}
 use lib.ListN.{getD}
-use Rattle.sheet.specs.Calls.{callLength}
-use Rattle.sheet.proofs.CallLaws.{call-short}
+use Rattle.calls.specs.Calls.{callLength}
+use Rattle.calls.proofs.CallLaws.{call-short}
 use Rattle.auditor.proofs.lines.kind_length.Statement.{statement}
 use Rattle.auditor.proofs.lines.kind_length.Tie as tie
 

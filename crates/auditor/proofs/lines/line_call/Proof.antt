@@ -3,7 +3,7 @@ use native.Mathlib.Omega.{arith}
 use borrow.Author.Needs.{needs}
 use Rattle.auditor.proofs.Fronts.{front, head-in-answer, answer-long, call-slice, answer-slice, fits-slice}
 use Rattle.floats.proofs.Branch.{via-true, via-false}
-use Rattle.sheet.specs.Calls.{callOf}
+use Rattle.calls.specs.Calls.{callOf}
 use Rattle.sheet.specs.Answers.{marksOk}
 use Rattle.auditor.specs.Audit.{lineCall}
 use Rattle.auditor.proofs.lines.line_call.Statement.{statement}

@@ -1,5 +1,5 @@
 use Rattle.sheet.specs.Answers.{headLength, answerLength}
-use Rattle.sheet.specs.Records.{stateLength}
+use Rattle.records.specs.Records.{stateLength}
 use borrow.Author.Needs.{needs}
 use Rattle.sheet.proofs.answers.answer_length.Statement.{statement}
 use Rattle.sheet.proofs.answers.answer_length.Tie as tie

@@ -1,7 +1,8 @@
 use Rattle.codec.proofs.Puts.{nothing-written, then-sized, written}
 use Rattle.sheet.specs.Answers.{headBytes, answerLength, answerBytes}
-use Rattle.sheet.specs.Records.{stateBytes}
-use Rattle.sheet.proofs.Lengths.{length-headBytes, length-stateBytes, length-answerBytes}
+use Rattle.records.specs.Records.{stateBytes}
+use Rattle.records.proofs.Lengths.{length-stateBytes}
+use Rattle.sheet.proofs.Lengths.{length-headBytes, length-answerBytes}
 use borrow.Author.Needs.{needs}
 use Rattle.sheet.proofs.answers.put_answer.Statement.{statement}
 use Rattle.sheet.proofs.answers.put_answer.Tie as tie

@@ -1,5 +1,5 @@
 use Rattle.sheet.specs.Answers.{headLength, answerLength, answerAt}
-use Rattle.sheet.specs.Records.{stateLength}
+use Rattle.records.specs.Records.{stateLength}
 use borrow.Author.Needs.{needs}
 use Rattle.sheet.proofs.answers.read_answer.Statement.{statement}
 use Rattle.sheet.proofs.answers.read_answer.Tie as tie

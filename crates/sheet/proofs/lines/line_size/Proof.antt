@@ -1,6 +1,6 @@
 use native.Mathlib.Omega.{arith}
 use Rattle.sheet.specs.Answers.{headLength, answerLength}
-use Rattle.sheet.specs.Records.{stateLength}
+use Rattle.records.specs.Records.{stateLength}
 use Rattle.sheet.specs.Lines.{lineLength, lineSize}
 use borrow.Author.Needs.{needs}
 use Rattle.sheet.proofs.lines.line_size.Statement.{statement}

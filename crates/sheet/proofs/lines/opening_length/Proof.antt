@@ -1,5 +1,5 @@
 use native.Mathlib.Omega.{arith}
-use Rattle.sheet.specs.Cards.{cardLength}
+use Rattle.records.specs.Cards.{cardLength}
 use Rattle.sheet.specs.Lines.{openingLength}
 use borrow.Author.Needs.{needs}
 use Rattle.sheet.proofs.lines.opening_length.Statement.{statement}

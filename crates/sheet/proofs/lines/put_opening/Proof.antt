@@ -2,7 +2,7 @@ use Rattle.codec.proofs.Puts.{then-equal, nothing-written, then-sized, then-num
 use Rattle.sheet.proofs.Lengths.{length-openingBytes}
 use native.Mathlib.Omega.{arith}
 use Rattle.sheet.specs.Lines.{openingLength, openingBytes}
-use Rattle.sheet.specs.Cards.{cardLength}
+use Rattle.records.specs.Cards.{cardLength}
 use mathlib.Core.Path.{refl}
 use borrow.Author.Needs.{needs}
 use Rattle.sheet.proofs.lines.put_opening.Statement.{statement}

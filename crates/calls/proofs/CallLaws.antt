@@ -1,0 +1,94 @@
+-- What the bytes of a call tell: its length, its kind, and that it is short.
+use mathlib.Core.Path.{_≡_, refl, sym, ap, _∙_}
+use mathlib.Core.List.{List}
+use mathlib.Core.Bool.{Bool, true, false, cond, _&&_}
+use Prim.Native.Nat.{ℕ, _≤_}
+use native.Mathlib.Omega.{arith}
+use borrow.Author.Tests.{eqb-true}
+use lib.Dec.{leb, eqb}
+use lib.ListN.{length, getD}
+use Rattle.codec.specs.Bytes.{f64At, nthF64}
+use Rattle.battery.specs.declared.Call.{Call}
+use Rattle.battery.specs.declared.Call.the-variants.{DemandEnergy, ChargeElectric, ChargeHydronic, HeatLoss, CloseTimestep, ReadStateOfCharge, ChargeEnergyDemand}
+use Rattle.battery.specs.Call.{kindOf}
+use Rattle.calls.specs.declared.ReadCall.{ReadCall}
+use Rattle.calls.specs.declared.ReadCall.the-variants.{Good, Bad}
+use Rattle.calls.specs.Calls.{callLength, markOk, givenAt, demandAt, demandCall, hydronicAt, chargeDemandCall, bareCall, callBy, callOf}
+
+bad-good : {A : Type 0} {c : Call} → _≡_ {A = ReadCall} Bad (Good c) → A
+bad-good h = let z : _≡_ {A = ℕ} 0 1 = cc in absurd (omega arith)
+
+-- a test before a good call holds
+pub test-good : (t : Bool) (r : ReadCall) (c : Call) → cond t r Bad ≡ Good c → (t ≡ true) × (r ≡ Good c)
+test-good true r c h = (refl, h)
+test-good false r c h = bad-good h
+
+-- one of two, by a test
+either : (t : Bool) (x y : ReadCall) (c : Call) (P : Type 0) → (t ≡ true → x ≡ Good c → P) → (y ≡ Good c → P) → cond t x y ≡ Good c → P
+either true x y c P h k e = h refl e
+either false x y c P h k e = k e
+
+pub call-length : (version : ℕ) (bs : List ℕ) (c : Call) → callOf version bs ≡ Good c → length bs ≡ callLength version (getD bs 0 0)
+unfolding callOf
+call-length version bs c h =
+    let k = getD bs 0 0 in
+    eqb-true (length bs) (callLength version k) (test-good (eqb (length bs) (callLength version k)) (callBy version k bs) c h .0)
+
+-- a read call's kind
+readKind : ReadCall → ℕ
+readKind (Good c) = kindOf c
+readKind Bad = 0
+
+module _ (version kind : ℕ) (bs : List ℕ) (c : Call) where
+  is : (r : ReadCall) (k : ℕ) → readKind r ≡ k → eqb kind k ≡ true → r ≡ Good c → kindOf c ≡ kind
+  unfolding readKind
+  is r k q t e = sym (ap readKind e) ∙ q ∙ sym (eqb-true kind k t)
+
+  bare-kind : bareCall version kind ≡ Good c → kindOf c ≡ kind
+  unfolding bareCall kindOf readKind
+  bare-kind =
+      let s₆ = cond (eqb kind 6) (Good ReadStateOfCharge) Bad in
+      let s₅ = cond (eqb kind 5) (Good CloseTimestep) s₆ in
+      let P : Type 0 = kindOf c ≡ kind in
+      either (eqb kind 4) (Good HeatLoss) s₅ c P (is (Good HeatLoss) 4 refl)
+      (either (eqb kind 5) (Good CloseTimestep) s₆ c P (is (Good CloseTimestep) 5 refl)
+      (either (eqb kind 6) (Good ReadStateOfCharge) Bad c P (is (Good ReadStateOfCharge) 6 refl) bad-good))
+
+  kind-by : callBy version kind bs ≡ Good c → kindOf c ≡ kind
+  unfolding callBy demandCall chargeDemandCall kindOf readKind
+  kind-by =
+      let d = leb (getD bs 2 0) 1 && (leb (getD bs 3 0) 1 && markOk bs 20) in
+      let r₁ = Good (DemandEnergy (demandAt version bs)) in
+      let r₂ = Good (ChargeElectric (nthF64 bs 1 0) (nthF64 bs 1 1)) in
+      let r₃ = Good (ChargeHydronic (hydronicAt version bs)) in
+      let r₇ = Good (ChargeEnergyDemand (givenAt bs 1) (f64At bs 10)) in
+      let s₇ = cond (eqb kind 7) (cond (markOk bs 1) r₇ Bad) (bareCall version kind) in
+      let s₃ = cond (eqb kind 3) r₃ s₇ in
+      let s₂ = cond (eqb kind 2) r₂ s₃ in
+      let P : Type 0 = kindOf c ≡ kind in
+      either (eqb kind 1) (cond d r₁ Bad) s₂ c P (λ t e. is r₁ 1 refl t (test-good d r₁ c e .1))
+      (either (eqb kind 2) r₂ s₃ c P (is r₂ 2 refl)
+      (either (eqb kind 3) r₃ s₇ c P (is r₃ 3 refl)
+      (either (eqb kind 7) (cond (markOk bs 1) r₇ Bad) (bareCall version kind) c P (λ t e. is r₇ 7 refl t (test-good (markOk bs 1) r₇ c e .1)) bare-kind)))
+
+-- the first byte is the kind
+pub call-kind : (version : ℕ) (bs : List ℕ) (c : Call) → callOf version bs ≡ Good c → kindOf c ≡ getD bs 0 0
+unfolding callOf
+call-kind version bs c h =
+    let k = getD bs 0 0 in
+    kind-by version k bs c (test-good (eqb (length bs) (callLength version k)) (callBy version k bs) c h .1)
+
+-- no call is longer than a hydronic one
+short-by : (a b c d e f g : Bool) → cond a 29 (cond b 17 (cond c 73 (cond d 1 (cond e 1 (cond f 1 (cond g 18 0)))))) ≤ 73
+short-by true b c d e f g = omega arith
+short-by false true c d e f g = omega arith
+short-by false false true d e f g = omega arith
+short-by false false false true e f g = omega arith
+short-by false false false false true f g = omega arith
+short-by false false false false false true g = omega arith
+short-by false false false false false false true = omega arith
+short-by false false false false false false false = omega arith
+
+pub call-short : (version kind : ℕ) → callLength version kind ≤ 73
+unfolding callLength
+call-short version kind = short-by (eqb kind 1) (eqb kind 2) (eqb kind 3) (eqb kind 4) (eqb kind 5) (eqb kind 6) (eqb kind 7)

@@ -1,0 +1,43 @@
+use mathlib.Core.Path.{refl}
+use Rattle.floats.proofs.Branch.{via-true, via-false}
+use borrow.Author.Tests.{eq-eqb, ne-eqb}
+use Rattle.calls.specs.Calls.{callLength}
+use Rattle.calls.proofs.call_length.Statement.{statement}
+use Rattle.calls.proofs.call_length.Tie as tie
+
+returns : tie.Need-returns
+unfolding callLength
+returns c = via-true _ _ (eq-eqb _ _ (c .if1 .taken)) refl
+
+returns-2 : tie.Need-returns-2
+unfolding callLength
+returns-2 c = via-false _ _ (ne-eqb _ _ (c .before .if1 .left)) (via-true _ _ (eq-eqb _ _ (c .if2 .taken)) refl)
+
+returns-3 : tie.Need-returns-3
+unfolding callLength
+returns-3 c = via-false _ _ (ne-eqb _ _ (c .before .before .if1 .left)) (via-false _ _ (ne-eqb _ _ (c .before .if2 .left)) (via-true _ _ (eq-eqb _ _ (c .if3 .taken)) refl))
+
+returns-4 : tie.Need-returns-4
+unfolding callLength
+returns-4 c = via-false _ _ (ne-eqb _ _ (c .before .before .before .if1 .left)) (via-false _ _ (ne-eqb _ _ (c .before .before .if2 .left)) (via-false _ _ (ne-eqb _ _ (c .before .if3 .left)) (via-true _ _ (eq-eqb _ _ (c .if4 .taken)) refl)))
+
+returns-5 : tie.Need-returns-5
+unfolding callLength
+returns-5 c = via-false _ _ (ne-eqb _ _ (c .before .before .before .before .if1 .left)) (via-false _ _ (ne-eqb _ _ (c .before .before .before .if2 .left)) (via-false _ _ (ne-eqb _ _ (c .before .before .if3 .left)) (via-false _ _ (ne-eqb _ _ (c .before .if4 .left)) (via-true _ _ (eq-eqb _ _ (c .if5 .taken)) refl))))
+
+returns-6 : tie.Need-returns-6
+unfolding callLength
+returns-6 c = via-false _ _ (ne-eqb _ _ (c .before .before .before .before .before .if1 .left)) (via-false _ _ (ne-eqb _ _ (c .before .before .before .before .if2 .left)) (via-false _ _ (ne-eqb _ _ (c .before .before .before .if3 .left)) (via-false _ _ (ne-eqb _ _ (c .before .before .if4 .left)) (via-false _ _ (ne-eqb _ _ (c .before .if5 .left)) (via-true _ _ (eq-eqb _ _ (c .if6 .taken)) refl)))))
+
+returns-7 : tie.Need-returns-7
+unfolding callLength
+returns-7 c = via-false _ _ (ne-eqb _ _ (c .before .before .before .before .before .before .if1 .left)) (via-false _ _ (ne-eqb _ _ (c .before .before .before .before .before .if2 .left)) (via-false _ _ (ne-eqb _ _ (c .before .before .before .before .if3 .left)) (via-false _ _ (ne-eqb _ _ (c .before .before .before .if4 .left)) (via-false _ _ (ne-eqb _ _ (c .before .before .if5 .left)) (via-false _ _ (ne-eqb _ _ (c .before .if6 .left)) (via-true _ _ (eq-eqb _ _ (c .if7 .taken)) refl))))))
+
+returns-8 : tie.Need-returns-8
+unfolding callLength
+returns-8 c = via-false _ _ (ne-eqb _ _ (c .before .before .before .before .before .before .if1 .left)) (via-false _ _ (ne-eqb _ _ (c .before .before .before .before .before .if2 .left)) (via-false _ _ (ne-eqb _ _ (c .before .before .before .before .if3 .left)) (via-false _ _ (ne-eqb _ _ (c .before .before .before .if4 .left)) (via-false _ _ (ne-eqb _ _ (c .before .before .if5 .left)) (via-false _ _ (ne-eqb _ _ (c .before .if6 .left)) (via-false _ _ (ne-eqb _ _ (c .if7 .left)) refl))))))
+
+pub call-length-spec : {M : Type 1} → statement M
+call-length-spec =
+    tie.close
+    (tie.spec returns returns-2 returns-3 returns-4 returns-5 returns-6 returns-7 returns-8)

@@ -1,0 +1,30 @@
+use borrow.Author.Needs.{needs}
+use Rattle.calls.specs.Calls.{callLength, chargeDemandCall}
+use mathlib.Core.Path.{refl}
+use Rattle.floats.proofs.Branch.{via-true, via-false}
+use Rattle.calls.proofs.charge_demand_call.Statement.{statement}
+use Rattle.calls.proofs.charge_demand_call.Tie as tie
+
+mark-ok-requires : tie.Need-mark-ok-requires
+unfolding callLength
+mark-ok-requires c κs = search needs
+
+read-given-requires : tie.Need-read-given-requires
+unfolding callLength
+read-given-requires c κs = search needs
+
+read-f64-requires : tie.Need-read-f64-requires
+unfolding callLength
+read-f64-requires c κs = search needs
+
+returns : tie.Need-returns
+unfolding chargeDemandCall
+returns c = rw (← (c .before .before .before .mark-ok .ensures), ← (c .before .read-given .ensures), ← (c .read-f64 .ensures)) (via-true _ _ (c .before .before .if1 .taken) refl)
+
+returns-2 : tie.Need-returns-2
+unfolding chargeDemandCall
+returns-2 c = rw (← (c .before .mark-ok .ensures)) (via-false _ _ (c .if1 .left) refl)
+
+pub charge-demand-call-spec : {M : Type 1} → statement M
+charge-demand-call-spec =
+    tie.close (tie.spec mark-ok-requires read-given-requires read-f64-requires returns returns-2)

@@ -1,0 +1,23 @@
+use Rattle.records.specs.Cards.{cardLength}
+use Rattle.records.specs.Records.{stateLength, recordLength}
+use borrow.Author.Needs.{needs}
+use Rattle.records.proofs.record_length.Statement.{statement}
+use Rattle.records.proofs.record_length.Tie as tie
+
+card-length-requires : tie.Need-card-length-requires
+card-length-requires c κs = search needs
+
+state-length-requires : tie.Need-state-length-requires
+state-length-requires c κs = search needs
+
+add-result : tie.Need-add-result
+unfolding cardLength stateLength
+add-result c = search needs
+
+returns : tie.Need-returns
+unfolding recordLength
+returns c = rw (← (c .before .card-length .ensures), ← (c .state-length .ensures))
+
+pub record-length-spec : {M : Type 1} → statement M
+record-length-spec =
+    tie.close (tie.spec card-length-requires state-length-requires add-result returns)
