@@ -19,7 +19,8 @@ use Rattle.calls.specs.declared.ReadCall.{ReadCall}
 use Rattle.calls.specs.declared.ReadCall.the-variants.{Good, Bad}
 use Rattle.auditor.specs.declared.Verdict.{Verdict}
 use Rattle.auditor.specs.declared.Verdict.the-variants.{Accepted, Refused}
-use Rattle.auditor.specs.Audit.{limit, behind, lineCall, lineAnswer, judge, auditLine, auditFrom, auditLines, cardPart, cardLineOk, auditOf, limitedAuditOf}
+use Rattle.front.specs.Front.{behind, lineCall, lineAnswer}
+use Rattle.auditor.specs.Audit.{limit, judge, auditLine, auditFrom, auditLines, cardPart, cardLineOk, auditOf, limitedAuditOf}
 use Rattle.auditor.specs.Bound.{IndexAtMost}
 use Rattle.auditor.proofs.Turns.{behind-short}
 

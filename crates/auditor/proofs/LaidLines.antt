@@ -17,9 +17,9 @@ use Rattle.sheet.specs.Lines.{lineLength, lineSize}
 use Rattle.calls.specs.declared.ReadCall.the-variants.{Good, Bad}
 use Rattle.calls.proofs.CallLaws.{test-good, call-length}
 use Rattle.calls.proofs.CallExact.{call-laid}
-use Rattle.auditor.specs.Audit.{lineCallLength, callPart, answerPart, behind, headOk, lineCall}
+use Rattle.front.specs.Front.{lineCallLength, callPart, answerPart, behind, headOk, lineCall}
 use Rattle.auditor.specs.Sheet.{Line, bytesOf, Laid}
-use Rattle.auditor.proofs.Fronts.{size-is, Front, front, call-long, answer-long}
+use Rattle.front.proofs.Fronts.{size-is, Front, front, call-long, answer-long}
 
 -- a read call has a kind, so it is not empty
 call-some : (version : ℕ) (bs : List ℕ) (call : Call) → callOf version bs ≡ Good call → 1 ≤ length bs

@@ -1,4 +1,3 @@
-pub mod Fronts
 pub mod Turns
 pub mod Opening
 pub mod Bounds
@@ -11,6 +10,3 @@ pub mod Outcomes
 pub mod Exact
 pub mod Refusals
 pub mod ReadCalls
-pub mod Shown
-pub mod Charged
-pub mod Directions

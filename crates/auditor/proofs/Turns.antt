@@ -17,8 +17,9 @@ use Rattle.calls.specs.declared.ReadCall.the-variants.{Good, Bad}
 use Rattle.calls.proofs.CallLaws.{test-good}
 use Rattle.auditor.specs.declared.Verdict.{Verdict}
 use Rattle.auditor.specs.declared.Verdict.the-variants.{Accepted, Refused}
-use Rattle.auditor.specs.Audit.{lineCallLength, behind, headOk, lineCall, lineAnswer, judge, auditLine, auditFrom}
-use Rattle.auditor.proofs.Fronts.{size-is}
+use Rattle.front.specs.Front.{lineCallLength, behind, headOk, lineCall, lineAnswer}
+use Rattle.auditor.specs.Audit.{judge, auditLine, auditFrom}
+use Rattle.front.proofs.Fronts.{size-is}
 
 pub audit-none : (version : ℕ) (c : Card) (most : ℕ) (b : Battery) (k : ℕ) → auditFrom version c most b k [] ≡ Accepted k
 unfolding auditFrom

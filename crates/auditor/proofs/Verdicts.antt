@@ -17,7 +17,8 @@ use Rattle.calls.specs.declared.ReadCall.{ReadCall}
 use Rattle.calls.specs.declared.ReadCall.the-variants.{Good, Bad}
 use Rattle.auditor.specs.declared.Verdict.{Verdict}
 use Rattle.auditor.specs.declared.Verdict.the-variants.{Accepted, Refused}
-use Rattle.auditor.specs.Audit.{behind, lineCall, lineAnswer, judge, auditLine, auditFrom}
+use Rattle.front.specs.Front.{behind, lineCall, lineAnswer}
+use Rattle.auditor.specs.Audit.{judge, auditLine, auditFrom}
 use Rattle.auditor.specs.Sheet.{Line, bytesOf, linesBytes, Laid, stepsFrom}
 use Rattle.auditor.specs.Cases.{NoLine}
 use Rattle.auditor.proofs.Turns.{audit-none, audit-some, behind-short}

@@ -2,4 +2,3 @@ pub mod Audit
 pub mod Bound
 pub mod Sheet
 pub mod Cases
-pub mod Claims

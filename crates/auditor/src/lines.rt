@@ -1,77 +1,15 @@
-// The call line at the front of a slice, and the walk over the lines.
+// The walk over the lines.
 use crate::BAD_LINE;
 use crate::DISAGREES;
 use crate::Verdict;
-use battery::Answer;
 use calls::ReadCall;
 use card::Card;
 ghost use mathlib.Core.Path.{_≡_};
-ghost use mathlib.Core.Bool.{true};
 ghost use Prim.Native.Nat.{_≤_};
-ghost use lib.ListN.{length, drop};
-ghost use Rattle.auditor.specs.Audit.{lineCallLength, headOk, lineCall, lineAnswer, behind, auditLines};
+ghost use Rattle.auditor.specs.Audit.{auditLines};
 
 // The refusal by which a step on an own battery says that a call field is out of range.
 const OUT_OF_RANGE: u8 = 10;
-
-// The length that the front line's kind gives its call, 0 where there is no such kind.
-fn kind_length(version: u8, bytes: &[u8]) -> usize
-    ensures { λ r. ⌜ (r ≡ lineCallLength version (now (bytes .entry))) × (r ≤ 73) ⌝ }
-{
-    let kind = codec::byte_or_zero(bytes, 2);
-    calls::call_length(version, kind)
-}
-
-// The front line's kind is known, it is whole, and says the length that its kind gives.
-fn head_ok(version: u8, card: Card, bytes: &[u8]) -> bool
-    ensures { λ r. ⌜ r ≡ headOk version card (now (bytes .entry)) ⌝ }
-{
-    let n = kind_length(version, bytes);
-    if 1 <= n {
-        if sheet::lines::line_size(version, card, n) <= bytes.len() {
-            let says = sheet::lines::line_length(version, card, n) as u64;
-            return codec::read_be(bytes, 0, 2) == says;
-        }
-        return false;
-    }
-    false
-}
-
-// The front line's call, ranges aside.
-fn line_call(version: u8, card: Card, bytes: &[u8]) -> ReadCall
-    ensures { λ r. ⌜ r ≡ lineCall version card (now (bytes .entry)) ⌝ }
-{
-    if head_ok(version, card, bytes) {
-        let n = kind_length(version, bytes);
-        let answer = 2 + n;
-        let end = sheet::lines::line_size(version, card, n);
-        if sheet::answers::marks_ok(version, &bytes[answer..end]) {
-            return calls::read_call(version, &bytes[2..answer]);
-        }
-        return ReadCall::Bad;
-    }
-    ReadCall::Bad
-}
-
-// The front line's answer.
-fn line_answer(version: u8, card: Card, bytes: &[u8]) -> Answer
-    requires { ⌜ (card .layers ≤ 64) × (headOk version card (now bytes) ≡ true) ⌝ }
-    ensures { λ r. ⌜ r ≡ lineAnswer version card (now (bytes .entry)) ⌝ }
-{
-    let n = kind_length(version, bytes);
-    let answer = 2 + n;
-    let end = sheet::lines::line_size(version, card, n);
-    sheet::answers::read_answer(version, card, &bytes[answer..end])
-}
-
-// The bytes that the front line takes.
-fn front_size(version: u8, card: Card, bytes: &[u8]) -> usize
-    requires { ⌜ headOk version card (now bytes) ≡ true ⌝ }
-    ensures { λ r. ⌜ (r ≤ length (now (bytes .entry))) × (drop r (now (bytes .entry)) ≡ behind version card (now (bytes .entry))) × (1 ≤ r) ⌝ }
-{
-    let n = kind_length(version, bytes);
-    sheet::lines::line_size(version, card, n)
-}
 
 // Steps an own battery through the lines.
 pub fn audit_lines(version: u8, card: Card, bytes: &[u8]) -> Verdict
@@ -82,7 +20,7 @@ pub fn audit_lines(version: u8, card: Card, bytes: &[u8]) -> Verdict
     let mut b = battery::fresh(card);
     let mut k: usize = 0;
     while rest.len() > 0 {
-        match line_call(version, card, rest) {
+        match front::line_call(version, card, rest) {
             ReadCall::Bad => {
                 return Verdict::Refused(BAD_LINE, k + 1);
             }
@@ -91,11 +29,11 @@ pub fn audit_lines(version: u8, card: Card, bytes: &[u8]) -> Verdict
                 if own.refusal == OUT_OF_RANGE {
                     return Verdict::Refused(BAD_LINE, k + 1);
                 }
-                let seen = line_answer(version, card, rest);
+                let seen = front::line_answer(version, card, rest);
                 if sheet::answers::answers_agree(seen, own) {
                     let next = own.battery;
                     b = next;
-                    let size = front_size(version, card, rest);
+                    let size = front::front_size(version, card, rest);
                     rest = &rest[size..];
                     k += 1;
                 } else {

@@ -31,11 +31,11 @@ use Rattle.heat_battery.proofs.OwnRecord.{refused-record-stays}
 use Rattle.auditor.specs.declared.Verdict.the-variants.{Accepted, Refused}
 use Rattle.auditor.specs.Audit.{limit, auditOf, limitedAuditOf}
 use Rattle.auditor.specs.Sheet.{Sheet}
-use Rattle.auditor.specs.Claims.{AllDirected, AllSummed}
+use Rattle.claims.specs.Claims.{AllDirected, AllSummed}
 use Rattle.auditor.specs.Cases.{NoVersion, NoCard, BadLine, Disagrees}
 use Rattle.auditor.proofs.Exact.{exact}
-use Rattle.auditor.proofs.Directions.{directions}
-use Rattle.auditor.proofs.Charged.{charged-total}
+use Rattle.claims.proofs.Directions.{directions}
+use Rattle.claims.proofs.Charged.{charged-total}
 use Rattle.auditor.proofs.Refusals.{refused-40, refused-41, refused-42, refused-43, refused-44}
 use Rattle.demands.specs.Promises.{Bytes, AList}
 use Rattle.demands.proofs.AList.{a-list}

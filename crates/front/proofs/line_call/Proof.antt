@@ -1,13 +1,13 @@
 use mathlib.Core.Path.{refl, sym, _∙_, ap}
 use native.Mathlib.Omega.{arith}
 use borrow.Author.Needs.{needs}
-use Rattle.auditor.proofs.Fronts.{front, head-in-answer, answer-long, call-slice, answer-slice, fits-slice}
+use Rattle.front.proofs.Fronts.{front, head-in-answer, answer-long, call-slice, answer-slice, fits-slice}
 use Rattle.floats.proofs.Branch.{via-true, via-false}
 use Rattle.calls.specs.Calls.{callOf}
 use Rattle.sheet.specs.Answers.{marksOk}
-use Rattle.auditor.specs.Audit.{lineCall}
-use Rattle.auditor.proofs.lines.line_call.Statement.{statement}
-use Rattle.auditor.proofs.lines.line_call.Tie as tie
+use Rattle.front.specs.Front.{lineCall}
+use Rattle.front.proofs.line_call.Statement.{statement}
+use Rattle.front.proofs.line_call.Tie as tie
 
 head-ok-requires : tie.Need-head-ok-requires
 head-ok-requires c κs = search needs

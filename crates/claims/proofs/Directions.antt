@@ -28,14 +28,14 @@ use Rattle.engine.proofs.StepKeeps.{refused-keeps-state, trial-keeps-state}
 use Rattle.engine.proofs.Warmth.{loss-warms-none, electric-cools-none}
 use Rattle.records.specs.Cards.{cardAt}
 use Rattle.sheet.specs.Answers.{agrees}
 use Rattle.auditor.specs.Sheet.{Line, Laid, Sheet}
-use Rattle.auditor.specs.Claims.{shown, zonesIn, NoneWarmer, NoneCooler, NoneAltered, Directed, AllDirected}
+use Rattle.claims.specs.Claims.{shown, zonesIn, NoneWarmer, NoneCooler, NoneAltered, Directed, AllDirected}
 use Rattle.auditor.proofs.Stepped.{Stepped}
 use Rattle.auditor.proofs.Walks.{Own, next-own}
 use Rattle.auditor.proofs.Opened.{fresh-own}
 use Rattle.auditor.proofs.Exact.{sheet-stepped}
 use Rattle.auditor.proofs.ReadCalls.{card-held, read-loss, read-electric, read-trial}
-use Rattle.auditor.proofs.Shown.{number-of, SameZones, shown-refusal, shown-zones}
+use Rattle.claims.proofs.Shown.{number-of, SameZones, shown-refusal, shown-zones}
 
 -- ---- one line
 

@@ -21,8 +21,8 @@ use Rattle.engine.proofs.StepKeeps.{answer-finite}
 use Rattle.records.specs.Records.{stateAt}
 use Rattle.sheet.specs.Answers.{answerAt, sameNumber, agrees}
 use Rattle.sheet.proofs.Agreement.{Agreed, agreed}
 use Rattle.auditor.specs.Sheet.{Line}
-use Rattle.auditor.specs.Claims.{shown, zonesIn}
+use Rattle.claims.specs.Claims.{shown, zonesIn}
 
 -- a number's finiteness, and that it equals itself
 pub number-of : (x : Float) → finite64 x ≡ true → T (number x)

@@ -1,9 +1,9 @@
 use native.Mathlib.Omega.{arith}
 use borrow.Author.Needs.{needs}
-use Rattle.auditor.proofs.Fronts.{front, fits-slice}
-use Rattle.auditor.specs.Audit.{behind}
-use Rattle.auditor.proofs.lines.front_size.Statement.{statement}
-use Rattle.auditor.proofs.lines.front_size.Tie as tie
+use Rattle.front.proofs.Fronts.{front, fits-slice}
+use Rattle.front.specs.Front.{behind}
+use Rattle.front.proofs.front_size.Statement.{statement}
+use Rattle.front.proofs.front_size.Tie as tie
 
 kind-length-requires : tie.Need-kind-length-requires
 kind-length-requires c κs = search needs

@@ -1,10 +1,10 @@
 use mathlib.Core.Path.{_∙_, ap}
 use native.Mathlib.Omega.{arith}
 use borrow.Author.Needs.{needs}
-use Rattle.auditor.proofs.Fronts.{front, answer-long, answer-slice, fits-slice}
+use Rattle.front.proofs.Fronts.{front, answer-long, answer-slice, fits-slice}
 use Rattle.sheet.specs.Answers.{answerAt}
-use Rattle.auditor.proofs.lines.line_answer.Statement.{statement}
-use Rattle.auditor.proofs.lines.line_answer.Tie as tie
+use Rattle.front.proofs.line_answer.Statement.{statement}
+use Rattle.front.proofs.line_answer.Tie as tie
 
 kind-length-requires : tie.Need-kind-length-requires
 kind-length-requires c κs = search needs

@@ -4,8 +4,8 @@ use borrow.Author.Needs.{needs}
 use lib.ListN.{getD}
 use Rattle.calls.specs.Calls.{callLength}
 use Rattle.calls.proofs.CallLaws.{call-short}
-use Rattle.auditor.proofs.lines.kind_length.Statement.{statement}
-use Rattle.auditor.proofs.lines.kind_length.Tie as tie
+use Rattle.front.proofs.kind_length.Statement.{statement}
+use Rattle.front.proofs.kind_length.Tie as tie
 
 byte-or-zero-requires : tie.Need-byte-or-zero-requires
 byte-or-zero-requires c κs = search needs

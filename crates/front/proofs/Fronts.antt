@@ -13,7 +13,7 @@ use Rattle.card.specs.declared.Card.{Card}
 use Rattle.card.proofs.Tests.{no-both}
 use Rattle.sheet.specs.Answers.{headLength, answerLength}
 use Rattle.sheet.specs.Lines.{lineLength, lineSize}
-use Rattle.auditor.specs.Audit.{lineCallLength, callPart, answerPart, headOk}
+use Rattle.front.specs.Front.{lineCallLength, callPart, answerPart, headOk}
 
 -- nested tests that hold
 pub three-tests : (a b c : Bool) → cond a (cond b c false) false ≡ true → (a ≡ true) × (b ≡ true) × (c ≡ true)

@@ -23,14 +23,14 @@ use Rattle.engine.specs.Steps.{stepOf}
 use Rattle.engine.proofs.StepKeeps.{charge-adds-energy, charged-stays}
 use Rattle.records.specs.Cards.{cardAt}
 use Rattle.sheet.specs.Answers.{agrees}
 use Rattle.auditor.specs.Sheet.{Line, Laid, Sheet}
-use Rattle.auditor.specs.Claims.{shown, answeredCharge, sumAfter, AllSummed}
+use Rattle.claims.specs.Claims.{shown, answeredCharge, sumAfter, AllSummed}
 use Rattle.auditor.proofs.Stepped.{Stepped}
 use Rattle.auditor.proofs.Walks.{Own, next-own}
 use Rattle.auditor.proofs.Opened.{fresh-own}
 use Rattle.auditor.proofs.Exact.{sheet-stepped}
 use Rattle.auditor.proofs.ReadCalls.{read-charge}
-use Rattle.auditor.proofs.Shown.{shown-refusal, shown-energy, shown-charged, charged-number}
+use Rattle.claims.proofs.Shown.{shown-refusal, shown-energy, shown-charged, charged-number}
 
 module _ (c : Card) (b : Battery) (o : Own 1 c b) (sum : Float) (same : T (eq sum (b .charged))) (l : Line) (call : Call) (laid : Laid 1 c l call)
     (a : agrees (shown c l) (stepOf 1 b call) ≡ true) where

@@ -3,10 +3,10 @@ use native.Mathlib.Omega.{arith}
 use borrow.Author.Needs.{needs}
 use borrow.Author.Tests.{le-leb, lt-leb}
 use Rattle.floats.proofs.Branch.{via-true, via-false}
-use Rattle.auditor.specs.Audit.{headOk}
-use Rattle.auditor.proofs.Fronts.{size-is}
-use Rattle.auditor.proofs.lines.head_ok.Statement.{statement}
-use Rattle.auditor.proofs.lines.head_ok.Tie as tie
+use Rattle.front.specs.Front.{headOk}
+use Rattle.front.proofs.Fronts.{size-is}
+use Rattle.front.proofs.head_ok.Statement.{statement}
+use Rattle.front.proofs.head_ok.Tie as tie
 
 kind-length-requires : tie.Need-kind-length-requires
 kind-length-requires c κs = search needs

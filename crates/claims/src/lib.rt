@@ -1,0 +1,1 @@
+// What accepted sheets show: its definitions in specs/, its proofs in proofs/.
