@@ -1,12 +1,12 @@
 // Ids 50 and 51: lists of calls on one battery.
-use crate::cards;
-use crate::words;
 use battery::Answer;
 use battery::Battery;
 use battery::Call;
 use battery::Demand;
 use battery::Given;
 use battery::Hydronic;
+use replays::cards;
+use replays::words;
 ghost use Prim.Native.Nat.{_≤_};
 
 // A battery after a call, and whether the answer agrees.

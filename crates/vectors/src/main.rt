@@ -1,17 +1,10 @@
 // Replays the vector files that its arguments name (oracle/VECTORS.md) and compares every answer bit for bit.
-// A later layer adds a module with its ids; what a list carries from record to record goes into `Run`.
-mod cards;
-mod exchanger;
-mod ids;
+// A later layer adds its ids to the crate replays; what a list carries from record to record goes into `Run`.
 mod lists;
 mod report;
-mod standins;
-mod substeps;
-mod words;
-mod zones;
 
 use battery::Battery;
-use ids::Outcome;
+use replays::Outcome;
 use std::num::wrapping_add_u64;
 ghost use Prim.Native.Nat.{_≤_};
 
@@ -130,7 +123,7 @@ fn compared(file: &[u8], run: Run, id: u64, words: &[u8]) -> Run {
     if id == 51 {
         return called(file, run, words);
     }
-    match ids::replay(id, words) {
+    match replays::replay(id, words) {
         Outcome::Agrees => agreed(run),
         Outcome::Disagrees => said(file, run, id),
         Outcome::UnknownId => {

@@ -1,11 +1,10 @@
 // The lines that the program writes. A vector is named by its place in its file, from 0, as `oracle alter` counts.
-use crate::ids;
 use libc::STDOUT_FILENO;
 
 pub fn disagrees(file: &[u8], vector: u64, id: u64) {
     start(file, vector);
     io::write_all(STDOUT_FILENO, b" of ");
-    ids::say_name(STDOUT_FILENO, id);
+    replays::say_name(STDOUT_FILENO, id);
     io::write_all(STDOUT_FILENO, b" disagrees\n");
 }
 

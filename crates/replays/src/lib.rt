@@ -1,9 +1,10 @@
 // The ids of oracle/VECTORS.md, each with the module that replays its records. A later layer adds its module here.
-use crate::cards;
-use crate::exchanger;
-use crate::standins;
-use crate::substeps;
-use crate::zones;
+pub mod cards;
+mod exchanger;
+mod standins;
+mod substeps;
+pub mod words;
+mod zones;
 
 // What replaying one record shows.
 pub enum Outcome {
