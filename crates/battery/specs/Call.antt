@@ -4,7 +4,7 @@ use mathlib.Core.Bool.{Bool, true, _&&_}
 use lib.Dec.{leb}
 use lib.Ieee.{Float, binary64, ofBits, neg}
 use Rattle.floats.specs.Constants.{zero, one}
-use Rattle.card.specs.Ranges.{within, million, day, isTemperature, isVelocity, isCoefficient, isFlow, isPower}
+use Rattle.ranges.specs.Ranges.{within, million, day, isTemperature, isVelocity, isCoefficient, isFlow, isPower}
 use Rattle.card.specs.declared.Card.{Card}
 use Rattle.battery.specs.declared.Given.{Given}
 use Rattle.battery.specs.declared.Given.the-variants.{Absent, Value}

@@ -151,7 +151,7 @@ pub fn is_accepted(version: u8, b: Battery) -> bool
 fn is_level(x: f64) -> bool
     ensures { λ r. ⌜ r ≡ isLevel x ⌝ }
 {
-    card::ranges::within(0.0, 1.0, x)
+    ranges::within(0.0, 1.0, x)
 }
 
 fn is_given_temperature(given: Given) -> bool
@@ -159,7 +159,7 @@ fn is_given_temperature(given: Given) -> bool
 {
     match given {
         Given::Absent => true,
-        Given::Value(t) => card::ranges::is_temperature(t),
+        Given::Value(t) => ranges::is_temperature(t),
     }
 }
 
@@ -170,9 +170,9 @@ fn demand_in_range(card: Card, d: Demand) -> bool
     floats::both(
         d.service <= 3,
         floats::both(
-            card::ranges::within(-1000000.0, 1000000.0, d.required),
+            ranges::within(-1000000.0, 1000000.0, d.required),
             floats::both(
-                card::ranges::within(0.0, card.timestep, d.start),
+                ranges::within(0.0, card.timestep, d.start),
                 is_given_temperature(feed),
             ),
         ),
@@ -183,24 +183,24 @@ fn hydronic_in_range(h: Hydronic) -> bool
     ensures { λ r. ⌜ r ≡ hydronicInRange h ⌝ }
 {
     let exchanger = floats::both(
-        card::ranges::is_coefficient(h.a),
+        ranges::is_coefficient(h.a),
         floats::both(
-            card::ranges::is_coefficient(h.b),
+            ranges::is_coefficient(h.b),
             floats::both(
-                card::ranges::is_velocity(h.velocity),
-                card::ranges::within(0.00001, 1.0, h.diameter),
+                ranges::is_velocity(h.velocity),
+                ranges::within(0.00001, 1.0, h.diameter),
             ),
         ),
     );
     floats::both(
-        card::ranges::is_temperature(h.inlet),
+        ranges::is_temperature(h.inlet),
         floats::both(
-            card::ranges::within(0.0, 24.0, h.hours),
+            ranges::within(0.0, 24.0, h.hours),
             floats::both(
-                card::ranges::is_flow(h.flow),
+                ranges::is_flow(h.flow),
                 floats::both(
                     is_level(h.target),
-                    floats::both(card::ranges::within(0.0, 1000000.0, h.limit), exchanger),
+                    floats::both(ranges::within(0.0, 1000000.0, h.limit), exchanger),
                 ),
             ),
         ),
@@ -214,7 +214,7 @@ pub fn call_in_range(version: u8, card: Card, call: Call) -> bool
     match call {
         Call::DemandEnergy(d) => demand_in_range(card, d),
         Call::ChargeElectric(power, target) => {
-            floats::both(card::ranges::is_power(power), is_level(target))
+            floats::both(ranges::is_power(power), is_level(target))
         }
         Call::ChargeHydronic(h) => hydronic_in_range(h),
         Call::HeatLoss => true,

@@ -17,7 +17,7 @@ use Rattle.floats.proofs.Order.{le-trans, lt-of-lt-of-le}
 use Rattle.floats.proofs.Quotient.{div-number}
 use Rattle.floats.proofs.QuotientOrder.{div-mono-l, div-anti-r}
 use Rattle.zone.specs.Good.{GoodSalt}
-use Rattle.card.specs.Ranges.{thousandth, million, isTemperature, isCapacity}
+use Rattle.ranges.specs.Ranges.{thousandth, million, isTemperature, isCapacity}
 use Rattle.card.specs.Card.{temperaturesInRange, capacitiesInRange, cardRefusal}
 use Rattle.card.specs.Derived.{saltOf}
 use Rattle.card.specs.Fits.{CardFits}

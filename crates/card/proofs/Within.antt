@@ -8,7 +8,7 @@ use lib.Ieee.Scale.{finite}
 use Rattle.floats.specs.Constants.{zero}
 use Rattle.floats.specs.Standins.{finite64}
 use Rattle.floats.proofs.Finite.{between-finite}
-use Rattle.card.specs.Ranges.{within, isTemperature, isPower}
+use Rattle.ranges.specs.Ranges.{within, isTemperature, isPower}
 use Rattle.card.proofs.Tests.{and-true}
 
 pub holds : {b : Bool} → b ≡ true → T b

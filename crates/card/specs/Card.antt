@@ -5,7 +5,7 @@ use lib.Dec.{leb}
 use lib.Ieee.{lt, le}
 use Rattle.floats.specs.Constants.{maxRelative, tolerance, ratedAmbient}
 use Rattle.floats.specs.Standins.{nearlyEqual}
-use Rattle.card.specs.Ranges.{isSubstep, isTimestep, isTemperature, isCapacity, isVelocity, isDiameter, isCoefficient, isFlow, isPower}
+use Rattle.ranges.specs.Ranges.{isSubstep, isTimestep, isTemperature, isCapacity, isVelocity, isDiameter, isCoefficient, isFlow, isPower}
 use Rattle.card.specs.declared.Card.{Card}
 use Rattle.card.specs.declared.CardVerdict.{CardVerdict}
 use Rattle.card.specs.declared.CardVerdict.the-variants.{Accepted, OutOfRange, LowerAboveUpper, MaxTooLow, NothingToStore}

@@ -1,4 +1,3 @@
-pub mod Ranges
 pub mod Card
 pub mod Derived
 pub mod Fits

@@ -1,6 +1,4 @@
 // The card: document 01's fields, refusals 1 to 4, and what HeatBatteryPcm::new derives.
-pub mod ranges;
-
 use zone::Kilojoules;
 use zone::Salt;
 ghost use mathlib.Core.Path.{_≡_};

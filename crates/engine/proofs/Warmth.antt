@@ -20,7 +20,7 @@ use Rattle.zone.specs.Good.{GoodSalt}
 use Rattle.card.specs.Card.{timesInRange, powersInRange}
 use Rattle.card.specs.Derived.{derived}
 use Rattle.card.specs.Fits.{CardFits}
-use Rattle.card.specs.Ranges.{hundredth, day, isSubstep, isTimestep, isPower}
+use Rattle.ranges.specs.Ranges.{hundredth, day, isSubstep, isTimestep, isPower}
 use Rattle.card.specs.declared.Card.{Card}
 use Rattle.card.proofs.Accepted.{accepted, accepted-layers}
 use Rattle.card.proofs.Salt.{salt-good}

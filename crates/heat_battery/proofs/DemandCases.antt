@@ -12,7 +12,7 @@ use Rattle.floats.specs.Constants.{zero, tolerance}
 use Rattle.floats.proofs.Parts.{number}
 use Rattle.floats.proofs.Compare.{le-number-r}
 use Rattle.floats.proofs.Order.{le-is-not-lt, lt-is-not-le}
-use Rattle.card.specs.Ranges.{within, million}
+use Rattle.ranges.specs.Ranges.{within, million}
 use Rattle.card.specs.declared.Card.{Card}
 use Rattle.card.proofs.Tests.{and-true, true-and}
 use Rattle.battery.specs.Answer.{refusedWith, plainAnswer, answerFinite}

@@ -1,6 +1,5 @@
 // Replays the vector files that its arguments name (oracle/VECTORS.md) and compares every answer bit for bit.
 // A later layer adds its ids to the crate replays; what a list carries from record to record goes into `Run`.
-mod lists;
 mod report;
 
 use battery::Battery;

@@ -1,7 +1,7 @@
-use Rattle.card.specs.Ranges.{within}
+use Rattle.ranges.specs.Ranges.{within}
 use borrow.Author.Needs.{needs}
-use Rattle.card.proofs.ranges.within.Statement.{statement}
-use Rattle.card.proofs.ranges.within.Tie as tie
+use Rattle.ranges.proofs.within.Statement.{statement}
+use Rattle.ranges.proofs.within.Tie as tie
 
 both-requires : tie.Need-both-requires
 both-requires c κs = search needs

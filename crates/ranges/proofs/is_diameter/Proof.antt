@@ -1,7 +1,7 @@
-use Rattle.card.specs.Ranges.{isDiameter}
+use Rattle.ranges.specs.Ranges.{isDiameter}
 use borrow.Author.Needs.{needs}
-use Rattle.card.proofs.ranges.is_diameter.Statement.{statement}
-use Rattle.card.proofs.ranges.is_diameter.Tie as tie
+use Rattle.ranges.proofs.is_diameter.Statement.{statement}
+use Rattle.ranges.proofs.is_diameter.Tie as tie
 
 within-requires : tie.Need-within-requires
 within-requires c κs = search needs

@@ -1,7 +1,7 @@
-use Rattle.card.specs.Ranges.{isFlow}
+use Rattle.ranges.specs.Ranges.{isFlow}
 use borrow.Author.Needs.{needs}
-use Rattle.card.proofs.ranges.is_flow.Statement.{statement}
-use Rattle.card.proofs.ranges.is_flow.Tie as tie
+use Rattle.ranges.proofs.is_flow.Statement.{statement}
+use Rattle.ranges.proofs.is_flow.Tie as tie
 
 within-requires : tie.Need-within-requires
 within-requires c κs = search needs

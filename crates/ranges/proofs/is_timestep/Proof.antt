@@ -1,7 +1,7 @@
-use Rattle.card.specs.Ranges.{isTimestep}
+use Rattle.ranges.specs.Ranges.{isTimestep}
 use borrow.Author.Needs.{needs}
-use Rattle.card.proofs.ranges.is_timestep.Statement.{statement}
-use Rattle.card.proofs.ranges.is_timestep.Tie as tie
+use Rattle.ranges.proofs.is_timestep.Statement.{statement}
+use Rattle.ranges.proofs.is_timestep.Tie as tie
 
 within-requires : tie.Need-within-requires
 within-requires c κs = search needs

@@ -1,7 +1,7 @@
-use Rattle.card.specs.Ranges.{isTemperature}
+use Rattle.ranges.specs.Ranges.{isTemperature}
 use borrow.Author.Needs.{needs}
-use Rattle.card.proofs.ranges.is_temperature.Statement.{statement}
-use Rattle.card.proofs.ranges.is_temperature.Tie as tie
+use Rattle.ranges.proofs.is_temperature.Statement.{statement}
+use Rattle.ranges.proofs.is_temperature.Tie as tie
 
 within-requires : tie.Need-within-requires
 within-requires c κs = search needs

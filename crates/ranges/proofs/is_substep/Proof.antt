@@ -1,7 +1,7 @@
-use Rattle.card.specs.Ranges.{isSubstep}
+use Rattle.ranges.specs.Ranges.{isSubstep}
 use borrow.Author.Needs.{needs}
-use Rattle.card.proofs.ranges.is_substep.Statement.{statement}
-use Rattle.card.proofs.ranges.is_substep.Tie as tie
+use Rattle.ranges.proofs.is_substep.Statement.{statement}
+use Rattle.ranges.proofs.is_substep.Tie as tie
 
 within-requires : tie.Need-within-requires
 within-requires c κs = search needs

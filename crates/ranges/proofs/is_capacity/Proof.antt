@@ -1,7 +1,7 @@
-use Rattle.card.specs.Ranges.{isCapacity}
+use Rattle.ranges.specs.Ranges.{isCapacity}
 use borrow.Author.Needs.{needs}
-use Rattle.card.proofs.ranges.is_capacity.Statement.{statement}
-use Rattle.card.proofs.ranges.is_capacity.Tie as tie
+use Rattle.ranges.proofs.is_capacity.Statement.{statement}
+use Rattle.ranges.proofs.is_capacity.Tie as tie
 
 within-requires : tie.Need-within-requires
 within-requires c κs = search needs

@@ -1,7 +1,7 @@
-use Rattle.card.specs.Ranges.{isVelocity}
+use Rattle.ranges.specs.Ranges.{isVelocity}
 use borrow.Author.Needs.{needs}
-use Rattle.card.proofs.ranges.is_velocity.Statement.{statement}
-use Rattle.card.proofs.ranges.is_velocity.Tie as tie
+use Rattle.ranges.proofs.is_velocity.Statement.{statement}
+use Rattle.ranges.proofs.is_velocity.Tie as tie
 
 within-requires : tie.Need-within-requires
 within-requires c κs = search needs

@@ -1,6 +1,6 @@
 // Document 01's ranges, both ends in, each under its field's name.
 ghost use mathlib.Core.Path.{_≡_};
-ghost use Rattle.card.specs.Ranges.{within as withinOf, isSubstep, isTimestep, isTemperature, isCapacity, isVelocity, isDiameter, isCoefficient, isFlow, isPower};
+ghost use Rattle.ranges.specs.Ranges.{within as withinOf, isSubstep, isTimestep, isTemperature, isCapacity, isVelocity, isDiameter, isCoefficient, isFlow, isPower};
 
 // Whether x lies between low and high, the ends included. A NaN does not.
 pub fn within(low: f64, high: f64, x: f64) -> bool

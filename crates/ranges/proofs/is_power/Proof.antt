@@ -1,7 +1,7 @@
-use Rattle.card.specs.Ranges.{isPower}
+use Rattle.ranges.specs.Ranges.{isPower}
 use borrow.Author.Needs.{needs}
-use Rattle.card.proofs.ranges.is_power.Statement.{statement}
-use Rattle.card.proofs.ranges.is_power.Tie as tie
+use Rattle.ranges.proofs.is_power.Statement.{statement}
+use Rattle.ranges.proofs.is_power.Tie as tie
 
 within-requires : tie.Need-within-requires
 within-requires c κs = search needs

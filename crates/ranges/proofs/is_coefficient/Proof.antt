@@ -1,7 +1,7 @@
-use Rattle.card.specs.Ranges.{isCoefficient}
+use Rattle.ranges.specs.Ranges.{isCoefficient}
 use borrow.Author.Needs.{needs}
-use Rattle.card.proofs.ranges.is_coefficient.Statement.{statement}
-use Rattle.card.proofs.ranges.is_coefficient.Tie as tie
+use Rattle.ranges.proofs.is_coefficient.Statement.{statement}
+use Rattle.ranges.proofs.is_coefficient.Tie as tie
 
 within-requires : tie.Need-within-requires
 within-requires c κs = search needs
