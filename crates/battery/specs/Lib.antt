@@ -3,3 +3,4 @@ pub mod Call
 pub mod Answer
 pub mod Kinds
 pub mod Shape
+pub mod Ledger

@@ -2,9 +2,10 @@
 use card::Card;
 ghost use mathlib.Core.Path.{_≡_};
 ghost use Prim.Native.Nat.{_≤_};
-ghost use Rattle.battery.specs.Battery.{fresh as freshOf, zonesFinite, totalsFinite, batteryAccepted};
+ghost use Rattle.battery.specs.Battery.{fresh as freshOf, zonesFinite, batteryAccepted};
 ghost use Rattle.battery.specs.Call.{isLevel, isGivenTemperature, demandInRange, hydronicInRange, callInRange};
-ghost use Rattle.battery.specs.Answer.{refusedWith, plainAnswer, answerFinite};
+ghost use Rattle.battery.specs.Answer.{refusedWith, answerFinite};
+ghost use Rattle.battery.specs.Ledger.{whole, answerWith, finiteTotals, ledgerOf, plainReply, refusedReply};
 
 #[repr(C)]
 pub struct Battery {
@@ -83,6 +84,33 @@ pub struct Answer {
     pub battery: Battery,
 }
 
+// A battery's five totals, as in Battery.
+pub struct Totals {
+    pub total: f64,
+    pub pump: f64,
+    pub direct: f64,
+    pub charged: f64,
+    pub electric: f64,
+}
+
+// All of a battery but its zones, which stay where they lie.
+pub struct Ledger {
+    pub card: Card,
+    pub count: u8,
+    pub totals: Totals,
+}
+
+// All of an answer but the zones, the card and the count.
+pub struct Reply {
+    pub refusal: u8,
+    pub energy: f64,
+    pub mark: u8,
+    pub outlet: f64,
+    pub time: f64,
+    pub substeps: u32,
+    pub totals: Totals,
+}
+
 pub fn fresh(card: Card) -> Battery
     requires { ⌜ card .layers ≤ 64 ⌝ }
     ensures { λ r. ⌜ r ≡ freshOf card ⌝ }
@@ -106,9 +134,9 @@ pub fn fresh(card: Card) -> Battery
 }
 
 // Whether the first n zones are finite.
-pub fn zones_finite(zones: [f64; 64], n: usize) -> bool
+pub fn zones_finite(zones: &[f64; 64], n: usize) -> bool
     requires { ⌜ n ≤ 64 ⌝ }
-    ensures { λ r. ⌜ r ≡ zonesFinite zones n ⌝ }
+    ensures { λ r. ⌜ r ≡ zonesFinite (now (zones .entry)) n ⌝ }
 {
     let mut ok = true;
     for k in 0..n {
@@ -117,31 +145,49 @@ pub fn zones_finite(zones: [f64; 64], n: usize) -> bool
     ok
 }
 
-pub fn totals_finite(b: Battery) -> bool
-    ensures { λ r. ⌜ r ≡ totalsFinite b ⌝ }
+fn totals_finite(t: Totals) -> bool
+    ensures { λ r. ⌜ r ≡ finiteTotals t ⌝ }
 {
     floats::both(
-        floats::is_finite(b.total),
+        floats::is_finite(t.total),
         floats::both(
-            floats::is_finite(b.pump),
+            floats::is_finite(t.pump),
             floats::both(
-                floats::is_finite(b.direct),
-                floats::both(floats::is_finite(b.charged), floats::is_finite(b.electric)),
+                floats::is_finite(t.direct),
+                floats::both(floats::is_finite(t.charged), floats::is_finite(t.electric)),
             ),
         ),
     )
 }
 
-// Refusal 10's test of a battery: false where it is refused.
-pub fn is_accepted(version: u8, b: Battery) -> bool
-    ensures { λ r. ⌜ r ≡ batteryAccepted version b ⌝ }
+pub fn ledger_of(b: Battery) -> Ledger
+    ensures { λ r. ⌜ r ≡ ledgerOf b ⌝ }
 {
-    let c = b.card;
+    let card = b.card;
+    let totals = Totals {
+        total: b.total,
+        pump: b.pump,
+        direct: b.direct,
+        charged: b.charged,
+        electric: b.electric,
+    };
+    Ledger {
+        card,
+        count: b.count,
+        totals,
+    }
+}
+
+// Refusal 10's test of a battery: false where it is refused.
+pub fn is_accepted(version: u8, l: Ledger, zones: &[f64; 64]) -> bool
+    ensures { λ r. ⌜ r ≡ batteryAccepted version (whole l (now (zones .entry))) ⌝ }
+{
+    let c = l.card;
+    let totals = l.totals;
     if card::refusal(version, c) == 0 {
-        if b.count == c.layers {
-            let zones = b.zones;
+        if l.count == c.layers {
             let n = c.layers as usize;
-            return floats::both(zones_finite(zones, n), totals_finite(b));
+            return floats::both(zones_finite(zones, n), totals_finite(totals));
         }
         return false;
     }
@@ -241,36 +287,57 @@ pub fn refused(refusal: u8, b: Battery) -> Answer
     }
 }
 
-// An answer that ran no substep and has no outlet.
-pub fn plain_answer(energy: f64, b: Battery) -> Answer
-    ensures { λ r. ⌜ r ≡ plainAnswer energy b ⌝ }
+// A refusal where the zones lie elsewhere.
+pub fn refused_reply(refusal: u8) -> Reply
+    ensures { λ r. ⌜ r ≡ refusedReply refusal ⌝ }
 {
-    Answer {
+    let totals = Totals {
+        total: 0.0,
+        pump: 0.0,
+        direct: 0.0,
+        charged: 0.0,
+        electric: 0.0,
+    };
+    Reply {
+        refusal,
+        energy: 0.0,
+        mark: 0,
+        outlet: 0.0,
+        time: 0.0,
+        substeps: 0,
+        totals,
+    }
+}
+
+// An answer that ran no substep and has no outlet.
+pub fn plain_reply(energy: f64, totals: Totals) -> Reply
+    ensures { λ r. ⌜ r ≡ plainReply energy totals ⌝ }
+{
+    Reply {
         refusal: 0,
         energy,
         mark: 0,
         outlet: 0.0,
         time: 0.0,
         substeps: 0,
-        battery: b,
+        totals,
     }
 }
 
 // Whether every reported number and total is finite.
-pub fn answer_finite(a: Answer) -> bool
-    requires { ⌜ a .battery .card .layers ≤ 64 ⌝ }
-    ensures { λ r. ⌜ r ≡ answerFinite a ⌝ }
+pub fn reply_finite(l: Ledger, a: Reply, zones: &[f64; 64]) -> bool
+    requires { ⌜ l .card .layers ≤ 64 ⌝ }
+    ensures { λ r. ⌜ r ≡ answerFinite (answerWith l a (now (zones .entry))) ⌝ }
 {
-    let b = a.battery;
-    let zones = b.zones;
-    let n = b.card.layers as usize;
+    let n = l.card.layers as usize;
+    let totals = a.totals;
     floats::both(
         floats::is_finite(a.energy),
         floats::both(
             floats::is_finite(a.outlet),
             floats::both(
                 floats::is_finite(a.time),
-                floats::both(zones_finite(zones, n), totals_finite(b)),
+                floats::both(zones_finite(zones, n), totals_finite(totals)),
             ),
         ),
     )

@@ -16,3 +16,4 @@ pub mod Refused
 pub mod OverFull
 pub mod NoLogarithm
 pub mod NotFinite
+pub mod Settled

@@ -1,3 +1,4 @@
 pub mod Steps
 pub mod Budget
 pub mod Faults
+pub mod Apart

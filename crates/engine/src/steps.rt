@@ -1,4 +1,5 @@
-// Document 01's steps: what each kind of call answers, and the battery that it leaves.
+// Document 01's steps: what each kind of call answers, and the battery that it leaves. The zones stay where they lie; a refused call may leave
+// any there, and its answer shows the battery as it was.
 use crate::ServiceClass;
 use battery::Answer;
 use battery::Battery;
@@ -6,39 +7,51 @@ use battery::Call;
 use battery::Demand;
 use battery::Given;
 use battery::Hydronic;
+use battery::Ledger;
+use battery::Reply;
+use battery::Totals;
 use card::Card;
 use runs::DemandTask;
-use runs::Ended;
+use runs::End;
 use runs::Exchanger;
-use runs::Run;
+use runs::Pace;
 use runs::Source;
+use runs::Stopped;
 use zone::KilowattHours;
 use zone::StateOfCharge;
 ghost use mathlib.Core.Path.{_≡_};
+ghost use mathlib.Core.Bool.{true, false};
+ghost use mathlib.Core.List.{List};
 ghost use Prim.Native.Nat.{_≤_};
-ghost use Rattle.engine.specs.Steps.{checked as checkedOf, unlessRefused, serviceClass, unserved as unservedOf, pumpAfter, directAfter, demandPower, demandTask, demandStart, served as servedOf, demandKept, demandAnswer, demandFrom, demandGiven, demandEnergy, chargedBattery, cooledBattery, runAnswer, charge as chargeOf, heatLoss, closedBattery, level as levelOf, readLevel, demandToLevel, wetSource, stepOf, advanceOf};
+ghost use lib.Ieee.{Float};
+ghost use Rattle.battery.specs.Ledger.{whole, answerWith, settled};
+ghost use Rattle.runs.specs.declared.Ended.{Ended};
+ghost use Rattle.runs.specs.Apart.{runWith, EndedLies};
+ghost use Rattle.runs.specs.Demand.{demandRun, demandEnded};
+ghost use Rattle.engine.specs.Apart.{demandReply, runReply, servedTotals, chargedTotals, closedTotals};
+ghost use Rattle.engine.specs.Steps.{checked as checkedOf, unlessRefused, serviceClass, unserved as unservedOf, pumpAfter, directAfter, demandPower, demandTask, demandStart, demandAnswer, demandFrom, demandGiven, demandEnergy, charge as chargeOf, heatLoss, level as levelOf, readLevel, demandToLevel, wetSource, stepOf, advanceOf};
 
 // 23 where a reported number or total is not finite.
-fn checked(b: Battery, a: Answer) -> Answer
-    requires { ⌜ a .battery .card .layers ≤ 64 ⌝ }
-    ensures { λ r. ⌜ r ≡ checkedOf b a ⌝ }
+fn checked(l: Ledger, a: Reply, zones: &[f64; 64]) -> Reply
+    requires { ⌜ (l .card .layers ≤ 64) × (a .refusal ≡ 0) ⌝ }
+    ensures { λ r. ⌜ ((before : List Float) → settled l before r (now (zones .entry)) ≡ checkedOf (whole l before) (answerWith l a (now (zones .entry)))) ⌝ }
 {
-    if battery::answer_finite(a) {
+    if battery::reply_finite(l, a, zones) {
         return a;
     }
-    battery::refused(23, b)
+    battery::refused_reply(23)
 }
 
-fn unless_refused(b: Battery, r: Ended, a: Answer) -> Answer
-    requires { ⌜ a .battery .card .layers ≤ 64 ⌝ }
-    ensures { λ x. ⌜ x ≡ unlessRefused b r a ⌝ }
+// The answer of a run, unless it ended in 22, 23 or 24.
+fn unless_refused(l: Ledger, end: End, a: Reply, zones: &[f64; 64]) -> Reply
+    requires { ⌜ (l .card .layers ≤ 64) × (a .refusal ≡ 0) ⌝ }
+    ensures { λ r. ⌜ ((before : List Float) (e : Ended) → e .end ≡ end → settled l before r (now (zones .entry)) ≡ unlessRefused (whole l before) e (answerWith l a (now (zones .entry)))) ⌝ }
 {
-    let end = r.end;
     let refusal = runs::end_refusal(end);
     if refusal == 0 {
-        return checked(b, a);
+        return checked(l, a, zones);
     }
-    battery::refused(refusal, b)
+    battery::refused_reply(refusal)
 }
 
 fn service_class(card: Card, service: u8) -> ServiceClass
@@ -99,14 +112,14 @@ fn demand_power(card: Card, control: bool) -> f64
     0.0
 }
 
-fn demand_task(b: Battery, d: Demand, feed: f64) -> DemandTask
-    ensures { λ r. ⌜ r ≡ demandTask b d feed ⌝ }
+fn demand_task(l: Ledger, d: Demand, feed: f64) -> DemandTask
+    ensures { λ r. ⌜ ((zones : List Float) → r ≡ demandTask (whole l zones) d feed) ⌝ }
 {
-    let card = b.card;
+    let card = l.card;
     let pcm = card::derived(card);
     let power = demand_power(card, d.control);
     let units = card.units as f64;
-    let hours = runs::time_available(b, d.start);
+    let hours = runs::time_available(l, d.start);
     DemandTask {
         card,
         pcm,
@@ -117,217 +130,233 @@ fn demand_task(b: Battery, d: Demand, feed: f64) -> DemandTask
     }
 }
 
-fn demand_start(b: Battery) -> Run
-    ensures { λ r. ⌜ r ≡ demandStart b ⌝ }
+fn demand_start(l: Ledger) -> Pace
+    ensures { λ r. ⌜ ((zones : List Float) → runWith r zones ≡ demandStart (whole l zones)) ⌝ }
 {
-    let card = b.card;
+    let card = l.card;
     let pcm = card::derived(card);
-    let zones = b.zones;
     let reynold = runs::reynold_between(card.inlet, card.outlet, card.velocity, pcm.diameter);
-    Run {
-        zones,
+    Pace {
         step: 1.0,
         running: 0.0,
         delivered: KilowattHours(0.0),
-        electric: KilowattHours(b.electric),
+        electric: KilowattHours(l.totals.electric),
         outlet: 0.0,
         reynold,
     }
 }
 
-fn served(b: Battery, class: ServiceClass, r: Ended) -> Battery
-    ensures { λ x. ⌜ x ≡ servedOf b class r ⌝ }
+// The substeps of a demand.
+fn demand_stopped(l: Ledger, d: Demand, feed: f64, zones: &mut [f64; 64]) -> Stopped
+    requires { ⌜ l .card .layers ≤ 64 ⌝ }
+    ensures { λ r. ⌜ EndedLies r (now (zones .exit)) (demandEnded (demandRun (demandTask (whole l (now (zones .entry))) d feed) (l .card .budget) 0 (demandStart (whole l (now (zones .entry)))))) ⌝ }
 {
-    let hours = r.time / floats::SECONDS_PER_HOUR;
-    let pump = pump_after(class, b.pump, hours);
-    let direct = direct_after(class, b.direct, hours);
-    let card = b.card;
-    let zones = r.zones;
-    Battery {
-        card,
-        zones,
-        count: b.count,
-        total: b.total + hours,
+    let card = l.card;
+    let task = demand_task(l, d, feed);
+    let start = demand_start(l);
+    let e = runs::demand::demand_run(task, card.budget, start, zones);
+    runs::demand::demand_ended(e)
+}
+
+// Running hours by class, and charged electric.
+fn served_totals(l: Ledger, class: ServiceClass, s: Stopped) -> Totals
+    ensures { λ r. ⌜ r ≡ servedTotals l class s ⌝ }
+{
+    let hours = s.time / floats::SECONDS_PER_HOUR;
+    let pump = pump_after(class, l.totals.pump, hours);
+    let direct = direct_after(class, l.totals.direct, hours);
+    Totals {
+        total: l.totals.total + hours,
         pump,
         direct,
-        charged: b.charged,
-        electric: r.electric.0,
+        charged: l.totals.charged,
+        electric: s.electric.0,
     }
 }
 
-fn demand_kept(b: Battery, d: Demand, r: Ended) -> Battery
-    ensures { λ x. ⌜ x ≡ demandKept b d r ⌝ }
+fn demand_reply(l: Ledger, s: Stopped, totals: Totals) -> Reply
+    ensures { λ r. ⌜ r ≡ demandReply l s totals ⌝ }
 {
-    if d.commit {
-        let card = b.card;
-        let class = service_class(card, d.service);
-        return served(b, class, r);
-    }
-    b
-}
-
-fn demand_answer(b: Battery, d: Demand, r: Ended) -> Answer
-    ensures { λ x. ⌜ x ≡ demandAnswer b d r ⌝ }
-{
-    let units = b.card.units as f64;
-    let energy = r.energy.0 * units;
-    let battery = demand_kept(b, d, r);
-    Answer {
+    let units = l.card.units as f64;
+    let energy = s.energy.0 * units;
+    Reply {
         refusal: 0,
         energy,
         mark: 1,
-        outlet: r.outlet,
-        time: r.time,
-        substeps: r.substeps,
-        battery,
+        outlet: s.outlet,
+        time: s.time,
+        substeps: s.substeps,
+        totals,
     }
 }
 
-fn demand_from(b: Battery, d: Demand, feed: f64) -> Answer
-    requires { ⌜ b .card .layers ≤ 64 ⌝ }
-    ensures { λ r. ⌜ r ≡ demandFrom b d feed ⌝ }
+fn committed(l: Ledger, d: Demand, feed: f64, zones: &mut [f64; 64]) -> Reply
+    requires { ⌜ (l .card .layers ≤ 64) × (d .commit ≡ true) ⌝ }
+    ensures { λ r. ⌜ ((e : Ended) → e ≡ demandEnded (demandRun (demandTask (whole l (now (zones .entry))) d feed) (l .card .budget) 0 (demandStart (whole l (now (zones .entry))))) → settled l (now (zones .entry)) r (now (zones .exit)) ≡ unlessRefused (whole l (now (zones .entry))) e (demandAnswer (whole l (now (zones .entry))) d e)) ⌝ }
 {
-    let card = b.card;
+    let s = demand_stopped(l, d, feed, zones);
+    let card = l.card;
+    let class = service_class(card, d.service);
+    let totals = served_totals(l, class, s);
+    let a = demand_reply(l, s, totals);
+    let end = s.end;
+    unless_refused(l, end, a, zones)
+}
+
+// The same on a copy of the zones.
+fn trial(l: Ledger, d: Demand, feed: f64, zones: &[f64; 64]) -> Reply
+    requires { ⌜ (l .card .layers ≤ 64) × (d .commit ≡ false) ⌝ }
+    ensures { λ r. ⌜ ((e : Ended) → e ≡ demandEnded (demandRun (demandTask (whole l (now (zones .entry))) d feed) (l .card .budget) 0 (demandStart (whole l (now (zones .entry))))) → settled l (now (zones .entry)) r (now (zones .entry)) ≡ unlessRefused (whole l (now (zones .entry))) e (demandAnswer (whole l (now (zones .entry))) d e)) ⌝ }
+{
+    let mut own = *zones;
+    let s = demand_stopped(l, d, feed, &mut own);
+    let totals = l.totals;
+    let a = demand_reply(l, s, totals);
+    let end = s.end;
+    unless_refused(l, end, a, zones)
+}
+
+fn demand_from(l: Ledger, d: Demand, feed: f64, zones: &mut [f64; 64]) -> Reply
+    requires { ⌜ l .card .layers ≤ 64 ⌝ }
+    ensures { λ r. ⌜ settled l (now (zones .entry)) r (now (zones .exit)) ≡ demandFrom (whole l (now (zones .entry))) d feed ⌝ }
+{
+    let card = l.card;
     let class = service_class(card, d.service);
     if floats::both(d.commit, unserved(class)) {
-        return battery::refused(21, b);
+        return battery::refused_reply(21);
     }
-    let task = demand_task(b, d, feed);
-    let start = demand_start(b);
-    let e = runs::demand::demand_run(task, card.budget, start);
-    let r = runs::demand::demand_ended(e);
-    let a = demand_answer(b, d, r);
-    unless_refused(b, r, a)
+    if d.commit {
+        return committed(l, d, feed, zones);
+    }
+    trial(l, d, feed, zones)
 }
 
-fn demand_given(b: Battery, d: Demand, given: Given) -> Answer
-    requires { ⌜ b .card .layers ≤ 64 ⌝ }
-    ensures { λ r. ⌜ r ≡ demandGiven b d given ⌝ }
+fn demand_given(l: Ledger, d: Demand, given: Given, zones: &mut [f64; 64]) -> Reply
+    requires { ⌜ l .card .layers ≤ 64 ⌝ }
+    ensures { λ r. ⌜ settled l (now (zones .entry)) r (now (zones .exit)) ≡ demandGiven (whole l (now (zones .entry))) d given ⌝ }
 {
     match given {
-        Given::Absent => battery::refused(20, b),
-        Given::Value(feed) => demand_from(b, d, feed),
+        Given::Absent => battery::refused_reply(20),
+        Given::Value(feed) => demand_from(l, d, feed, zones),
     }
 }
 
-fn demand_energy(b: Battery, d: Demand) -> Answer
-    requires { ⌜ b .card .layers ≤ 64 ⌝ }
-    ensures { λ r. ⌜ r ≡ demandEnergy b d ⌝ }
+fn demand_energy(l: Ledger, d: Demand, zones: &mut [f64; 64]) -> Reply
+    requires { ⌜ l .card .layers ≤ 64 ⌝ }
+    ensures { λ r. ⌜ settled l (now (zones .entry)) r (now (zones .exit)) ≡ demandEnergy (whole l (now (zones .entry))) d ⌝ }
 {
     if d.required <= floats::TOLERANCE {
-        let a = battery::plain_answer(0.0, b);
-        return checked(b, a);
+        let totals = l.totals;
+        let a = battery::plain_reply(0.0, totals);
+        return checked(l, a, zones);
     }
     let given = d.feed;
-    demand_given(b, d, given)
+    demand_given(l, d, given, zones)
 }
 
-fn charged_battery(b: Battery, r: Ended) -> Battery
-    ensures { λ x. ⌜ x ≡ chargedBattery b r ⌝ }
+// A line of kinds 2 to 4: no outlet, no time.
+fn run_reply(s: Stopped, totals: Totals) -> Reply
+    ensures { λ r. ⌜ r ≡ runReply s totals ⌝ }
 {
-    let card = b.card;
-    let zones = r.zones;
-    Battery {
-        card,
-        zones,
-        count: b.count,
-        total: b.total,
-        pump: b.pump,
-        direct: b.direct,
-        charged: b.charged + r.energy.0,
-        electric: r.electric.0,
-    }
-}
-
-fn cooled_battery(b: Battery, r: Ended) -> Battery
-    ensures { λ x. ⌜ x ≡ cooledBattery b r ⌝ }
-{
-    let mut next = b;
-    let zones = r.zones;
-    next.zones = zones;
-    next
-}
-
-fn run_answer(r: Ended, b: Battery) -> Answer
-    ensures { λ x. ⌜ x ≡ runAnswer r b ⌝ }
-{
-    Answer {
+    Reply {
         refusal: 0,
-        energy: r.energy.0,
+        energy: s.energy.0,
         mark: 0,
         outlet: 0.0,
         time: 0.0,
-        substeps: r.substeps,
-        battery: b,
+        substeps: s.substeps,
+        totals,
     }
 }
 
-fn charge(b: Battery, source: Source, target: f64) -> Answer
-    requires { ⌜ b .card .layers ≤ 64 ⌝ }
-    ensures { λ r. ⌜ r ≡ chargeOf b source target ⌝ }
+fn charged_totals(l: Ledger, s: Stopped) -> Totals
+    ensures { λ r. ⌜ r ≡ chargedTotals l s ⌝ }
 {
-    let r = runs::charge::charge_battery(b, source, target);
-    let after = charged_battery(b, r);
-    let a = run_answer(r, after);
-    unless_refused(b, r, a)
+    Totals {
+        total: l.totals.total,
+        pump: l.totals.pump,
+        direct: l.totals.direct,
+        charged: l.totals.charged + s.energy.0,
+        electric: s.electric.0,
+    }
 }
 
-fn heat_loss(b: Battery) -> Answer
-    requires { ⌜ b .card .layers ≤ 64 ⌝ }
-    ensures { λ r. ⌜ r ≡ heatLoss b ⌝ }
+fn charge(l: Ledger, source: Source, target: f64, zones: &mut [f64; 64]) -> Reply
+    requires { ⌜ l .card .layers ≤ 64 ⌝ }
+    ensures { λ r. ⌜ settled l (now (zones .entry)) r (now (zones .exit)) ≡ chargeOf (whole l (now (zones .entry))) source target ⌝ }
 {
-    let r = runs::charge::battery_heat_loss(b);
-    let after = cooled_battery(b, r);
-    let a = run_answer(r, after);
-    unless_refused(b, r, a)
+    let s = runs::charge::charge_battery(l, source, target, zones);
+    let totals = charged_totals(l, s);
+    let a = run_reply(s, totals);
+    let end = s.end;
+    unless_refused(l, end, a, zones)
 }
 
-fn closed_battery(b: Battery) -> Battery
-    ensures { λ r. ⌜ r ≡ closedBattery b ⌝ }
+fn heat_loss(l: Ledger, zones: &mut [f64; 64]) -> Reply
+    requires { ⌜ l .card .layers ≤ 64 ⌝ }
+    ensures { λ r. ⌜ settled l (now (zones .entry)) r (now (zones .exit)) ≡ heatLoss (whole l (now (zones .entry))) ⌝ }
 {
-    let mut next = b;
+    let s = runs::charge::battery_heat_loss(l, zones);
+    let totals = l.totals;
+    let a = run_reply(s, totals);
+    let end = s.end;
+    unless_refused(l, end, a, zones)
+}
+
+fn closed_totals(l: Ledger) -> Totals
+    ensures { λ r. ⌜ r ≡ closedTotals l ⌝ }
+{
+    let mut next = l.totals;
     next.total = 0.0;
     next.pump = 0.0;
     next.direct = 0.0;
     next
 }
 
-fn level(b: Battery) -> StateOfCharge
-    requires { ⌜ b .card .layers ≤ 64 ⌝ }
-    ensures { λ r. ⌜ r ≡ levelOf b ⌝ }
+fn level(l: Ledger, zones: &[f64; 64]) -> StateOfCharge
+    requires { ⌜ l .card .layers ≤ 64 ⌝ }
+    ensures { λ r. ⌜ r ≡ levelOf (whole l (now (zones .entry))) ⌝ }
 {
-    let card = b.card;
+    let card = l.card;
     let pcm = card::derived(card);
     let salt = pcm.salt;
     let stored = pcm.stored;
-    let zones = b.zones;
     let n = card.layers as usize;
-    zone::layer::calc_state_of_charge(salt, card.reference, stored, zones, n)
+    let own = *zones;
+    zone::layer::calc_state_of_charge(salt, card.reference, stored, own, n)
 }
 
-fn read_level(b: Battery, level: StateOfCharge) -> Answer
-    requires { ⌜ b .card .layers ≤ 64 ⌝ }
-    ensures { λ r. ⌜ r ≡ readLevel b level ⌝ }
+fn read_level(l: Ledger, level: StateOfCharge, zones: &[f64; 64]) -> Reply
+    requires { ⌜ l .card .layers ≤ 64 ⌝ }
+    ensures { λ r. ⌜ settled l (now (zones .entry)) r (now (zones .entry)) ≡ readLevel (whole l (now (zones .entry))) level ⌝ }
 {
     match level {
-        StateOfCharge::Above => battery::refused(25, b),
+        StateOfCharge::Above => battery::refused_reply(25),
         StateOfCharge::Level(soc) => {
-            let a = battery::plain_answer(soc, b);
-            checked(b, a)
+            let totals = l.totals;
+            let a = battery::plain_reply(soc, totals);
+            checked(l, a, zones)
         }
     }
 }
 
-fn demand_to_level(b: Battery, most: Given, target: f64, level: StateOfCharge) -> Answer
-    requires { ⌜ b .card .layers ≤ 64 ⌝ }
-    ensures { λ r. ⌜ r ≡ demandToLevel b most target level ⌝ }
+fn demand_to_level(
+    l: Ledger,
+    most: Given,
+    target: f64,
+    level: StateOfCharge,
+    zones: &[f64; 64],
+) -> Reply
+    requires { ⌜ l .card .layers ≤ 64 ⌝ }
+    ensures { λ r. ⌜ settled l (now (zones .entry)) r (now (zones .entry)) ≡ demandToLevel (whole l (now (zones .entry))) most target level ⌝ }
 {
     match level {
-        StateOfCharge::Above => battery::refused(25, b),
+        StateOfCharge::Above => battery::refused_reply(25),
         StateOfCharge::Level(soc) => {
-            let energy = runs::charge::calculate_charge_energy_demand(b, most, target, soc);
-            let a = battery::plain_answer(energy.0, b);
-            checked(b, a)
+            let energy = runs::charge::calculate_charge_energy_demand(l, most, target, soc);
+            let totals = l.totals;
+            let a = battery::plain_reply(energy.0, totals);
+            checked(l, a, zones)
         }
     }
 }
@@ -348,44 +377,76 @@ fn wet_source(h: Hydronic) -> Source
     Source::Wet(wet)
 }
 
-fn step(version: u8, b: Battery, call: Call) -> Answer
-    requires { ⌜ b .card .layers ≤ 64 ⌝ }
-    ensures { λ r. ⌜ r ≡ stepOf version b call ⌝ }
+fn step(version: u8, l: Ledger, call: Call, zones: &mut [f64; 64]) -> Reply
+    requires { ⌜ l .card .layers ≤ 64 ⌝ }
+    ensures { λ r. ⌜ settled l (now (zones .entry)) r (now (zones .exit)) ≡ stepOf version (whole l (now (zones .entry))) call ⌝ }
 {
     match call {
-        Call::DemandEnergy(d) => demand_energy(b, d),
-        Call::ChargeElectric(power, target) => charge(b, Source::Electric(power), target),
+        Call::DemandEnergy(d) => demand_energy(l, d, zones),
+        Call::ChargeElectric(power, target) => charge(l, Source::Electric(power), target, zones),
         Call::ChargeHydronic(h) => {
             let source = wet_source(h);
-            charge(b, source, h.target)
+            charge(l, source, h.target, zones)
         }
-        Call::HeatLoss => heat_loss(b),
+        Call::HeatLoss => heat_loss(l, zones),
         Call::CloseTimestep => {
-            let after = closed_battery(b);
-            let a = battery::plain_answer(0.0, after);
-            checked(b, a)
+            let totals = closed_totals(l);
+            let a = battery::plain_reply(0.0, totals);
+            checked(l, a, zones)
         }
         Call::ReadStateOfCharge => {
-            let soc = level(b);
-            read_level(b, soc)
+            let soc = level(l, zones);
+            read_level(l, soc, zones)
         }
         Call::ChargeEnergyDemand(most, target) => {
-            let soc = level(b);
-            demand_to_level(b, most, target, soc)
+            let soc = level(l, zones);
+            demand_to_level(l, most, target, soc, zones)
         }
     }
 }
 
-// A call on any battery whatsoever: 10, or the steps.
+// A call on any battery whatsoever, its zones apart: 10, or the steps.
+pub fn advance_in_place(version: u8, l: Ledger, call: Call, zones: &mut [f64; 64]) -> Reply
+    ensures { λ r. ⌜ settled l (now (zones .entry)) r (now (zones .exit)) ≡ advanceOf version (whole l (now (zones .entry))) call ⌝ }
+{
+    let card = l.card;
+    if floats::both(
+        battery::is_accepted(version, l, zones),
+        battery::call_in_range(version, card, call),
+    ) {
+        return step(version, l, call, zones);
+    }
+    battery::refused_reply(10)
+}
+
+// The same by value.
 pub fn advance(version: u8, b: Battery, call: Call) -> Answer
     ensures { λ r. ⌜ r ≡ advanceOf version b call ⌝ }
 {
-    let card = b.card;
-    if floats::both(
-        battery::is_accepted(version, b),
-        battery::call_in_range(version, card, call),
-    ) {
-        return step(version, b, call);
+    let l = battery::ledger_of(b);
+    let mut zones = b.zones;
+    let a = advance_in_place(version, l, call, &mut zones);
+    if a.refusal == 0 {
+        let card = b.card;
+        let battery = Battery {
+            card,
+            zones,
+            count: b.count,
+            total: a.totals.total,
+            pump: a.totals.pump,
+            direct: a.totals.direct,
+            charged: a.totals.charged,
+            electric: a.totals.electric,
+        };
+        return Answer {
+            refusal: a.refusal,
+            energy: a.energy,
+            mark: a.mark,
+            outlet: a.outlet,
+            time: a.time,
+            substeps: a.substeps,
+            battery,
+        };
     }
-    battery::refused(10, b)
+    battery::refused(a.refusal, b)
 }

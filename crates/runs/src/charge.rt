@@ -1,27 +1,32 @@
 // Document 01, module 6: charges, losses, and the energy to a level.
-use crate::Ended;
 use crate::Exchanger;
-use crate::HydronicRun;
 use crate::HydronicTask;
 use crate::Source;
-use battery::Battery;
+use crate::Stopped;
+use crate::WetPace;
 use battery::Given;
+use battery::Ledger;
 use card::Card;
 use substep::Drive;
-use substep::Substep;
+use substep::Outcome;
 use water::Mode;
 use zone::Kilojoules;
 use zone::KilowattHours;
 ghost use mathlib.Core.Path.{_≡_};
+ghost use mathlib.Core.List.{List};
 ghost use Prim.Native.Nat.{_≤_};
+ghost use lib.Ieee.{Float};
+ghost use Rattle.battery.specs.Ledger.{whole};
+ghost use Rattle.substep.specs.Substep.{substepWith};
+ghost use Rattle.runs.specs.Apart.{endedWith, wetWith, EndedLies};
 ghost use Rattle.runs.specs.Charge.{electricDrive, electricEnded, chargeElectric, hydronicTask, hydronicStart, chargeHydronic, chargeBattery, lossDrive, lossEnded, batteryHeatLoss, energyDeficit, chargeEnergyDemand};
 
 // The call's power over the time left.
-fn electric_drive(b: Battery, power: f64, target: f64) -> Drive
-    ensures { λ r. ⌜ r ≡ electricDrive b power target ⌝ }
+fn electric_drive(l: Ledger, power: f64, target: f64) -> Drive
+    ensures { λ r. ⌜ ((zones : List Float) → r ≡ electricDrive (whole l zones) power target) ⌝ }
 {
-    let card = b.card;
-    let left = floats::max_zero(crate::time_available(b, 0.0));
+    let card = l.card;
+    let left = floats::max_zero(crate::time_available(l, 0.0));
     Drive {
         mode: Mode::OnlyCharging,
         inlet: 0.0,
@@ -35,17 +40,15 @@ fn electric_drive(b: Battery, power: f64, target: f64) -> Drive
     }
 }
 
-fn electric_ended(b: Battery, u: Substep) -> Ended
-    ensures { λ r. ⌜ r ≡ electricEnded b u ⌝ }
+fn electric_ended(l: Ledger, u: Outcome) -> Stopped
+    ensures { λ r. ⌜ ((before zones energies : List Float) → endedWith r zones ≡ electricEnded (whole l before) (substepWith u zones energies)) ⌝ }
 {
-    let zones = u.zones;
     let energy = u.charged;
     let fault = u.fault;
     let end = crate::fault_end(fault);
-    Ended {
-        zones,
+    Stopped {
         energy,
-        electric: KilowattHours(b.electric + energy.0),
+        electric: KilowattHours(l.totals.electric + energy.0),
         outlet: 0.0,
         time: 0.0,
         end,
@@ -53,22 +56,21 @@ fn electric_ended(b: Battery, u: Substep) -> Ended
     }
 }
 
-pub fn charge_battery_electric(b: Battery, power: f64, target: f64) -> Ended
-    requires { ⌜ b .card .layers ≤ 64 ⌝ }
-    ensures { λ r. ⌜ r ≡ chargeElectric b power target ⌝ }
+pub fn charge_battery_electric(l: Ledger, power: f64, target: f64, zones: &mut [f64; 64]) -> Stopped
+    requires { ⌜ l .card .layers ≤ 64 ⌝ }
+    ensures { λ r. ⌜ EndedLies r (now (zones .exit)) (chargeElectric (whole l (now (zones .entry))) power target) ⌝ }
 {
-    let card = b.card;
+    let card = l.card;
     let pcm = card::derived(card);
-    let drive = electric_drive(b, power, target);
-    let zones = b.zones;
-    let u = substep::process_heat_battery_zones(card, pcm, drive, zones);
-    electric_ended(b, u)
+    let drive = electric_drive(l, power, target);
+    let u = substep::process_in_place(card, pcm, drive, zones);
+    electric_ended(l, u)
 }
 
-fn hydronic_task(b: Battery, wet: Exchanger, target: f64) -> HydronicTask
-    ensures { λ r. ⌜ r ≡ hydronicTask b wet target ⌝ }
+fn hydronic_task(l: Ledger, wet: Exchanger, target: f64) -> HydronicTask
+    ensures { λ r. ⌜ ((zones : List Float) → r ≡ hydronicTask (whole l zones) wet target) ⌝ }
 {
-    let card = b.card;
+    let card = l.card;
     let pcm = card::derived(card);
     let limit = KilowattHours(wet.limit).kilojoules();
     HydronicTask {
@@ -80,47 +82,50 @@ fn hydronic_task(b: Battery, wet: Exchanger, target: f64) -> HydronicTask
     }
 }
 
-fn hydronic_start(b: Battery, wet: Exchanger) -> HydronicRun
-    ensures { λ r. ⌜ r ≡ hydronicStart b wet ⌝ }
+fn hydronic_start(l: Ledger, wet: Exchanger) -> WetPace
+    ensures { λ r. ⌜ ((zones : List Float) → wetWith r zones ≡ hydronicStart (whole l zones) wet) ⌝ }
 {
-    let card = b.card;
-    let zones = b.zones;
+    let card = l.card;
     let reynold = crate::reynold_between(card.inlet, card.outlet, wet.velocity, wet.diameter);
-    HydronicRun {
-        zones,
+    WetPace {
         absorbed: Kilojoules(0.0),
         reynold,
         time: 0.0,
     }
 }
 
-pub fn charge_battery_hydronic(b: Battery, wet: Exchanger, target: f64) -> Ended
-    requires { ⌜ b .card .layers ≤ 64 ⌝ }
-    ensures { λ r. ⌜ r ≡ chargeHydronic b wet target ⌝ }
+pub fn charge_battery_hydronic(
+    l: Ledger,
+    wet: Exchanger,
+    target: f64,
+    zones: &mut [f64; 64],
+) -> Stopped
+    requires { ⌜ l .card .layers ≤ 64 ⌝ }
+    ensures { λ r. ⌜ EndedLies r (now (zones .exit)) (chargeHydronic (whole l (now (zones .entry))) wet target) ⌝ }
 {
-    let task = hydronic_task(b, wet, target);
+    let task = hydronic_task(l, wet, target);
     let steps = crate::hydronic::whole_substeps(task);
-    let start = hydronic_start(b, wet);
-    let e = crate::hydronic::hydronic_run(task, steps, start);
-    crate::hydronic::hydronic_ended(KilowattHours(b.electric), e)
+    let start = hydronic_start(l, wet);
+    let e = crate::hydronic::hydronic_run(task, steps, start, zones);
+    crate::hydronic::hydronic_ended(KilowattHours(l.totals.electric), e)
 }
 
 // The charge step: by the source.
-pub fn charge_battery(b: Battery, source: Source, target: f64) -> Ended
-    requires { ⌜ b .card .layers ≤ 64 ⌝ }
-    ensures { λ r. ⌜ r ≡ chargeBattery b source target ⌝ }
+pub fn charge_battery(l: Ledger, source: Source, target: f64, zones: &mut [f64; 64]) -> Stopped
+    requires { ⌜ l .card .layers ≤ 64 ⌝ }
+    ensures { λ r. ⌜ EndedLies r (now (zones .exit)) (chargeBattery (whole l (now (zones .entry))) source target) ⌝ }
 {
     match source {
-        Source::Electric(power) => charge_battery_electric(b, power, target),
-        Source::Wet(wet) => charge_battery_hydronic(b, wet, target),
+        Source::Electric(power) => charge_battery_electric(l, power, target, zones),
+        Source::Wet(wet) => charge_battery_hydronic(l, wet, target, zones),
     }
 }
 
 // The rated losses over the whole timestep.
-fn loss_drive(b: Battery) -> Drive
-    ensures { λ r. ⌜ r ≡ lossDrive b ⌝ }
+fn loss_drive(l: Ledger) -> Drive
+    ensures { λ r. ⌜ ((zones : List Float) → r ≡ lossDrive (whole l zones)) ⌝ }
 {
-    let card = b.card;
+    let card = l.card;
     Drive {
         mode: Mode::Losses,
         inlet: floats::DEFAULT_AMBIENT_TEMPERATURE,
@@ -134,18 +139,16 @@ fn loss_drive(b: Battery) -> Drive
     }
 }
 
-fn loss_ended(b: Battery, u: Substep) -> Ended
-    ensures { λ r. ⌜ r ≡ lossEnded b u ⌝ }
+fn loss_ended(l: Ledger, u: Outcome) -> Stopped
+    ensures { λ r. ⌜ ((before zones energies : List Float) → endedWith r zones ≡ lossEnded (whole l before) (substepWith u zones energies)) ⌝ }
 {
-    let zones = u.zones;
     let delivered = u.delivered;
     let energy = delivered.kilowatt_hours();
     let fault = u.fault;
     let end = crate::fault_end(fault);
-    Ended {
-        zones,
+    Stopped {
         energy,
-        electric: KilowattHours(b.electric),
+        electric: KilowattHours(l.totals.electric),
         outlet: 0.0,
         time: 0.0,
         end,
@@ -153,16 +156,15 @@ fn loss_ended(b: Battery, u: Substep) -> Ended
     }
 }
 
-pub fn battery_heat_loss(b: Battery) -> Ended
-    requires { ⌜ b .card .layers ≤ 64 ⌝ }
-    ensures { λ r. ⌜ r ≡ batteryHeatLoss b ⌝ }
+pub fn battery_heat_loss(l: Ledger, zones: &mut [f64; 64]) -> Stopped
+    requires { ⌜ l .card .layers ≤ 64 ⌝ }
+    ensures { λ r. ⌜ EndedLies r (now (zones .exit)) (batteryHeatLoss (whole l (now (zones .entry)))) ⌝ }
 {
-    let card = b.card;
+    let card = l.card;
     let pcm = card::derived(card);
-    let drive = loss_drive(b);
-    let zones = b.zones;
-    let u = substep::process_heat_battery_zones(card, pcm, drive, zones);
-    loss_ended(b, u)
+    let drive = loss_drive(l);
+    let u = substep::process_in_place(card, pcm, drive, zones);
+    loss_ended(l, u)
 }
 
 // The energy to the target, or to the flow maximum where that is less.
@@ -182,14 +184,14 @@ fn energy_deficit(card: Card, most: Given, current: Kilojoules, wanted: Kilojoul
 
 // `soc` is the battery's state of charge.
 pub fn calculate_charge_energy_demand(
-    b: Battery,
+    l: Ledger,
     most: Given,
     target: f64,
     soc: f64,
 ) -> KilowattHours
-    ensures { λ r. ⌜ r ≡ chargeEnergyDemand b most target soc ⌝ }
+    ensures { λ r. ⌜ ((zones : List Float) → r ≡ chargeEnergyDemand (whole l zones) most target soc) ⌝ }
 {
-    let card = b.card;
+    let card = l.card;
     let pcm = card::derived(card);
     let stored = pcm.stored;
     if soc > target {

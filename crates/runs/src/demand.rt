@@ -1,22 +1,26 @@
 // Document 01, module 7: the substeps of a demand.
-use crate::DemandEnd;
 use crate::DemandTask;
-use crate::DemandTurn;
 use crate::End;
-use crate::Ended;
 use crate::Next;
-use crate::Run;
+use crate::Pace;
+use crate::PaceEnd;
+use crate::PaceTurn;
+use crate::Stopped;
 use substep::Drive;
 use substep::Fault;
-use substep::Substep;
+use substep::Outcome;
 use water::Mode;
 use zone::KilowattHours;
 ghost use mathlib.Core.Path.{_≡_};
+ghost use mathlib.Core.List.{List};
 ghost use Prim.Native.Nat.{_≤_};
+ghost use lib.Ieee.{Float};
+ghost use Rattle.substep.specs.Substep.{substepWith};
+ghost use Rattle.runs.specs.Apart.{endedWith, runWith, turnWith, endWith, TurnLies, EndLies};
 ghost use Rattle.runs.specs.Demand.{demandDrive, capped as cappedOf, nextStep, demandMet, cut as cutOf, runAfter, demandDelivered, demandSubstep, demandRun, demandEnded};
 
-fn demand_drive(x: DemandTask, s: Run) -> Drive
-    ensures { λ r. ⌜ r ≡ demandDrive x s ⌝ }
+fn demand_drive(x: DemandTask, s: Pace) -> Drive
+    ensures { λ r. ⌜ ((zones : List Float) → r ≡ demandDrive x (runWith s zones)) ⌝ }
 {
     let card = x.card;
     Drive {
@@ -76,14 +80,12 @@ fn cut(x: DemandTask, running: f64, step: f64) -> f64
     step
 }
 
-fn run_after(x: DemandTask, s: Run, u: Substep, step: f64, delivered: KilowattHours) -> Run
-    ensures { λ r. ⌜ r ≡ runAfter x s u step delivered ⌝ }
+fn pace_after(x: DemandTask, s: Pace, u: Outcome, step: f64, delivered: KilowattHours) -> Pace
+    ensures { λ r. ⌜ ((before zones energies : List Float) → runWith r zones ≡ runAfter x (runWith s before) (substepWith u zones energies) step delivered) ⌝ }
 {
-    let zones = u.zones;
     let card = x.card;
     let reynold = crate::reynold_between(x.feed, u.outlet, card.velocity, x.pcm.diameter);
-    Run {
-        zones,
+    Pace {
         step,
         running: s.running + s.step,
         delivered,
@@ -93,14 +95,14 @@ fn run_after(x: DemandTask, s: Run, u: Substep, step: f64, delivered: KilowattHo
     }
 }
 
-fn demand_delivered(x: DemandTask, s: Run, u: Substep) -> DemandTurn
-    ensures { λ r. ⌜ r ≡ demandDelivered x s u ⌝ }
+fn demand_delivered(x: DemandTask, s: Pace, u: Outcome) -> PaceTurn
+    ensures { λ r. ⌜ ((before zones energies : List Float) → turnWith r zones ≡ demandDelivered x (runWith s before) (substepWith u zones energies)) ⌝ }
 {
     if u.delivered.0 < 0.0 {
         let before = s.delivered;
-        let run = run_after(x, s, u, s.step, before);
-        return DemandTurn {
-            run,
+        let pace = pace_after(x, s, u, s.step, before);
+        return PaceTurn {
+            pace,
             next: Next::Stop(End::Negative),
         };
     }
@@ -109,83 +111,84 @@ fn demand_delivered(x: DemandTask, s: Run, u: Substep) -> DemandTurn
     let delivered = KilowattHours(s.delivered.0 + heat.0);
     let step = next_step(x, heat, delivered, s.step);
     if demand_met(x, delivered) {
-        let run = run_after(x, s, u, step, delivered);
-        return DemandTurn {
-            run,
+        let pace = pace_after(x, s, u, step, delivered);
+        return PaceTurn {
+            pace,
             next: Next::Stop(End::Met),
         };
     }
     let shorter = cut(x, s.running + s.step, step);
-    let run = run_after(x, s, u, shorter, delivered);
-    DemandTurn {
-        run,
+    let pace = pace_after(x, s, u, shorter, delivered);
+    PaceTurn {
+        pace,
         next: Next::On,
     }
 }
 
-fn demand_substep(x: DemandTask, s: Run) -> DemandTurn
+fn demand_substep(x: DemandTask, s: Pace, zones: &mut [f64; 64]) -> PaceTurn
     requires { ⌜ x .card .layers ≤ 64 ⌝ }
-    ensures { λ r. ⌜ r ≡ demandSubstep x s ⌝ }
+    ensures { λ r. ⌜ TurnLies r (now (zones .exit)) (demandSubstep x (runWith s (now (zones .entry)))) ⌝ }
 {
     let drive = demand_drive(x, s);
     let card = x.card;
     let pcm = x.pcm;
-    let zones = s.zones;
-    let u = substep::process_heat_battery_zones(card, pcm, drive, zones);
+    let u = substep::process_in_place(card, pcm, drive, zones);
     let fault = u.fault;
     match fault {
         Fault::Nothing => demand_delivered(x, s, u),
-        Fault::Logarithm => DemandTurn {
-            run: s,
+        Fault::Logarithm => PaceTurn {
+            pace: s,
             next: Next::Stop(End::NoLogarithm),
         },
-        Fault::NotFinite => DemandTurn {
-            run: s,
+        Fault::NotFinite => PaceTurn {
+            pace: s,
             next: Next::Stop(End::NotFiniteRun),
         },
     }
 }
 
 // The substeps from `start` on, at most `budget` of them.
-pub fn demand_run(x: DemandTask, budget: u16, start: Run) -> DemandEnd
+pub fn demand_run(x: DemandTask, budget: u16, start: Pace, zones: &mut [f64; 64]) -> PaceEnd
     requires { ⌜ x .card .layers ≤ 64 ⌝ }
-    ensures { λ r. ⌜ r ≡ demandRun x budget 0 start ⌝ }
+    ensures { λ r. ⌜ EndLies r (now (zones .exit)) (demandRun x budget 0 (runWith start (now (zones .entry)))) ⌝ }
     ensures { λ r. ⌜ r .substeps ≤ budget ⌝ }
 {
-    let mut run = start;
+    let mut pace = start;
     let mut substeps: u16 = 0;
     let end = loop {
-        if !(run.step > 0.0) {
+        if !(pace.step > 0.0) {
             break End::NoStep;
         }
         if substeps == budget {
             break End::OverBudget;
         }
-        let turn = demand_substep(x, run);
+        let turn = demand_substep(x, pace, zones);
         substeps += 1;
-        run = turn.run;
+        pace = turn.pace;
         let next = turn.next;
         if let Next::Stop(e) = next {
             break e;
         }
     };
-    DemandEnd { run, end, substeps }
+    PaceEnd {
+        pace,
+        end,
+        substeps,
+    }
 }
 
-pub fn demand_ended(e: DemandEnd) -> Ended
-    ensures { λ r. ⌜ r ≡ demandEnded e ⌝ }
+pub fn demand_ended(e: PaceEnd) -> Stopped
+    ensures { λ r. ⌜ ((zones : List Float) → endedWith r zones ≡ demandEnded (endWith e zones)) ⌝ }
 {
-    let run = e.run;
-    let zones = run.zones;
-    let energy = run.delivered;
-    let electric = run.electric;
+    let pace = e.pace;
+    let energy = pace.delivered;
+    let electric = pace.electric;
     let end = e.end;
-    Ended {
-        zones,
+    Stopped {
         energy,
         electric,
-        outlet: run.outlet,
-        time: run.running,
+        outlet: pace.outlet,
+        time: pace.running,
         end,
         substeps: e.substeps as u32,
     }

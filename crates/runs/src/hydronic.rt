@@ -1,19 +1,23 @@
 // Document 01, module 6: the substeps of a hydronic charge.
 use crate::End;
-use crate::Ended;
-use crate::HydronicEnd;
-use crate::HydronicRun;
 use crate::HydronicTask;
-use crate::HydronicTurn;
 use crate::Next;
+use crate::Stopped;
+use crate::WetEnd;
+use crate::WetPace;
+use crate::WetTurn;
 use substep::Drive;
 use substep::Fault;
-use substep::Substep;
+use substep::Outcome;
 use water::Mode;
 use zone::Kilojoules;
 use zone::KilowattHours;
 ghost use mathlib.Core.Path.{_≡_};
 ghost use mathlib.Core.Bool.{not};
+ghost use mathlib.Core.List.{List};
+ghost use lib.Ieee.{Float};
+ghost use Rattle.substep.specs.Substep.{substepWith};
+ghost use Rattle.runs.specs.Apart.{endedWith, wetWith, wetEndWith, WetTurnLies, WetEndLies};
 ghost use Prim.Native.Nat.{_+_, _≤_, _<_};
 ghost use Rattle.runs.specs.Hydronic.{wetDrive, clearlyBelow, limitReached, replayBy, replayed as replayedOf, fractionSeconds, hydronicWhole, hydronicStep, hydronicRun, hydronicEnded, wholeSubsteps};
 
@@ -55,37 +59,35 @@ fn limit_reached(absorbed: Kilojoules, limit: Kilojoules) -> bool
 fn replay_by(
     x: HydronicTask,
     n: u32,
-    s: HydronicRun,
+    s: WetPace,
     seconds: f64,
     reynold: f64,
-    u: Substep,
+    u: Outcome,
     fault: Fault,
-) -> HydronicTurn
-    ensures { λ r. ⌜ r ≡ replayBy x n s seconds reynold u fault ⌝ }
+) -> WetTurn
+    ensures { λ r. ⌜ ((before zones energies : List Float) → WetTurnLies r zones (replayBy x n (wetWith s before) seconds reynold (substepWith u zones energies) fault)) ⌝ }
 {
     match fault {
         Fault::Nothing => {
-            let zones = u.zones;
             let absorbed = x.limit;
-            let run = HydronicRun {
-                zones,
+            let pace = WetPace {
                 absorbed,
                 reynold,
                 time: s.time + seconds,
             };
-            HydronicTurn {
-                run,
+            WetTurn {
+                pace,
                 next: Next::Stop(End::Limit),
                 substeps: n,
             }
         }
-        Fault::Logarithm => HydronicTurn {
-            run: s,
+        Fault::Logarithm => WetTurn {
+            pace: s,
             next: Next::Stop(End::NoLogarithm),
             substeps: n,
         },
-        Fault::NotFinite => HydronicTurn {
-            run: s,
+        Fault::NotFinite => WetTurn {
+            pace: s,
             next: Next::Stop(End::NotFiniteRun),
             substeps: n,
         },
@@ -93,22 +95,28 @@ fn replay_by(
 }
 
 // The fractional substep, from the zones before the whole one and with the Reynolds number behind it.
-fn replayed(x: HydronicTask, n: u32, s: HydronicRun, seconds: f64, reynold: f64) -> HydronicTurn
+fn replayed(
+    x: HydronicTask,
+    n: u32,
+    s: WetPace,
+    seconds: f64,
+    reynold: f64,
+    zones: &mut [f64; 64],
+) -> WetTurn
     requires { ⌜ (x .card .layers ≤ 64) × (n ≤ 65535) ⌝ }
-    ensures { λ r. ⌜ r ≡ replayedOf x n s seconds reynold ⌝ }
+    ensures { λ r. ⌜ WetTurnLies r (now (zones .exit)) (replayedOf x n (wetWith s (now (zones .entry))) seconds reynold) ⌝ }
 {
     let card = x.card;
     if n == card.budget as u32 {
-        return HydronicTurn {
-            run: s,
+        return WetTurn {
+            pace: s,
             next: Next::Stop(End::OverBudget),
             substeps: n,
         };
     }
     let drive = wet_drive(x, seconds, reynold);
     let pcm = x.pcm;
-    let zones = s.zones;
-    let u = substep::process_heat_battery_zones(card, pcm, drive, zones);
+    let u = substep::process_in_place(card, pcm, drive, zones);
     let fault = u.fault;
     replay_by(x, n + 1, s, seconds, reynold, u, fault)
 }
@@ -120,21 +128,26 @@ fn fraction_seconds(x: HydronicTask, absorbed: Kilojoules, this: Kilojoules) -> 
     x.card.substep * (allowed / this.0)
 }
 
-// What the whole substep u leads to.
-fn hydronic_whole(x: HydronicTask, n: u32, s: HydronicRun, u: Substep) -> HydronicTurn
+// What the whole substep u leads to. `before` are the zones that it began with.
+fn hydronic_whole(
+    x: HydronicTask,
+    n: u32,
+    s: WetPace,
+    u: Outcome,
+    before: [f64; 64],
+    zones: &mut [f64; 64],
+) -> WetTurn
     requires { ⌜ (x .card .layers ≤ 64) × (n ≤ 65535) ⌝ }
-    ensures { λ r. ⌜ r ≡ hydronicWhole x n s u ⌝ }
+    ensures { λ r. ⌜ ((energies : List Float) → WetTurnLies r (now (zones .exit)) (hydronicWhole x n (wetWith s before) (substepWith u (now (zones .entry)) energies))) ⌝ }
 {
     let wet = x.wet;
     let limit = x.limit;
-    let zones = u.zones;
     let reynold = crate::reynold_between(wet.inlet, u.outlet, wet.velocity, wet.diameter);
     let this = Kilojoules(-u.delivered.0);
     let absorbed = Kilojoules(s.absorbed.0 + this.0);
     let time = s.time + x.card.substep;
     if clearly_below(u.outlet, wet.inlet) {
-        let run = HydronicRun {
-            zones,
+        let pace = WetPace {
             absorbed,
             reynold,
             time,
@@ -142,54 +155,54 @@ fn hydronic_whole(x: HydronicTask, n: u32, s: HydronicRun, u: Substep) -> Hydron
         if limit_reached(absorbed, limit) {
             if this.0 > 0.0 {
                 let seconds = fraction_seconds(x, absorbed, this);
-                return replayed(x, n, s, seconds, reynold);
+                *zones = before;
+                return replayed(x, n, s, seconds, reynold, zones);
             }
-            return HydronicTurn {
-                run,
+            return WetTurn {
+                pace,
                 next: Next::Stop(End::Limit),
                 substeps: n,
             };
         }
-        return HydronicTurn {
-            run,
+        return WetTurn {
+            pace,
             next: Next::On,
             substeps: n,
         };
     }
-    let before = s.absorbed;
-    let run = HydronicRun {
-        zones,
-        absorbed: before,
+    let absorbed_before = s.absorbed;
+    let pace = WetPace {
+        absorbed: absorbed_before,
         reynold,
         time,
     };
-    HydronicTurn {
-        run,
+    WetTurn {
+        pace,
         next: Next::Stop(End::Level),
         substeps: n,
     }
 }
 
 // One turn behind n substeps.
-fn hydronic_step(x: HydronicTask, n: u32, s: HydronicRun) -> HydronicTurn
+fn hydronic_step(x: HydronicTask, n: u32, s: WetPace, zones: &mut [f64; 64]) -> WetTurn
     requires { ⌜ (x .card .layers ≤ 64) × (n < 65535) ⌝ }
-    ensures { λ r. ⌜ r ≡ hydronicStep x n s ⌝ }
+    ensures { λ r. ⌜ WetTurnLies r (now (zones .exit)) (hydronicStep x n (wetWith s (now (zones .entry)))) ⌝ }
 {
     let card = x.card;
     let drive = wet_drive(x, card.substep, s.reynold);
     let pcm = x.pcm;
-    let zones = s.zones;
-    let u = substep::process_heat_battery_zones(card, pcm, drive, zones);
+    let before = *zones;
+    let u = substep::process_in_place(card, pcm, drive, zones);
     let fault = u.fault;
     match fault {
-        Fault::Nothing => hydronic_whole(x, n + 1, s, u),
-        Fault::Logarithm => HydronicTurn {
-            run: s,
+        Fault::Nothing => hydronic_whole(x, n + 1, s, u, before, zones),
+        Fault::Logarithm => WetTurn {
+            pace: s,
             next: Next::Stop(End::NoLogarithm),
             substeps: n + 1,
         },
-        Fault::NotFinite => HydronicTurn {
-            run: s,
+        Fault::NotFinite => WetTurn {
+            pace: s,
             next: Next::Stop(End::NotFiniteRun),
             substeps: n + 1,
         },
@@ -203,13 +216,13 @@ pub fn whole_substeps(x: HydronicTask) -> u64
 }
 
 // At most `steps` whole substeps from `start` on.
-pub fn hydronic_run(x: HydronicTask, steps: u64, start: HydronicRun) -> HydronicEnd
+pub fn hydronic_run(x: HydronicTask, steps: u64, start: WetPace, zones: &mut [f64; 64]) -> WetEnd
     requires { ⌜ x .card .layers ≤ 64 ⌝ }
-    ensures { λ r. ⌜ r ≡ hydronicRun x steps 0 start ⌝ }
+    ensures { λ r. ⌜ WetEndLies r (now (zones .exit)) (hydronicRun x steps 0 (wetWith start (now (zones .entry)))) ⌝ }
 {
     let card = x.card;
     let budget = card.budget as u32;
-    let mut run = start;
+    let mut pace = start;
     let mut substeps: u32 = 0;
     let end = loop {
         if substeps as u64 == steps {
@@ -218,31 +231,33 @@ pub fn hydronic_run(x: HydronicTask, steps: u64, start: HydronicRun) -> Hydronic
         if substeps == budget {
             break End::OverBudget;
         }
-        let turn = hydronic_step(x, substeps, run);
+        let turn = hydronic_step(x, substeps, pace, zones);
         substeps = turn.substeps;
-        run = turn.run;
+        pace = turn.pace;
         let next = turn.next;
         if let Next::Stop(e) = next {
             break e;
         }
     };
-    HydronicEnd { run, end, substeps }
+    WetEnd {
+        pace,
+        end,
+        substeps,
+    }
 }
 
-pub fn hydronic_ended(electric: KilowattHours, e: HydronicEnd) -> Ended
-    ensures { λ r. ⌜ r ≡ hydronicEnded electric e ⌝ }
+pub fn hydronic_ended(electric: KilowattHours, e: WetEnd) -> Stopped
+    ensures { λ r. ⌜ ((zones : List Float) → endedWith r zones ≡ hydronicEnded electric (wetEndWith e zones)) ⌝ }
 {
-    let run = e.run;
-    let zones = run.zones;
-    let absorbed = run.absorbed;
+    let pace = e.pace;
+    let absorbed = pace.absorbed;
     let energy = absorbed.kilowatt_hours();
     let end = e.end;
-    Ended {
-        zones,
+    Stopped {
         energy,
         electric,
         outlet: 0.0,
-        time: run.time,
+        time: pace.time,
         end,
         substeps: e.substeps,
     }

@@ -8,6 +8,9 @@ use card::HeatBatteryPcm;
 use zone::Kilojoules;
 use zone::KilowattHours;
 ghost use mathlib.Core.Path.{_≡_};
+ghost use mathlib.Core.List.{List};
+ghost use lib.Ieee.{Float};
+ghost use Rattle.battery.specs.Ledger.{whole};
 ghost use Rattle.runs.specs.Runs.{faultEnd, endRefusal, reynoldBetween, timeAvailable};
 
 // How a run of substeps ends. The last three are refusals 22, 24 and 23.
@@ -45,6 +48,16 @@ pub struct Ended {
     pub substeps: u32,
 }
 
+// The same but its zones, which stay where they lie. The functions take these; the definitions, which have the zones too, the others.
+pub struct Stopped {
+    pub energy: KilowattHours,
+    pub electric: KilowattHours,
+    pub outlet: f64,
+    pub time: f64,
+    pub end: End,
+    pub substeps: u32,
+}
+
 // What a demand asks: fixed over its substeps.
 pub struct DemandTask {
     pub card: Card,
@@ -71,13 +84,34 @@ pub struct Run {
     pub reynold: f64,
 }
 
+// The same but its zones.
+pub struct Pace {
+    pub step: f64,
+    pub running: f64,
+    pub delivered: KilowattHours,
+    pub electric: KilowattHours,
+    pub outlet: f64,
+    pub reynold: f64,
+}
+
 pub struct DemandTurn {
     pub run: Run,
     pub next: Next,
 }
 
+pub struct PaceTurn {
+    pub pace: Pace,
+    pub next: Next,
+}
+
 pub struct DemandEnd {
     pub run: Run,
+    pub end: End,
+    pub substeps: u16,
+}
+
+pub struct PaceEnd {
+    pub pace: Pace,
     pub end: End,
     pub substeps: u16,
 }
@@ -120,14 +154,33 @@ pub struct HydronicRun {
     pub time: f64,
 }
 
+// The same but its zones.
+pub struct WetPace {
+    pub absorbed: Kilojoules,
+    pub reynold: f64,
+    pub time: f64,
+}
+
 pub struct HydronicTurn {
     pub run: HydronicRun,
     pub next: Next,
     pub substeps: u32,
 }
 
+pub struct WetTurn {
+    pub pace: WetPace,
+    pub next: Next,
+    pub substeps: u32,
+}
+
 pub struct HydronicEnd {
     pub run: HydronicRun,
+    pub end: End,
+    pub substeps: u32,
+}
+
+pub struct WetEnd {
+    pub pace: WetPace,
     pub end: End,
     pub substeps: u32,
 }
@@ -168,9 +221,9 @@ pub fn reynold_between(inlet: f64, outlet: f64, velocity: f64, diameter: f64) ->
 }
 
 // Hours.
-pub fn time_available(b: battery::Battery, start: f64) -> f64
-    ensures { λ r. ⌜ r ≡ timeAvailable b start ⌝ }
+pub fn time_available(l: battery::Ledger, start: f64) -> f64
+    ensures { λ r. ⌜ ((zones : List Float) → r ≡ timeAvailable (whole l zones) start) ⌝ }
 {
-    let timestep = b.card.timestep;
-    (timestep - b.total) * (1.0 - start / timestep)
+    let timestep = l.card.timestep;
+    (timestep - l.totals.total) * (1.0 - start / timestep)
 }

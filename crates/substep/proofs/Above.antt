@@ -1,25 +1,25 @@
 -- A substep leaves the places above the count, and the number of places.
-use mathlib.Core.Path.{_≡_, refl, _∙_}
+use mathlib.Core.Path.{_≡_, refl}
 use mathlib.Core.List.{List}
-use Prim.Native.Nat.{ℕ, zero, suc}
+use Prim.Native.Nat.{ℕ}
 use native.Mathlib.Omega.{arith}
-use lib.ListN.{length, length-set}
+use lib.ListN.{length}
 use lib.Ieee.{Float}
 use Rattle.floats.specs.declared.Log.{Log}
 use Rattle.floats.specs.declared.Log.the-variants.{Value, Refused}
 use Rattle.card.specs.declared.Card.{Card}
 use Rattle.card.specs.declared.HeatBatteryPcm.{HeatBatteryPcm}
 use Rattle.battery.proofs.Zones.{SameAbove, same-above}
-use Rattle.substep.specs.Substep.{zoneIndex, zoneAt, zonesAfter, zoneTransfer, courseOf, passFrom, withoutLogarithm, substepFrom, withTransfer, processHeatBatteryZones}
+use Rattle.substep.specs.Substep.{zoneAt, zonesAfter, zoneTransfer, courseOf, passFrom, withoutLogarithm, substepFrom, withTransfer, processHeatBatteryZones}
 use Rattle.substep.specs.declared.Course.{Course}
 use Rattle.substep.specs.declared.Drive.{Drive}
 use Rattle.substep.specs.declared.Pass.{Pass}
 use Rattle.substep.proofs.Passes.{untouched}
+use Rattle.substep.proofs.Stores.{stored-places}
 
 pub pass-places : (x : Course) (n k : ℕ) (p : Pass) → length (zonesAfter x n k p .zones) ≡ length (p .zones)
 unfolding zonesAfter zoneAt
-pass-places x n zero p = refl
-pass-places x n (suc k) p = length-set (zonesAfter x n k p .zones) (zoneIndex (x .mode) n k) _ ∙ pass-places x n k p
+pass-places x n k p = stored-places (x .mode) n (λ i. zonesAfter x n i p .zones) _ (λ i. refl) k
 
 pub pass-above : (x : Course) (n : ℕ) (p : Pass) → SameAbove n (p .zones) (zonesAfter x n n p .zones)
 pass-above x n p = record { places = pass-places x n n p; above = λ j h. untouched x n n p j (omega arith) h }

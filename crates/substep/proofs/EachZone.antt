@@ -1,5 +1,5 @@
 -- A pass comes to each zone once: what one zone's step does to its temperature, the pass does to every zone's.
-use mathlib.Core.Path.{_≡_, refl, sym, _∙_}
+use mathlib.Core.Path.{_≡_, refl}
 use Prim.Native.Nat.{ℕ, zero, suc, _≤_, _<_}
 use native.Mathlib.Decide.{ℕ-discrete}
 use native.Mathlib.Omega.{arith}
@@ -17,6 +17,7 @@ use Rattle.substep.specs.Substep.{zoneIndex, zoneStep, zoneAt, zonesAfte
 use Rattle.substep.specs.declared.Course.{Course}
 use Rattle.substep.specs.declared.Pass.{Pass}
 use Rattle.substep.proofs.Passes.{index-below}
+use Rattle.substep.proofs.Stores.{stored-elsewhere}
 use Rattle.substep.proofs.Above.{pass-places}
 
 pub index-once : (m : Mode) (n k l : ℕ) → k < n → l < k → zoneIndex m n l ≡ zoneIndex m n k → ⊥
@@ -29,9 +30,7 @@ index-once Normal n k l h g e = omega arith
 pub unvisited :
     (x : Course) (n k : ℕ) (p : Pass) (i : ℕ) → ((l : ℕ) → l < k → zoneIndex (x .mode) n l ≡ i → ⊥) → getD (zonesAfter x n k p .zones) i nan ≡ getD (p .zones) i nan
 unfolding zonesAfter zoneAt
-unvisited x n zero p i h = refl
-unvisited x n (suc k) p i h =
-    getD-set-other (zonesAfter x n k p .zones) (zoneIndex (x .mode) n k) i _ nan (λ e. h k (omega arith) (sym e)) ∙ unvisited x n k p i (λ l g. h l (omega arith))
+unvisited x n k p i h = stored-elsewhere (x .mode) n (λ j. zonesAfter x n j p .zones) _ (λ j. refl) k i h
 
 -- J of the charger's heat left holds throughout, and R of each temperature before and behind its step
 module _

@@ -1,5 +1,8 @@
 pub mod Passes
+pub mod Stores
 pub mod Above
 pub mod Charger
 pub mod EachZone
+pub mod Ordered
+pub mod OneLoop
 pub mod Warmth

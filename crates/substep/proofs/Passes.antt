@@ -3,15 +3,28 @@ use mathlib.Core.Path.{_≡_, refl, _∙_, ap}
 use Prim.Native.Nat.{ℕ, zero, suc, _≤_, _<_, _+_}
 use native.Mathlib.Omega.{arith}
 use native.Mathlib.Numerals.{add-one}
-use lib.ListN.{getD, set}
+use mathlib.Core.Bool.{Bool, _&&_}
+use mathlib.Core.List.{List}
+use lib.ListN.{getD, set, replicate}
 use lib.Seq.{getD-set-other}
-use lib.Ieee.{nan}
+use lib.Ieee.{Float, nan}
 use Rattle.floats.specs.F64.{_⊕_}
+use Rattle.floats.specs.Constants as Constants
+use Rattle.floats.specs.Standins.{finite64}
+use Rattle.floats.specs.declared.Log.{Log}
+use Rattle.floats.specs.declared.Log.the-variants.{Value, Refused}
+use Rattle.zone.specs.Heat.{kwh}
 use Rattle.zone.specs.Layer.{zoneSalt}
+use Rattle.zone.specs.declared.Kilojoules.{Kilojoules}
+use Rattle.card.specs.declared.Card.{Card}
+use Rattle.card.specs.declared.HeatBatteryPcm.{HeatBatteryPcm}
 use Rattle.water.specs.declared.Mode.{Mode}
 use Rattle.water.specs.declared.Mode.the-variants.{OnlyCharging, Losses, Normal}
 use Rattle.zone.specs.declared.Salt.{Salt}
-use Rattle.substep.specs.Substep.{zoneIndex, zoneStep, zoneAt, zonesAfter}
+use Rattle.substep.specs.Substep.{zoneIndex, zoneStep, zoneAt, zonesAfter, chargerHeat, substepWith, outcomeOf, withoutEnergies, zoneTransfer, courseOf, passFrom, withoutLogarithm, withTransfer, processHeatBatteryZones, substepFrom}
+use Rattle.substep.specs.declared.Drive.{Drive}
+use Rattle.substep.specs.declared.Substep.{Substep}
+use Rattle.substep.specs.declared.Outcome.{Outcome}
 use Rattle.substep.specs.declared.Course.{Course}
 use Rattle.substep.specs.declared.Pass.{Pass}
 use Rattle.substep.specs.declared.ZoneStep.{ZoneStep}
@@ -32,6 +45,62 @@ module _ (x : Course) (n k : ℕ) (p q : Pass) where
 
   pub zones-end : k ≤ n → n ≤ k → p ≡ zonesAfter x n k q → p ≡ zonesAfter x n n q
   zones-end a b e = let d : k ≡ n = omega arith in e ∙ ap (λ (i : ℕ). zonesAfter x n i q) d
+
+-- refusal 23's tests, one by one
+pub all-finite :
+    (zones a b c bc abc all : Bool) (outlet sum charged : Float) →
+    a ≡ finite64 outlet →
+    b ≡ finite64 sum →
+    c ≡ finite64 charged →
+    bc ≡ (b && c) →
+    abc ≡ (a && bc) →
+    all ≡ (zones && abc) →
+    all ≡ (zones && (finite64 outlet && (finite64 sum && finite64 charged)))
+all-finite zones a b c bc abc all outlet sum charged e f g h i j = rw (j, i, h, e, f, g)
+
+pub energies-end :
+    (n : ℕ) (x : Course) (k : ℕ) (d : Drive) (zones : List Float) (p : Pass) (heat : Kilojoules) →
+    heat ≡ chargerHeat d →
+    k ≤ n →
+    n ≤ k →
+    p ≡ zonesAfter x n k (record { zones = zones; energies = replicate 64 Constants.zero; outlet = d .inlet; left = heat; charged = kwh Constants.zero }) →
+    p .energies ≡ zonesAfter x n n (passFrom d zones) .energies
+unfolding passFrom
+energies-end n x k d zones p heat h a b e = rw (← h) (ap (λ (q : Pass). q .energies) (zones-end x n k p _ a b e))
+
+-- what a pass over the zones of a card leaves
+pub passed :
+    (c : Card) (pcm : HeatBatteryPcm) (d : Drive) (zones : List Float) (l : Log) (u : Float) (x : Course) →
+    l ≡ zoneTransfer (d .mode) c d →
+    l ≡ Value u →
+    x ≡ courseOf c pcm d u →
+    processHeatBatteryZones c pcm d zones ≡ substepFrom c (zonesAfter x (c .layers) (c .layers) (passFrom d zones))
+unfolding processHeatBatteryZones withTransfer
+passed c pcm d zones l u x h g e = rw (← h, g, ← e)
+
+pub refused-here :
+    (c : Card) (pcm : HeatBatteryPcm) (d : Drive) (zones : List Float) (l : Log) →
+    l ≡ zoneTransfer (d .mode) c d →
+    l ≡ Refused →
+    processHeatBatteryZones c pcm d zones ≡ withoutLogarithm zones
+unfolding processHeatBatteryZones withTransfer
+refused-here c pcm d zones l h g = rw (← h, g)
+
+-- a substep from its parts
+pub whole :
+    (o : Outcome) (zs es : List Float) (u : Substep) →
+    (zs ≡ u .zones) × (o ≡ outcomeOf u) →
+    es ≡ u .energies →
+    substepWith o zs es ≡ u
+unfolding substepWith outcomeOf
+whole o zs es u h e = rw (h .0, h .1, e)
+
+pub bare-end :
+    (o : Outcome) (zs : List Float) (u : Substep) →
+    (zs ≡ u .zones) × (o ≡ outcomeOf u) →
+    substepWith o zs (replicate 64 Constants.zero) ≡ withoutEnergies u
+unfolding withoutEnergies
+bare-end o zs u h = rw (h .0, h .1)
 
 pub index-below : (m : Mode) (n k : ℕ) → k < n → zoneIndex m n k < n
 unfolding zoneIndex

@@ -31,6 +31,7 @@ use Rattle.substep.specs.declared.Course.{Course}
 use Rattle.substep.specs.declared.ZoneStep.{ZoneStep}
 use Rattle.substep.specs.declared.Pass.{Pass}
 use Rattle.substep.specs.declared.Substep.{Substep}
+use Rattle.substep.specs.declared.Outcome.{Outcome}
 use Rattle.substep.specs.declared.Fault.{Fault}
 use Rattle.substep.specs.declared.Fault.the-variants.{Nothing, Logarithm, NotFinite}
 
@@ -95,6 +96,18 @@ chargerHeat d = kj (neg (d .power) ⊗ d .seconds ⊘ hour ⊗ hour)
 unfoldable pub passFrom : Drive → List Float → Pass
 passFrom d zones =
     record { zones = zones; energies = replicate 64 Constants.zero; outlet = d .inlet; left = chargerHeat d; charged = kwh Constants.zero }
+
+-- what a substep hands out with its arrays, and without
+unfoldable pub substepWith : Outcome → List Float → List Float → Substep
+substepWith o zones energies =
+    record { zones = zones; energies = energies; outlet = o .outlet; delivered = o .delivered; charged = o .charged; fault = o .fault }
+
+unfoldable pub outcomeOf : Substep → Outcome
+outcomeOf u = record { outlet = u .outlet; delivered = u .delivered; charged = u .charged; fault = u .fault }
+
+-- a substep with zeros for its energies
+unfoldable pub withoutEnergies : Substep → Substep
+withoutEnergies u = substepWith (outcomeOf u) (u .zones) (replicate 64 Constants.zero)
 
 -- '24 the logarithm's argument is not positive, normal and finite'
 unfoldable pub withoutLogarithm : List Float → Substep

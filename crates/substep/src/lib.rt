@@ -3,14 +3,19 @@ use card::Card;
 use card::HeatBatteryPcm;
 use charging::Charged;
 use floats::Log;
+use floats::Sum2;
 use water::Mode;
 use water::Shared;
 use zone::Kilojoules;
 use zone::KilowattHours;
 use zone::Salt;
 ghost use mathlib.Core.Path.{_≡_};
+ghost use mathlib.Core.Bool.{cond, _&&_};
 ghost use Prim.Native.Nat.{_≤_, _<_};
-ghost use Rattle.substep.specs.Substep.{zoneIndex, zoneCharge, zoneStep, zonesAfter, perLayer, zoneTransfer, courseOf, chargerHeat, passFrom, withoutLogarithm, passFinite, passFault, substepFrom, withTransfer, processHeatBatteryZones};
+ghost use lib.ListN.{replicate};
+ghost use Rattle.floats.specs.Constants.{zero};
+ghost use Rattle.floats.specs.Standins.{finite64};
+ghost use Rattle.substep.specs.Substep.{zoneIndex, zoneCharge, zoneStep, zonesAfter, perLayer, zoneTransfer, courseOf, chargerHeat, passFrom, substepWith, outcomeOf, substepFrom, processHeatBatteryZones};
 
 // What a substep is asked, in the Rust's words.
 pub struct Drive {
@@ -37,6 +42,15 @@ pub struct Course {
     pub salt: Salt,
     // °C
     pub target: f64,
+}
+
+// What a substep hands out besides its arrays.
+pub struct Outcome {
+    pub outlet: f64,
+    // the compensated sum of the energies
+    pub delivered: Kilojoules,
+    pub charged: KilowattHours,
+    pub fault: Fault,
 }
 
 // One zone's part.
@@ -145,37 +159,6 @@ fn zone_step(
     }
 }
 
-// All n zones in the mode's order. Places above n are neither read nor written.
-fn pass_zones(course: Course, n: usize, p: Pass) -> Pass
-    requires { ⌜ n ≤ 64 ⌝ }
-    ensures { λ r. ⌜ r ≡ zonesAfter course n n p ⌝ }
-{
-    let mode = course.mode;
-    let own = course.salt;
-    let mut zones = p.zones;
-    let mut energies = p.energies;
-    let mut outlet = p.outlet;
-    let mut left = p.left;
-    let mut charged = p.charged;
-    for k in 0..n {
-        let j = zone_index(mode, n, k);
-        let salt = zone::layer::zone_salt(own, j);
-        let z = zone_step(course, salt, zones[j], outlet, left, charged);
-        zones[j] = z.temperature;
-        energies[j] = energies[j] + z.energy.0;
-        outlet = z.outlet;
-        left = z.left;
-        charged = z.charged;
-    }
-    Pass {
-        zones,
-        energies,
-        outlet,
-        left,
-        charged,
-    }
-}
-
 // A zone's share of the heat transfer; a logarithm is taken in the normal mode alone.
 fn zone_transfer(mode: Mode, card: Card, d: Drive) -> Log
     ensures { λ r. ⌜ r ≡ zoneTransfer mode card d ⌝ }
@@ -222,46 +205,23 @@ fn course_of(card: Card, pcm: HeatBatteryPcm, d: Drive, transfer: f64) -> Course
     }
 }
 
-fn pass_from(d: Drive, zones: [f64; 64]) -> Pass
-    ensures { λ r. ⌜ r ≡ passFrom d zones ⌝ }
+// The charger's heat over the substep, at first.
+fn charger_heat(d: Drive) -> Kilojoules
+    ensures { λ r. ⌜ r ≡ chargerHeat d ⌝ }
 {
-    let energies = [0.0; 64];
     let heat = -d.power * d.seconds / floats::SECONDS_PER_HOUR
         * floats::KILOJOULES_PER_KILOWATT_HOUR;
-    Pass {
-        zones,
-        energies,
-        outlet: d.inlet,
-        left: Kilojoules(heat),
-        charged: KilowattHours(0.0),
-    }
+    Kilojoules(heat)
 }
 
-fn without_logarithm(zones: [f64; 64]) -> Substep
-    ensures { λ r. ⌜ r ≡ withoutLogarithm zones ⌝ }
+fn pass_fault(zones: bool, outlet: f64, sum: f64, charged: KilowattHours) -> Fault
+    ensures { λ r. ⌜ r ≡ cond (zones && (finite64 outlet && (finite64 sum && finite64 (charged .0)))) Fault.Nothing Fault.NotFinite ⌝ }
 {
-    let energies = [0.0; 64];
-    Substep {
-        zones,
-        energies,
-        outlet: 0.0,
-        delivered: Kilojoules(0.0),
-        charged: KilowattHours(0.0),
-        fault: Fault::Logarithm,
-    }
-}
-
-fn pass_fault(card: Card, p: Pass, sum: f64) -> Fault
-    requires { ⌜ card .layers ≤ 64 ⌝ }
-    ensures { λ r. ⌜ r ≡ passFault card p sum ⌝ }
-{
-    let zones = p.zones;
-    let n = card.layers as usize;
     let finite = floats::both(
-        battery::zones_finite(zones, n),
+        zones,
         floats::both(
-            floats::is_finite(p.outlet),
-            floats::both(floats::is_finite(sum), floats::is_finite(p.charged.0)),
+            floats::is_finite(outlet),
+            floats::both(floats::is_finite(sum), floats::is_finite(charged.0)),
         ),
     );
     if finite {
@@ -271,26 +231,111 @@ fn pass_fault(card: Card, p: Pass, sum: f64) -> Fault
     }
 }
 
-fn substep_from(card: Card, p: Pass) -> Substep
+// All zones in the mode's order, where they lie: the engine's one loop. It sums the energies and tests the zones as it goes,
+// also where charging alone goes downward, since the energies there are 0. Places above the zones are neither read nor written.
+fn pass_in_place(card: Card, course: Course, d: Drive, zones: &mut [f64; 64]) -> Outcome
     requires { ⌜ card .layers ≤ 64 ⌝ }
-    ensures { λ r. ⌜ r ≡ substepFrom card p ⌝ }
+    ensures { λ r. ⌜ (now (zones .exit) ≡ zonesAfter course (card .layers) (card .layers) (passFrom d (now (zones .entry))) .zones) × (r ≡ outcomeOf (substepFrom card (zonesAfter course (card .layers) (card .layers) (passFrom d (now (zones .entry)))))) ⌝ }
 {
-    let zones = p.zones;
-    let energies = p.energies;
     let n = card.layers as usize;
-    let sum = floats::sum_with_accumulator(energies, n);
-    let charged = p.charged;
-    let fault = pass_fault(card, p, sum);
-    Substep {
-        zones,
-        energies,
-        outlet: p.outlet,
-        delivered: Kilojoules(sum),
+    let mode = course.mode;
+    let own = course.salt;
+    let mut outlet = d.inlet;
+    let mut left = charger_heat(d);
+    let mut charged = KilowattHours(0.0);
+    let mut sum = Sum2 { s: 0.0, c: 0.0 };
+    let mut finite = true;
+    for k in 0..n {
+        let j = zone_index(mode, n, k);
+        let salt = zone::layer::zone_salt(own, j);
+        let z = zone_step(course, salt, zones[j], outlet, left, charged);
+        zones[j] = z.temperature;
+        finite = floats::both(finite, floats::is_finite(zones[j]));
+        sum = floats::sum2_step(sum, 0.0 + z.energy.0);
+        outlet = z.outlet;
+        left = z.left;
+        charged = z.charged;
+    }
+    let delivered = sum.s + sum.c;
+    let fault = pass_fault(finite, outlet, delivered, charged);
+    Outcome {
+        outlet,
+        delivered: Kilojoules(delivered),
         charged,
         fault,
     }
 }
 
+// A substep in place, without its energies: the engine's.
+pub fn process_in_place(card: Card, pcm: HeatBatteryPcm, d: Drive, zones: &mut [f64; 64]) -> Outcome
+    requires { ⌜ card .layers ≤ 64 ⌝ }
+    ensures { λ r. ⌜ (now (zones .exit) ≡ processHeatBatteryZones card pcm d (now (zones .entry)) .zones) × (r ≡ outcomeOf (processHeatBatteryZones card pcm d (now (zones .entry)))) ⌝ }
+{
+    let mode = d.mode;
+    let transfer = zone_transfer(mode, card, d);
+    let Log::Value(u) = transfer else {
+        return Outcome {
+            outlet: 0.0,
+            delivered: Kilojoules(0.0),
+            charged: KilowattHours(0.0),
+            fault: Fault::Logarithm,
+        };
+    };
+    let course = course_of(card, pcm, d, u);
+    pass_in_place(card, course, d, zones)
+}
+
+// Each zone's energy. The engine asks for the sum alone and an array slows it, so this is a second loop over `zone_step`.
+fn zone_energies(card: Card, course: Course, d: Drive, zones: [f64; 64]) -> [f64; 64]
+    requires { ⌜ card .layers ≤ 64 ⌝ }
+    ensures { λ r. ⌜ r ≡ zonesAfter course (card .layers) (card .layers) (passFrom d zones) .energies ⌝ }
+{
+    let n = card.layers as usize;
+    let mode = course.mode;
+    let own = course.salt;
+    let mut after = zones;
+    let mut energies = [0.0; 64];
+    let mut outlet = d.inlet;
+    let mut left = charger_heat(d);
+    let mut charged = KilowattHours(0.0);
+    for k in 0..n {
+        let j = zone_index(mode, n, k);
+        let salt = zone::layer::zone_salt(own, j);
+        let z = zone_step(course, salt, after[j], outlet, left, charged);
+        after[j] = z.temperature;
+        energies[j] = energies[j] + z.energy.0;
+        outlet = z.outlet;
+        left = z.left;
+        charged = z.charged;
+    }
+    energies
+}
+
+fn with_arrays(o: Outcome, zones: [f64; 64], energies: [f64; 64]) -> Substep
+    ensures { λ r. ⌜ r ≡ substepWith o zones energies ⌝ }
+{
+    let delivered = o.delivered;
+    let charged = o.charged;
+    let fault = o.fault;
+    Substep {
+        zones,
+        energies,
+        outlet: o.outlet,
+        delivered,
+        charged,
+        fault,
+    }
+}
+
+// What a substep in place hands out, with its zones and zeros for the energies.
+fn bare(o: Outcome, zones: [f64; 64]) -> Substep
+    ensures { λ r. ⌜ r ≡ substepWith o zones (replicate 64 zero) ⌝ }
+{
+    let energies = [0.0; 64];
+    with_arrays(o, zones, energies)
+}
+
+// The same with each zone's energy.
 pub fn process_heat_battery_zones(
     card: Card,
     pcm: HeatBatteryPcm,
@@ -301,15 +346,13 @@ pub fn process_heat_battery_zones(
     ensures { λ r. ⌜ r ≡ processHeatBatteryZones card pcm d zones ⌝ }
 {
     let mode = d.mode;
-    let transfer = zone_transfer(mode, card, d);
-    match transfer {
-        Log::Refused => without_logarithm(zones),
-        Log::Value(u) => {
-            let course = course_of(card, pcm, d, u);
-            let start = pass_from(d, zones);
-            let n = card.layers as usize;
-            let p = pass_zones(course, n, start);
-            substep_from(card, p)
-        }
-    }
+    let share = zone_transfer(mode, card, d);
+    let mut after = zones;
+    let o = process_in_place(card, pcm, d, &mut after);
+    let Log::Value(u) = share else {
+        return bare(o, after);
+    };
+    let course = course_of(card, pcm, d, u);
+    let energies = zone_energies(card, course, d, zones);
+    with_arrays(o, after, energies)
 }

@@ -8,10 +8,10 @@ use Rattle.battery.proofs.zones_finite.Statement.{statement}
 use Rattle.battery.proofs.zones_finite.Tie as tie
 
 abbrev Inv-loop : tie.InvT-loop
-Inv-loop n zones ok₀ k₀ ok k = (k ≤ n) × (ok ≡ zonesFinite zones k)
+Inv-loop zones n ok₀ k₀ ok k = (k ≤ n) × (ok ≡ zonesFinite zones k)
 
 abbrev μ-loop : tie.MeasureT-loop
-μ-loop n zones ok₀ k₀ ok k = n - k
+μ-loop zones n ok₀ k₀ ok k = n - k
 
 loop-holds : tie.Need-loop-holds Inv-loop μ-loop
 unfolding zonesFinite
@@ -20,8 +20,8 @@ loop-holds c = (omega arith, refl)
 mul-is-finite : tie.Need-mul-is-finite Inv-loop μ-loop
 mul-is-finite c = search needs
 
-array-read-is-finite : tie.Need-array-read-is-finite Inv-loop μ-loop
-array-read-is-finite c = search needs
+element-copy-out-is-finite : tie.Need-element-copy-out-is-finite Inv-loop μ-loop
+element-copy-out-is-finite c = search needs
 
 is-finite-requires : tie.Need-is-finite-requires Inv-loop μ-loop
 is-finite-requires c κs = search needs
@@ -37,7 +37,7 @@ loop-less c = search needs
 
 loop-again : tie.Need-loop-again Inv-loop μ-loop
 unfolding zonesFinite
-loop-again c = (omega arith, c .both .ensures ∙ rw (add-one, c .before .is-finite .ensures, ← c .before .before .before .loop .inv .1))
+loop-again c = (omega arith, c .both .ensures ∙ rw (add-one, c .before .is-finite .ensures, ← c .before .before .before .before .loop .inv .1))
 
 returns : tie.Need-returns Inv-loop μ-loop
 returns c =
@@ -53,7 +53,7 @@ zones-finite-spec =
     μ-loop
     loop-holds
     mul-is-finite
-    array-read-is-finite
+    element-copy-out-is-finite
     is-finite-requires
     both-requires
     add-k

@@ -1,15 +1,9 @@
-use mathlib.Core.Path.{refl}
+use Rattle.substep.proofs.Passes.{all-finite}
 use Rattle.floats.proofs.Branch.{via-true, via-false}
-use Rattle.substep.specs.Substep.{passFault, passFinite}
+use mathlib.Core.Path.{refl, sym, _∙_}
 use borrow.Author.Needs.{needs}
 use Rattle.substep.proofs.pass_fault.Statement.{statement}
 use Rattle.substep.proofs.pass_fault.Tie as tie
-
-cast-n : tie.Need-cast-n
-cast-n c = search needs
-
-zones-finite-requires : tie.Need-zones-finite-requires
-zones-finite-requires c κs = search needs
 
 is-finite-requires : tie.Need-is-finite-requires
 is-finite-requires c κs = search needs
@@ -30,19 +24,15 @@ both-requires-3 : tie.Need-both-requires-3
 both-requires-3 c κs = search needs
 
 returns : tie.Need-returns
-unfolding passFault passFinite
-returns c = rw (← (c .before .before .before .before .before .before .before .zones-finite .ensures), ← (c .before .before .before .before .before .before .is-finite .ensures), ← (c .before .before .before .before .before .is-finite2 .ensures), ← (c .before .before .before .before .is-finite3 .ensures), ← (c .before .before .before .both .ensures), ← (c .before .before .both2 .ensures), ← (c .before .both3 .ensures)) (via-true _ _ (c .if1 .taken) refl)
+returns c = via-true _ _ (sym (all-finite (c .before .before .before .before .before .before .before .args .zones) _ _ _ _ _ _ _ _ _ (c .before .before .before .before .before .before .is-finite .ensures) (c .before .before .before .before .before .is-finite2 .ensures) (c .before .before .before .before .is-finite3 .ensures) (c .before .before .before .both .ensures) (c .before .before .both2 .ensures) (c .before .both3 .ensures)) ∙ c .if1 .taken) refl
 
 returns-2 : tie.Need-returns-2
-unfolding passFault passFinite
-returns-2 c = rw (← (c .before .before .before .before .before .before .before .zones-finite .ensures), ← (c .before .before .before .before .before .before .is-finite .ensures), ← (c .before .before .before .before .before .is-finite2 .ensures), ← (c .before .before .before .before .is-finite3 .ensures), ← (c .before .before .before .both .ensures), ← (c .before .before .both2 .ensures), ← (c .before .both3 .ensures)) (via-false _ _ (c .if1 .left) refl)
+returns-2 c = via-false _ _ (sym (all-finite (c .before .before .before .before .before .before .before .args .zones) _ _ _ _ _ _ _ _ _ (c .before .before .before .before .before .before .is-finite .ensures) (c .before .before .before .before .before .is-finite2 .ensures) (c .before .before .before .before .is-finite3 .ensures) (c .before .before .before .both .ensures) (c .before .before .both2 .ensures) (c .before .both3 .ensures)) ∙ c .if1 .left) refl
 
 pub pass-fault-spec : {M : Type 1} → statement M
 pass-fault-spec =
     tie.close
     (tie.spec
-    cast-n
-    zones-finite-requires
     is-finite-requires
     is-finite-requires-2
     is-finite-requires-3

@@ -1,4 +1,7 @@
-use Rattle.substep.specs.Substep.{processHeatBatteryZones, withTransfer}
+use Rattle.substep.specs.Substep.{withoutLogarithm, substepFrom}
+use Rattle.substep.specs.declared.Substep.{Substep}
+use Rattle.substep.proofs.Passes.{passed, refused-here, whole}
+use mathlib.Core.Path.{sym, _∙_, ap}
 use borrow.Author.Needs.{needs}
 use Rattle.substep.proofs.process_heat_battery_zones.Statement.{statement}
 use Rattle.substep.proofs.process_heat_battery_zones.Tie as tie
@@ -6,50 +9,52 @@ use Rattle.substep.proofs.process_heat_battery_zones.Tie as tie
 zone-transfer-requires : tie.Need-zone-transfer-requires
 zone-transfer-requires c κs = search needs
 
+process-in-place-requires : tie.Need-process-in-place-requires
+process-in-place-requires c κs = search needs
+
+enum-known-share : tie.Need-enum-known-share
+enum-known-share c = search needs
+
 enum-told : tie.Need-enum-told
 enum-told c = search needs
 
-without-logarithm-requires : tie.Need-without-logarithm-requires
-without-logarithm-requires c κs = search needs
+bare-requires : tie.Need-bare-requires
+bare-requires c κs = search needs
 
-enum-known-transfer : tie.Need-enum-known-transfer
-enum-known-transfer c = search needs
+returns : tie.Need-returns
+unfolding withoutLogarithm
+returns c =
+    let b = c .before .before .before .before .before .before in
+    let e = refused-here (b .args .card) (b .args .pcm) (b .args .d) (b .args .zones) _ (c .before .before .before .before .before .zone-transfer .ensures) (c .before .enum-told .given .1) in
+    c .bare .ensures ∙ whole _ _ _ _ (c .before .before .before .process-in-place .ensures) (sym (ap (λ (v : Substep). v .energies) e))
 
 course-of-requires : tie.Need-course-of-requires
 course-of-requires c κs = search needs
 
-pass-from-requires : tie.Need-pass-from-requires
-pass-from-requires c κs = search needs
+zone-energies-requires : tie.Need-zone-energies-requires
+zone-energies-requires c κs = search needs
 
-cast-n : tie.Need-cast-n
-cast-n c = search needs
-
-pass-zones-requires : tie.Need-pass-zones-requires
-pass-zones-requires c κs = search needs
-
-substep-from-requires : tie.Need-substep-from-requires
-substep-from-requires c κs = search needs
-
-returns : tie.Need-returns
-unfolding processHeatBatteryZones withTransfer
-returns c = rw (← (c .before .before .before .zone-transfer .ensures), c .before .enum-told .given .1, ← (c .without-logarithm .ensures))
+with-arrays-requires : tie.Need-with-arrays-requires
+with-arrays-requires c κs = search needs
 
 returns-2 : tie.Need-returns-2
-unfolding processHeatBatteryZones withTransfer
-returns-2 c = rw (← (c .before .before .before .before .before .before .before .before .zone-transfer .ensures), c .before .before .before .before .before .before .transfer .given .1, ← (c .before .before .before .before .course-of .ensures), ← (c .before .before .before .pass-from .ensures), ← (c .before .pass-zones .ensures), ← (c .substep-from .ensures))
+unfolding substepFrom
+returns-2 c =
+    let b = c .before .before .before .before .before .before .before .before .before in
+    let e = passed (b .args .card) (b .args .pcm) (b .args .d) (b .args .zones) _ _ _ (c .before .before .before .before .before .before .before .before .zone-transfer .ensures) (c .before .before .before .before .share .given .1) (c .before .before .course-of .ensures) in
+    c .with-arrays .ensures ∙ whole _ _ _ _ (c .before .before .before .before .before .before .process-in-place .ensures) (c .before .zone-energies .ensures ∙ sym (ap (λ (v : Substep). v .energies) e))
 
 pub process-heat-battery-zones-spec : {M : Type 1} → statement M
 process-heat-battery-zones-spec =
     tie.close
     (tie.spec
     zone-transfer-requires
+    process-in-place-requires
+    enum-known-share
     enum-told
-    without-logarithm-requires
-    enum-known-transfer
-    course-of-requires
-    pass-from-requires
-    cast-n
-    pass-zones-requires
-    substep-from-requires
+    bare-requires
     returns
+    course-of-requires
+    zone-energies-requires
+    with-arrays-requires
     returns-2)

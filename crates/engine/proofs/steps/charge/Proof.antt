@@ -1,4 +1,8 @@
-use Rattle.engine.specs.Steps.{charge, runAnswer, chargedBattery}
+use Rattle.engine.proofs.Settled.{run-end}
+use Rattle.battery.specs.declared.Reply.{Reply}
+use Rattle.engine.specs.Steps.{charge}
+use Rattle.engine.proofs.Settled.{charged-with}
+use mathlib.Core.Path.{_∙_, ap}
 use borrow.Author.Needs.{needs}
 use Rattle.engine.proofs.steps.charge.Statement.{statement}
 use Rattle.engine.proofs.steps.charge.Tie as tie
@@ -6,26 +10,25 @@ use Rattle.engine.proofs.steps.charge.Tie as tie
 charge-battery-requires : tie.Need-charge-battery-requires
 charge-battery-requires c κs = search needs
 
-charged-battery-requires : tie.Need-charged-battery-requires
-charged-battery-requires c κs = search needs
+charged-totals-requires : tie.Need-charged-totals-requires
+charged-totals-requires c κs = search needs
 
-run-answer-requires : tie.Need-run-answer-requires
-run-answer-requires c κs = search needs
+run-reply-requires : tie.Need-run-reply-requires
+run-reply-requires c κs = search needs
 
 unless-refused-requires : tie.Need-unless-refused-requires
-unfolding runAnswer chargedBattery
-unless-refused-requires c κs = rw (c .run-answer .ensures, c .before .charged-battery .ensures) (c .before .before .before .pre)
+unless-refused-requires c κs = (c .before .before .before .before .before .pre, ap (λ (x : Reply). x .refusal) (c .before .run-reply .ensures))
 
 returns : tie.Need-returns
 unfolding charge
-returns c = rw (← (c .before .before .before .charge-battery .ensures), ← (c .before .before .charged-battery .ensures), ← (c .before .run-answer .ensures), ← (c .unless-refused .ensures))
+returns c = c .unless-refused .ensures _ _ (run-end _ _ _ (c .before .before .before .before .charge-battery .ensures)) ∙ charged-with _ _ _ _ _ (c .before .before .before .before .charge-battery .ensures) _ _ (c .before .before .before .charged-totals .ensures) (c .before .before .run-reply .ensures)
 
 pub charge-spec : {M : Type 1} → statement M
 charge-spec =
     tie.close
     (tie.spec
     charge-battery-requires
-    charged-battery-requires
-    run-answer-requires
+    charged-totals-requires
+    run-reply-requires
     unless-refused-requires
     returns)

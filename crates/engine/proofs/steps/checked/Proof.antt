@@ -1,23 +1,24 @@
-use mathlib.Core.Path.{refl}
 use Rattle.floats.proofs.Branch.{via-true, via-false}
 use Rattle.engine.specs.Steps.{checked}
+use Rattle.engine.proofs.Settled.{settled-answer, settled-refusal}
+use mathlib.Core.Path.{refl}
 use borrow.Author.Needs.{needs}
 use Rattle.engine.proofs.steps.checked.Statement.{statement}
 use Rattle.engine.proofs.steps.checked.Tie as tie
 
-answer-finite-requires : tie.Need-answer-finite-requires
-answer-finite-requires c κs = search needs
+reply-finite-requires : tie.Need-reply-finite-requires
+reply-finite-requires c κs = search needs
 
 returns : tie.Need-returns
 unfolding checked
-returns c = rw (← (c .before .answer-finite .ensures)) (via-true _ _ (c .if1 .taken) refl)
+returns c before = rw (← (c .before .reply-finite .ensures)) (via-true _ _ (c .if1 .taken) (settled-answer _ _ _ _ (c .before .before .pre .1)))
 
-refused-requires : tie.Need-refused-requires
-refused-requires c κs = search needs
+refused-reply-requires : tie.Need-refused-reply-requires
+refused-reply-requires c κs = search needs
 
 returns-2 : tie.Need-returns-2
 unfolding checked
-returns-2 c = rw (← (c .before .before .answer-finite .ensures), ← (c .refused .ensures)) (via-false _ _ (c .before .if1 .left) refl)
+returns-2 c before = rw (← (c .before .before .reply-finite .ensures)) (via-false _ _ (c .before .if1 .left) (settled-refusal _ _ _ _ 23 (c .refused-reply .ensures) refl))
 
 pub checked-spec : {M : Type 1} → statement M
-checked-spec = tie.close (tie.spec answer-finite-requires returns refused-requires returns-2)
+checked-spec = tie.close (tie.spec reply-finite-requires returns refused-reply-requires returns-2)

@@ -1,7 +1,7 @@
-use mathlib.Core.Path.{refl}
 use Rattle.floats.proofs.Branch.{via-true, via-false}
-use Rattle.engine.specs.Steps.{demandFrom, demandTask}
-use Rattle.engine.proofs.Cards.{answer-card}
+use Rattle.engine.specs.Steps.{demandFrom}
+use Rattle.engine.proofs.Settled.{settled-refusal}
+use mathlib.Core.Path.{refl}
 use borrow.Author.Needs.{needs}
 use Rattle.engine.proofs.steps.demand_from.Statement.{statement}
 use Rattle.engine.proofs.steps.demand_from.Tie as tie
@@ -15,35 +15,26 @@ unserved-requires c κs = search needs
 both-requires : tie.Need-both-requires
 both-requires c κs = search needs
 
-refused-requires : tie.Need-refused-requires
-refused-requires c κs = search needs
+refused-reply-requires : tie.Need-refused-reply-requires
+refused-reply-requires c κs = search needs
 
 returns : tie.Need-returns
 unfolding demandFrom
-returns c = rw (← (c .before .before .before .before .service-class .ensures), ← (c .before .before .before .unserved .ensures), ← (c .before .before .both .ensures), ← (c .refused .ensures)) (via-true _ _ (c .before .if1 .taken) refl)
+returns c = rw (← (c .before .before .before .before .service-class .ensures), ← (c .before .before .before .unserved .ensures), ← (c .before .before .both .ensures)) (via-true _ _ (c .before .if1 .taken) (settled-refusal _ _ _ _ 21 (c .refused-reply .ensures) refl))
 
-demand-task-requires : tie.Need-demand-task-requires
-demand-task-requires c κs = search needs
-
-demand-start-requires : tie.Need-demand-start-requires
-demand-start-requires c κs = search needs
-
-demand-run-requires : tie.Need-demand-run-requires
-unfolding demandTask
-demand-run-requires c κs = rw (c .before .demand-task .ensures) (c .before .before .before .before .before .before .before .pre)
-
-demand-ended-requires : tie.Need-demand-ended-requires
-demand-ended-requires c κs = search needs
-
-demand-answer-requires : tie.Need-demand-answer-requires
-demand-answer-requires c κs = search needs
-
-unless-refused-requires : tie.Need-unless-refused-requires
-unless-refused-requires c κs = rw (c .demand-answer .ensures, answer-card) (c .before .before .before .before .before .before .before .before .before .before .pre)
+committed-requires : tie.Need-committed-requires
+committed-requires c κs = (c .before .before .before .before .before .before .before .pre, c .before .if2 .taken)
 
 returns-2 : tie.Need-returns-2
 unfolding demandFrom
-returns-2 c = rw (← (c .before .before .before .before .before .before .before .before .before .service-class .ensures), ← (c .before .before .before .before .before .before .before .before .unserved .ensures), ← (c .before .before .before .before .before .before .before .both .ensures), ← (c .before .before .before .before .before .demand-task .ensures), ← (c .before .before .before .before .demand-start .ensures), ← (c .before .before .before .demand-run .ensures .0), ← (c .before .before .demand-ended .ensures), ← (c .before .demand-answer .ensures), ← (c .unless-refused .ensures)) (via-false _ _ (c .before .before .before .before .before .before .if1 .left) refl)
+returns-2 c = rw (← (c .before .before .before .before .before .before .service-class .ensures), ← (c .before .before .before .before .before .unserved .ensures), ← (c .before .before .before .before .both .ensures)) (via-false _ _ (c .before .before .before .if1 .left) (c .committed .ensures _ refl))
+
+trial-requires : tie.Need-trial-requires
+trial-requires c κs = (c .before .before .before .before .before .before .before .pre, c .before .if2 .left)
+
+returns-3 : tie.Need-returns-3
+unfolding demandFrom
+returns-3 c = rw (← (c .before .before .before .before .before .before .service-class .ensures), ← (c .before .before .before .before .before .unserved .ensures), ← (c .before .before .before .before .both .ensures)) (via-false _ _ (c .before .before .before .if1 .left) (c .trial .ensures _ refl))
 
 pub demand-from-spec : {M : Type 1} → statement M
 demand-from-spec =
@@ -52,12 +43,9 @@ demand-from-spec =
     service-class-requires
     unserved-requires
     both-requires
-    refused-requires
+    refused-reply-requires
     returns
-    demand-task-requires
-    demand-start-requires
-    demand-run-requires
-    demand-ended-requires
-    demand-answer-requires
-    unless-refused-requires
-    returns-2)
+    committed-requires
+    returns-2
+    trial-requires
+    returns-3)

@@ -14,7 +14,7 @@ calc-state-of-charge-requires c κs = search needs
 
 returns : tie.Need-returns
 unfolding level
-returns c = rw (← (c .before .before .before .before .before .derived .ensures), ← (c .calc-state-of-charge .ensures))
+returns c = rw (← (c .before .before .before .before .before .derived .ensures)) (c .calc-state-of-charge .ensures)
 
 pub level-spec : {M : Type 1} → statement M
 level-spec = tie.close (tie.spec derived-requires cast-n calc-state-of-charge-requires returns)

@@ -1,5 +1,7 @@
-use Rattle.engine.specs.Steps.{stepOf, closedBattery}
-use Rattle.battery.specs.Answer.{plainAnswer}
+use mathlib.Core.List.{[]}
+use Rattle.engine.specs.Steps.{checked, stepOf}
+use Rattle.engine.proofs.Settled.{plain-refusal, closed-with}
+use mathlib.Core.Path.{_∙_, ap}
 use borrow.Author.Needs.{needs}
 use Rattle.engine.proofs.steps.step.Statement.{statement}
 use Rattle.engine.proofs.steps.step.Tie as tie
@@ -34,15 +36,14 @@ heat-loss-requires c κs = search needs
 enum-told-2 : tie.Need-enum-told-2
 enum-told-2 c = search needs
 
-closed-battery-requires : tie.Need-closed-battery-requires
-closed-battery-requires c κs = search needs
+closed-totals-requires : tie.Need-closed-totals-requires
+closed-totals-requires c κs = search needs
 
-plain-answer-requires : tie.Need-plain-answer-requires
-plain-answer-requires c κs = search needs
+plain-reply-requires : tie.Need-plain-reply-requires
+plain-reply-requires c κs = search needs
 
 checked-requires : tie.Need-checked-requires
-unfolding plainAnswer closedBattery
-checked-requires c κs = rw (c .plain-answer .ensures, c .before .closed-battery .ensures) (c .before .before .before .before .pre)
+checked-requires c κs = (c .before .before .before .before .before .pre, plain-refusal (c .before .before .before .before .before .args .l) [] [] _ _ _ (c .before .plain-reply .ensures))
 
 enum-told-3 : tie.Need-enum-told-3
 enum-told-3 c = search needs
@@ -64,31 +65,31 @@ demand-to-level-requires c κs = search needs
 
 returns : tie.Need-returns
 unfolding stepOf
-returns c = rw (c .before .before .call .given .1, ← (c .demand-energy .ensures))
+returns c = rw (c .before .before .before .call .given .1) (c .demand-energy .ensures)
 
 returns-2 : tie.Need-returns-2
 unfolding stepOf
-returns-2 c = rw (c .before .before .call2 .given .1, ← (c .charge .ensures))
+returns-2 c = rw (c .before .before .before .call2 .given .1) (c .charge .ensures)
 
 returns-3 : tie.Need-returns-3
 unfolding stepOf
-returns-3 c = rw (c .before .before .before .call3 .given .1, ← (c .before .wet-source .ensures), ← (c .charge2 .ensures))
+returns-3 c = rw (c .before .before .before .before .call3 .given .1, ← (c .before .before .wet-source .ensures)) (c .charge2 .ensures)
 
 returns-4 : tie.Need-returns-4
 unfolding stepOf
-returns-4 c = rw (c .before .enum-told .given .1, ← (c .heat-loss .ensures))
+returns-4 c = rw (c .before .before .enum-told .given .1) (c .heat-loss .ensures)
 
 returns-5 : tie.Need-returns-5
 unfolding stepOf
-returns-5 c = rw (c .before .before .before .enum-told2 .given .1, ← (c .before .before .closed-battery .ensures), ← (c .before .plain-answer .ensures), ← (c .checked .ensures))
+returns-5 c = rw (c .before .before .before .before .enum-told2 .given .1) (c .checked .ensures _ ∙ ap (checked _) (closed-with (c .before .before .before .before .before .before .args .l) [] _ _ _ _ (c .before .before .before .closed-totals .ensures) (c .before .before .plain-reply .ensures)))
 
 returns-6 : tie.Need-returns-6
 unfolding stepOf
-returns-6 c = rw (c .before .before .enum-told3 .given .1, ← (c .before .level .ensures), ← (c .read-level .ensures))
+returns-6 c = rw (c .before .before .before .before .enum-told3 .given .1, ← (c .before .before .level .ensures)) (c .read-level .ensures)
 
 returns-7 : tie.Need-returns-7
 unfolding stepOf
-returns-7 c = rw (c .before .before .before .call4 .given .1, ← (c .before .level2 .ensures), ← (c .demand-to-level .ensures))
+returns-7 c = rw (c .before .before .before .before .before .call4 .given .1, ← (c .before .before .level2 .ensures)) (c .demand-to-level .ensures)
 
 pub step-spec : {M : Type 1} → statement M
 step-spec =
@@ -104,8 +105,8 @@ step-spec =
     enum-told
     heat-loss-requires
     enum-told-2
-    closed-battery-requires
-    plain-answer-requires
+    closed-totals-requires
+    plain-reply-requires
     checked-requires
     enum-told-3
     level-requires

@@ -1,7 +1,7 @@
-use mathlib.Core.Path.{refl}
 use Rattle.floats.proofs.Branch.{via-true, via-false}
 use borrow.Author.Tests.{eq-eqb, ne-eqb}
 use Rattle.engine.specs.Steps.{unlessRefused}
+use Rattle.engine.proofs.Settled.{settled-refusal}
 use borrow.Author.Needs.{needs}
 use Rattle.engine.proofs.steps.unless_refused.Statement.{statement}
 use Rattle.engine.proofs.steps.unless_refused.Tie as tie
@@ -14,15 +14,16 @@ checked-requires c κs = search needs
 
 returns : tie.Need-returns
 unfolding unlessRefused
-returns c = rw (← (c .before .before .end-refusal .ensures), ← (c .checked .ensures)) (via-true _ _ (eq-eqb _ _ (c .before .if1 .taken)) refl)
+returns c before e h = rw (h, ← (c .before .before .end-refusal .ensures)) (via-true _ _ (eq-eqb _ _ (c .before .if1 .taken)) (c .checked .ensures before))
 
-refused-requires : tie.Need-refused-requires
-refused-requires c κs = search needs
+refused-reply-requires : tie.Need-refused-reply-requires
+refused-reply-requires c κs = search needs
 
 returns-2 : tie.Need-returns-2
 unfolding unlessRefused
-returns-2 c = rw (← (c .before .before .end-refusal .ensures), ← (c .refused .ensures)) (via-false _ _ (ne-eqb _ _ (c .before .if1 .left)) refl)
+returns-2 c before e h = rw (h, ← (c .before .before .end-refusal .ensures)) (via-false _ _ (ne-eqb _ _ (c .before .if1 .left)) (settled-refusal _ _ _ _ _ (c .refused-reply .ensures) (ne-eqb _ _ (c .before .if1 .left))))
 
 pub unless-refused-spec : {M : Type 1} → statement M
 unless-refused-spec =
-    tie.close (tie.spec end-refusal-requires checked-requires returns refused-requires returns-2)
+    tie.close
+    (tie.spec end-refusal-requires checked-requires returns refused-reply-requires returns-2)

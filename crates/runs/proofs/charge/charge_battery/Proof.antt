@@ -17,11 +17,11 @@ charge-battery-hydronic-requires c κs = search needs
 
 returns : tie.Need-returns
 unfolding chargeBattery
-returns c = rw (c .before .before .source .given .1, ← (c .charge-battery-electric .ensures))
+returns c = rw (c .before .before .before .source .given .1) (c .charge-battery-electric .ensures)
 
 returns-2 : tie.Need-returns-2
 unfolding chargeBattery
-returns-2 c = rw (c .before .before .source2 .given .1, ← (c .charge-battery-hydronic .ensures))
+returns-2 c = rw (c .before .before .before .source2 .given .1) (c .charge-battery-hydronic .ensures)
 
 pub charge-battery-spec : {M : Type 1} → statement M
 charge-battery-spec =

@@ -1,4 +1,4 @@
-use Rattle.runs.specs.Charge.{chargeElectric}
+use Rattle.runs.proofs.InPlace.{electric-run, ended-lies}
 use borrow.Author.Needs.{needs}
 use Rattle.runs.proofs.charge.charge_battery_electric.Statement.{statement}
 use Rattle.runs.proofs.charge.charge_battery_electric.Tie as tie
@@ -9,15 +9,14 @@ derived-requires c κs = search needs
 electric-drive-requires : tie.Need-electric-drive-requires
 electric-drive-requires c κs = search needs
 
-process-heat-battery-zones-requires : tie.Need-process-heat-battery-zones-requires
-process-heat-battery-zones-requires c κs = search needs
+process-in-place-requires : tie.Need-process-in-place-requires
+process-in-place-requires c κs = search needs
 
 electric-ended-requires : tie.Need-electric-ended-requires
 electric-ended-requires c κs = search needs
 
 returns : tie.Need-returns
-unfolding chargeElectric
-returns c = rw (← (c .before .before .before .before .derived .ensures), ← (c .before .before .before .electric-drive .ensures), ← (c .before .process-heat-battery-zones .ensures), ← (c .electric-ended .ensures))
+returns c = ended-lies _ _ _ (electric-run _ _ _ _ _ _ _ _ _ (c .before .before .before .before .derived .ensures) (c .before .before .before .electric-drive .ensures _) (c .before .process-in-place .ensures) (λ energies. c .electric-ended .ensures _ _ energies))
 
 pub charge-battery-electric-spec : {M : Type 1} → statement M
 charge-battery-electric-spec =
@@ -25,6 +24,6 @@ charge-battery-electric-spec =
     (tie.spec
     derived-requires
     electric-drive-requires
-    process-heat-battery-zones-requires
+    process-in-place-requires
     electric-ended-requires
     returns)

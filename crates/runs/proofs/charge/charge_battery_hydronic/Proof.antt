@@ -1,4 +1,6 @@
-use Rattle.runs.specs.Charge.{chargeHydronic, hydronicTask}
+use Rattle.runs.proofs.InPlace.{wet-lies}
+use mathlib.Core.List.{[]}
+use Rattle.runs.specs.Charge.{hydronicTask, chargeHydronic}
 use borrow.Author.Needs.{needs}
 use Rattle.runs.proofs.charge.charge_battery_hydronic.Statement.{statement}
 use Rattle.runs.proofs.charge.charge_battery_hydronic.Tie as tie
@@ -14,14 +16,14 @@ hydronic-start-requires c κs = search needs
 
 hydronic-run-requires : tie.Need-hydronic-run-requires
 unfolding hydronicTask
-hydronic-run-requires c κs = rw (c .before .before .hydronic-task .ensures) (c .before .before .before .pre)
+hydronic-run-requires c κs = rw (c .before .before .before .hydronic-task .ensures []) (c .before .before .before .before .pre)
 
 hydronic-ended-requires : tie.Need-hydronic-ended-requires
 hydronic-ended-requires c κs = search needs
 
 returns : tie.Need-returns
 unfolding chargeHydronic
-returns c = rw (← (c .before .before .before .before .hydronic-task .ensures), ← (c .before .before .before .whole-substeps .ensures), ← (c .before .before .hydronic-start .ensures), ← (c .before .hydronic-run .ensures), ← (c .hydronic-ended .ensures))
+returns c = rw (← (c .before .before .before .before .before .hydronic-task .ensures (c .before .before .before .before .before .before .args .zones .now)), ← (c .before .before .before .before .whole-substeps .ensures), ← (c .before .before .before .hydronic-start .ensures (c .before .before .before .before .before .before .args .zones .now))) (wet-lies _ _ _ _ _ (c .before .hydronic-run .ensures) (c .hydronic-ended .ensures))
 
 pub charge-battery-hydronic-spec : {M : Type 1} → statement M
 charge-battery-hydronic-spec =

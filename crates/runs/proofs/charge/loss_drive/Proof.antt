@@ -5,7 +5,7 @@ use Rattle.runs.proofs.charge.loss_drive.Tie as tie
 
 returns : tie.Need-returns
 unfolding lossDrive
-returns c = refl
+returns c zones = refl
 
 pub loss-drive-spec : {M : Type 1} → statement M
 loss-drive-spec = tie.close (tie.spec returns)

@@ -4,12 +4,12 @@ use borrow.Author.Needs.{needs}
 use Rattle.runs.proofs.demand.demand_ended.Statement.{statement}
 use Rattle.runs.proofs.demand.demand_ended.Tie as tie
 
-cast-t7 : tie.Need-cast-t7
-cast-t7 c = search needs
+cast-t6 : tie.Need-cast-t6
+cast-t6 c = search needs
 
 returns : tie.Need-returns
 unfolding demandEnded
-returns c = refl
+returns c zones = refl
 
 pub demand-ended-spec : {M : Type 1} → statement M
-demand-ended-spec = tie.close (tie.spec cast-t7 returns)
+demand-ended-spec = tie.close (tie.spec cast-t6 returns)

@@ -1,4 +1,8 @@
+use mathlib.Core.Path.{refl, ap}
+use Rattle.runs.specs.declared.DemandTurn.{DemandTurn}
+use Rattle.runs.proofs.InPlace.{turn-on, end-lies, turn-stops}
 use native.Mathlib.Nat.{sub-zero}
+use Rattle.runs.specs.Apart.{runWith}
 use Rattle.runs.specs.Demand.{demandRun}
 use Rattle.runs.proofs.Runs.{demand-no-step, demand-over-budget, demand-stop, demand-on}
 use mathlib.Core.Path.{_≡_, sym, _∙_}
@@ -9,10 +13,11 @@ use Rattle.runs.proofs.demand.demand_run.Statement.{statement}
 use Rattle.runs.proofs.demand.demand_run.Tie as tie
 
 abbrev Inv-loop : tie.InvT-loop
-Inv-loop x budget run₀ substeps₀ run substeps = (substeps ≤ budget) × (demandRun x (budget - substeps) substeps run ≡ demandRun x budget 0 run₀)
+Inv-loop x budget zones₀ pace₀ substeps₀ zones pace substeps =
+    (substeps ≤ budget) × (demandRun x (budget - substeps) substeps (runWith pace zones) ≡ demandRun x budget 0 (runWith pace₀ zones₀))
 
 abbrev μ-loop : tie.MeasureT-loop
-μ-loop x budget run₀ substeps₀ run substeps = budget - substeps
+μ-loop x budget zones₀ pace₀ substeps₀ zones pace substeps = budget - substeps
 
 loop-holds : tie.Need-loop-holds Inv-loop μ-loop
 loop-holds c = (omega arith, simp sub-zero)
@@ -34,19 +39,21 @@ loop-less c = search needs
 
 loop-again : tie.Need-loop-again Inv-loop μ-loop
 loop-again c =
-    let l = c .before .before .before .before .before .before .before .loop in
-    (omega arith, sym (demand-on _ _ _ _ _ (l .inv .0) (c .before .before .before .before .if2 .left) (c .before .before .before .before .before .if1 .left) (c .before .before .before .demand-substep .ensures) (c .enum-told .given .1)) ∙ l .inv .1)
+    let l = c .before .before .before .before .before .before .before .before .loop in
+    (omega arith, sym (demand-on _ _ _ _ _ (l .inv .0) (c .before .before .before .before .before .if2 .left) (c .before .before .before .before .before .before .if1 .left) (turn-on _ _ _ (c .before .before .before .demand-substep .ensures) (c .enum-told .given .1)) (c .enum-told .given .1)) ∙ l .inv .1)
 
 returns : tie.Need-returns Inv-loop μ-loop
-returns c = (demand-no-step _ _ _ _ (c .if1 .taken) ∙ c .before .before .loop .inv .1, omega arith)
+returns c = (end-lies _ _ _ (demand-no-step _ _ _ _ (c .if1 .taken) ∙ c .before .before .loop .inv .1), omega arith)
 
 returns-2 : tie.Need-returns-2 Inv-loop μ-loop
-returns-2 c = (demand-over-budget _ _ _ _ (c .if2 .taken) (c .before .if1 .left) ∙ c .before .before .before .loop .inv .1, omega arith)
+returns-2 c = (end-lies _ _ _ (demand-over-budget _ _ _ _ (c .if2 .taken) (c .before .if1 .left) ∙ c .before .before .before .loop .inv .1), omega arith)
 
 returns-3 : tie.Need-returns-3 Inv-loop μ-loop
 returns-3 c =
-    let l = c .before .before .before .before .before .before .before .before .loop in
-    (demand-stop _ _ _ _ _ (l .inv .0) (c .before .before .before .before .before .if2 .left) (c .before .before .before .before .before .before .if1 .left) (c .before .before .before .before .demand-substep .ensures) _ (c .before .next .given .1) ∙ l .inv .1, omega arith)
+    let l = c .before .before .before .before .before .before .before .before .before .loop in
+    let h = c .before .before .before .before .demand-substep .ensures in
+    let g = c .before .next .given .1 in
+    (turn-stops _ _ _ _ _ _ h g (demand-stop _ _ _ _ _ (l .inv .0) (c .before .before .before .before .before .before .if2 .left) (c .before .before .before .before .before .before .before .if1 .left) refl _ (sym (ap (λ (x : DemandTurn). x .next) (h .0)) ∙ g) ∙ l .inv .1), omega arith)
 
 pub demand-run-spec : {M : Type 1} → statement M
 demand-run-spec =

@@ -1,7 +1,8 @@
-use mathlib.Core.Path.{refl}
-use Rattle.floats.proofs.Branch.{via-true, via-false}
+use Rattle.runs.proofs.InPlace.{wet-turn-lies, at-false, replay-turn}
+use Rattle.floats.proofs.Branch.{via-true}
 use borrow.Author.Tests.{eq-eqb, ne-eqb}
 use Rattle.runs.specs.Hydronic.{replayed}
+use mathlib.Core.Path.{refl}
 use borrow.Author.Needs.{needs}
 use Rattle.runs.proofs.hydronic.replayed.Statement.{statement}
 use Rattle.runs.proofs.hydronic.replayed.Tie as tie
@@ -11,13 +12,13 @@ cast-if1 c = search needs
 
 returns : tie.Need-returns
 unfolding replayed
-returns c = via-true _ _ (eq-eqb _ _ (c .if1 .taken)) refl
+returns c = wet-turn-lies _ _ _ (via-true _ _ (eq-eqb _ _ (c .if1 .taken)) refl)
 
 wet-drive-requires : tie.Need-wet-drive-requires
 wet-drive-requires c κs = search needs
 
-process-heat-battery-zones-requires : tie.Need-process-heat-battery-zones-requires
-process-heat-battery-zones-requires c κs = search needs
+process-in-place-requires : tie.Need-process-in-place-requires
+process-in-place-requires c κs = search needs
 
 add-replay-by : tie.Need-add-replay-by
 add-replay-by c = search needs
@@ -27,7 +28,7 @@ replay-by-requires c κs = search needs
 
 returns-2 : tie.Need-returns-2
 unfolding replayed
-returns-2 c = rw (← (c .before .before .before .before .wet-drive .ensures), ← (c .before .process-heat-battery-zones .ensures), ← (c .replay-by .ensures)) (via-false _ _ (ne-eqb _ _ (c .before .before .before .before .before .if1 .left)) refl)
+returns-2 c = at-false _ _ _ _ _ (ne-eqb _ _ (c .before .before .before .before .before .if1 .left)) (replay-turn _ _ _ _ _ _ _ _ _ _ (c .before .before .before .before .wet-drive .ensures) (c .before .process-in-place .ensures) (λ energies. c .replay-by .ensures _ _ energies))
 
 pub replayed-spec : {M : Type 1} → statement M
 replayed-spec =
@@ -36,7 +37,7 @@ replayed-spec =
     cast-if1
     returns
     wet-drive-requires
-    process-heat-battery-zones-requires
+    process-in-place-requires
     add-replay-by
     replay-by-requires
     returns-2)

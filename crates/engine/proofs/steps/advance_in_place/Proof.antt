@@ -1,0 +1,47 @@
+use Rattle.floats.proofs.Branch.{via-true, via-false}
+use Rattle.battery.specs.Ledger.{whole}
+use Rattle.engine.specs.Steps.{advanceOf}
+use Rattle.engine.proofs.Accepted.{accepted-few}
+use Rattle.engine.proofs.Settled.{settled-refusal}
+use mathlib.Core.Path.{refl}
+use borrow.Author.Needs.{needs}
+use Rattle.engine.proofs.steps.advance_in_place.Statement.{statement}
+use Rattle.engine.proofs.steps.advance_in_place.Tie as tie
+
+is-accepted-requires : tie.Need-is-accepted-requires
+is-accepted-requires c κs = search needs
+
+call-in-range-requires : tie.Need-call-in-range-requires
+call-in-range-requires c κs = search needs
+
+both-requires : tie.Need-both-requires
+both-requires c κs = search needs
+
+step-requires : tie.Need-step-requires
+step-requires c κs =
+    let a = c .before .before .before .before .before .before .before .args in
+    accepted-few (a .version) (whole (a .l) (a .zones .now)) (c .before .before .before .call-in-range .result)
+    (rw (← (c .before .before .before .before .is-accepted .ensures), ← (c .before .before .both .ensures)) (c .before .if1 .taken))
+
+returns : tie.Need-returns
+unfolding advanceOf
+returns c = rw (← (c .before .before .before .before .before .is-accepted .ensures), ← (c .before .before .before .before .call-in-range .ensures), ← (c .before .before .before .both .ensures)) (via-true _ _ (c .before .before .if1 .taken) (c .step .ensures))
+
+refused-reply-requires : tie.Need-refused-reply-requires
+refused-reply-requires c κs = search needs
+
+returns-2 : tie.Need-returns-2
+unfolding advanceOf
+returns-2 c = rw (← (c .before .before .before .before .is-accepted .ensures), ← (c .before .before .before .call-in-range .ensures), ← (c .before .before .both .ensures)) (via-false _ _ (c .before .if1 .left) (settled-refusal _ _ _ _ 10 (c .refused-reply .ensures) refl))
+
+pub advance-in-place-spec : {M : Type 1} → statement M
+advance-in-place-spec =
+    tie.close
+    (tie.spec
+    is-accepted-requires
+    call-in-range-requires
+    both-requires
+    step-requires
+    returns
+    refused-reply-requires
+    returns-2)

@@ -1,0 +1,40 @@
+use mathlib.Core.Path.{subst}
+use Rattle.runs.specs.Apart.{EndedLies}
+use Rattle.engine.proofs.Settled.{run-end}
+use Rattle.battery.specs.declared.Reply.{Reply}
+use Rattle.engine.proofs.Settled.{committed-with}
+use mathlib.Core.Path.{sym, _∙_, ap}
+use borrow.Author.Needs.{needs}
+use Rattle.engine.proofs.steps.committed.Statement.{statement}
+use Rattle.engine.proofs.steps.committed.Tie as tie
+
+demand-stopped-requires : tie.Need-demand-stopped-requires
+demand-stopped-requires c κs = search needs
+
+service-class-requires : tie.Need-service-class-requires
+service-class-requires c κs = search needs
+
+served-totals-requires : tie.Need-served-totals-requires
+served-totals-requires c κs = search needs
+
+demand-reply-requires : tie.Need-demand-reply-requires
+demand-reply-requires c κs = search needs
+
+unless-refused-requires : tie.Need-unless-refused-requires
+unless-refused-requires c κs = (c .before .before .before .before .before .before .before .pre .0, ap (λ (x : Reply). x .refusal) (c .before .demand-reply .ensures))
+
+returns : tie.Need-returns
+returns c e h =
+    let w = subst (EndedLies _ _) (sym h) (c .before .before .before .before .before .before .demand-stopped .ensures) in
+    c .unless-refused .ensures _ e (run-end _ _ _ w) ∙ committed-with _ _ _ _ _ w _ _ _ _ (c .before .before .before .before .before .before .before .before .pre .1) (c .before .before .before .before .service-class .ensures) (c .before .before .before .served-totals .ensures) (c .before .before .demand-reply .ensures)
+
+pub committed-spec : {M : Type 1} → statement M
+committed-spec =
+    tie.close
+    (tie.spec
+    demand-stopped-requires
+    service-class-requires
+    served-totals-requires
+    demand-reply-requires
+    unless-refused-requires
+    returns)

@@ -1,0 +1,29 @@
+use mathlib.Core.Path.{subst}
+use Rattle.runs.specs.Apart.{EndedLies}
+use Rattle.engine.proofs.Settled.{run-end}
+use Rattle.battery.specs.declared.Reply.{Reply}
+use Rattle.engine.specs.Steps.{unlessRefused}
+use Rattle.engine.proofs.Settled.{trial-with}
+use mathlib.Core.Path.{sym, _∙_, ap}
+use borrow.Author.Needs.{needs}
+use Rattle.engine.proofs.steps.trial.Statement.{statement}
+use Rattle.engine.proofs.steps.trial.Tie as tie
+
+demand-stopped-requires : tie.Need-demand-stopped-requires
+demand-stopped-requires c κs = search needs
+
+demand-reply-requires : tie.Need-demand-reply-requires
+demand-reply-requires c κs = search needs
+
+unless-refused-requires : tie.Need-unless-refused-requires
+unless-refused-requires c κs = (c .before .before .before .before .before .pre .0, ap (λ (x : Reply). x .refusal) (c .demand-reply .ensures))
+
+returns : tie.Need-returns
+returns c e h =
+    let w = subst (EndedLies _ _) (sym h) (c .before .before .before .demand-stopped .ensures) in
+    c .unless-refused .ensures _ e (run-end _ _ _ w) ∙ ap (unlessRefused _ e) (trial-with _ _ _ _ _ w _ _ (c .before .before .before .before .before .before .pre .1) (c .before .demand-reply .ensures))
+
+pub trial-spec : {M : Type 1} → statement M
+trial-spec =
+    tie.close
+    (tie.spec demand-stopped-requires demand-reply-requires unless-refused-requires returns)

@@ -1,0 +1,202 @@
+-- A substep on zones that lie apart is the definition's, and so is each turn over it.
+use mathlib.Core.Path.{_≡_, sym, _∙_, ap, subst}
+use mathlib.Core.Bool.{Bool, true, false, cond}
+use mathlib.Core.List.{List}
+use Prim.Native.Nat.{ℕ, _+_}
+use native.Mathlib.Omega.{arith}
+use lib.Ieee.{Float}
+use Rattle.card.specs.declared.HeatBatteryPcm.{HeatBatteryPcm}
+use Rattle.card.specs.Derived.{derived}
+use Rattle.battery.specs.declared.Ledger.{Ledger}
+use Rattle.battery.specs.Ledger.{whole}
+use Rattle.substep.specs.Substep.{processHeatBatteryZones, substepWith, outcomeOf}
+use Rattle.substep.specs.declared.Drive.{Drive}
+use Rattle.substep.specs.declared.Outcome.{Outcome}
+use Rattle.substep.specs.declared.Substep.{Substep}
+use Rattle.runs.specs.declared.Stopped.{Stopped}
+use Rattle.runs.specs.declared.Ended.{Ended}
+use Rattle.runs.specs.declared.End.{End}
+use Rattle.runs.specs.declared.End.the-variants.{NoLogarithm, NotFiniteRun}
+use Rattle.runs.specs.declared.Next.the-variants.{On, Stop}
+use Rattle.runs.specs.Runs.{endRefusal}
+use Rattle.runs.specs.declared.DemandTurn.{DemandTurn}
+use Rattle.runs.specs.declared.DemandEnd.{DemandEnd}
+use Rattle.runs.specs.declared.PaceEnd.{PaceEnd}
+use Rattle.runs.specs.declared.HydronicTurn.{HydronicTurn}
+use Rattle.runs.specs.declared.HydronicEnd.{HydronicEnd}
+use Rattle.runs.specs.declared.WetEnd.{WetEnd}
+use Rattle.runs.specs.declared.DemandTask.{DemandTask}
+use Rattle.runs.specs.declared.Run.{Run}
+use Rattle.runs.specs.declared.Pace.{Pace}
+use Rattle.runs.specs.declared.PaceTurn.{PaceTurn}
+use Rattle.runs.specs.declared.HydronicTask.{HydronicTask}
+use Rattle.runs.specs.declared.WetPace.{WetPace}
+use Rattle.runs.specs.declared.WetTurn.{WetTurn}
+use Rattle.runs.specs.Apart.{endedWith, runWith, turnWith, endWith, wetWith, wetTurnWith, wetEndWith, nextRefusal, TurnLies, EndLies, WetTurnLies, WetEndLies, EndedLies}
+use Rattle.zone.specs.declared.KilowattHours.{KilowattHours}
+use Rattle.runs.specs.Demand.{demandDrive, demandBy, demandSubstep, demandEnded}
+use Rattle.runs.specs.Hydronic.{wetDrive, replayBy, hydronicBy, hydronicStep, hydronicEnded}
+use Rattle.runs.specs.Charge.{electricDrive, electricEnded, chargeElectric, lossDrive, lossEnded, batteryHeatLoss}
+
+-- what is known of a substep in place, u being the definition's
+abbrev InPlace : Substep → Outcome → List Float → Type 0
+InPlace u o zones = (zones ≡ u .zones) × (o ≡ outcomeOf u)
+
+put-together : (u : Substep) (o : Outcome) (zones : List Float) → InPlace u o zones → substepWith o zones (u .energies) ≡ u
+unfolding substepWith outcomeOf
+put-together u o zones h = rw (h .0, h .1)
+
+-- where all is the definition's, zones included
+
+pub turn-lies : (r : PaceTurn) (zones : List Float) (t : DemandTurn) → turnWith r zones ≡ t → TurnLies r zones t
+turn-lies r zones t e = let z : zones ≡ t .run .zones = ap (λ (x : DemandTurn). x .run .zones) e in (ap (turnWith r) (sym z) ∙ e, λ h. z)
+
+pub end-lies : (r : PaceEnd) (zones : List Float) (t : DemandEnd) → endWith r zones ≡ t → EndLies r zones t
+end-lies r zones t e = let z : zones ≡ t .run .zones = ap (λ (x : DemandEnd). x .run .zones) e in (ap (endWith r) (sym z) ∙ e, λ h. z)
+
+pub wet-turn-lies : (r : WetTurn) (zones : List Float) (t : HydronicTurn) → wetTurnWith r zones ≡ t → WetTurnLies r zones t
+wet-turn-lies r zones t e = let z : zones ≡ t .run .zones = ap (λ (x : HydronicTurn). x .run .zones) e in (ap (wetTurnWith r) (sym z) ∙ e, λ h. z)
+
+pub wet-end-lies : (r : WetEnd) (zones : List Float) (t : HydronicEnd) → wetEndWith r zones ≡ t → WetEndLies r zones t
+wet-end-lies r zones t e = let z : zones ≡ t .run .zones = ap (λ (x : HydronicEnd). x .run .zones) e in (ap (wetEndWith r) (sym z) ∙ e, λ h. z)
+
+pub ended-lies : (r : Stopped) (zones : List Float) (t : Ended) → endedWith r zones ≡ t → EndedLies r zones t
+ended-lies r zones t e = let z : zones ≡ t .zones = ap (λ (x : Ended). x .zones) e in (ap (endedWith r) (sym z) ∙ e, λ h. z)
+
+-- a substep that is refused
+
+pub log-refused : endRefusal NoLogarithm ≡ 0 → ⊥
+unfolding endRefusal
+log-refused h = omega arith
+
+pub finite-refused : endRefusal NotFiniteRun ≡ 0 → ⊥
+unfolding endRefusal
+finite-refused h = omega arith
+
+pub turn-fault :
+    (s : Pace) (before zones : List Float) (e : End) (t : DemandTurn) → (endRefusal e ≡ 0 → ⊥) → record { run = runWith s before; next = Stop e } ≡ t →
+    TurnLies (record { pace = s; next = Stop e }) zones t
+turn-fault s before zones e t q d =
+    let z : before ≡ t .run .zones = ap (λ (x : DemandTurn). x .run .zones) d in
+    (ap (turnWith (record { pace = s; next = Stop e })) (sym z) ∙ d, λ h. absurd (q h))
+
+pub wet-fault :
+    (s : WetPace) (before zones : List Float) (e : End) (n : ℕ) (t : HydronicTurn) → (endRefusal e ≡ 0 → ⊥) → record { run = wetWith s before; next = Stop e; substeps = n } ≡ t →
+    WetTurnLies (record { pace = s; next = Stop e; substeps = n }) zones t
+wet-fault s before zones e n t q d =
+    let z : before ≡ t .run .zones = ap (λ (x : HydronicTurn). x .run .zones) d in
+    (ap (wetTurnWith (record { pace = s; next = Stop e; substeps = n })) (sym z) ∙ d, λ h. absurd (q h))
+
+-- by a test
+pub at-true : (r : WetTurn) (zones : List Float) (b : Bool) (t u : HydronicTurn) → b ≡ true → WetTurnLies r zones t → WetTurnLies r zones (cond b t u)
+at-true r zones b t u h l = rw h l
+
+pub at-false : (r : WetTurn) (zones : List Float) (b : Bool) (t u : HydronicTurn) → b ≡ false → WetTurnLies r zones u → WetTurnLies r zones (cond b t u)
+at-false r zones b t u h l = rw h l
+
+-- what a run hands out
+
+pub demand-lies :
+    (e : PaceEnd) (zones : List Float) (d : DemandEnd) (r : Stopped) → EndLies e zones d → ((w : List Float) → endedWith r w ≡ demandEnded (endWith e w)) →
+    EndedLies r zones (demandEnded d)
+unfolding demandEnded
+demand-lies e zones d r l f =
+    (f (d .run .zones) ∙ ap demandEnded (l .0), λ h. l .1 (sym (ap (λ (x : Ended). endRefusal (x .end)) (f zones)) ∙ h))
+
+pub wet-lies :
+    (electric : KilowattHours) (e : WetEnd) (zones : List Float) (d : HydronicEnd) (r : Stopped) → WetEndLies e zones d →
+    ((w : List Float) → endedWith r w ≡ hydronicEnded electric (wetEndWith e w)) → EndedLies r zones (hydronicEnded electric d)
+unfolding hydronicEnded
+wet-lies electric e zones d r l f =
+    (f (d .run .zones) ∙ ap (hydronicEnded electric) (l .0), λ h. l .1 (sym (ap (λ (x : Ended). endRefusal (x .end)) (f zones)) ∙ h))
+
+-- a turn that goes on, and one that stops the run
+
+pub turn-on : (r : PaceTurn) (zones : List Float) (t : DemandTurn) → TurnLies r zones t → r .next ≡ On → turnWith r zones ≡ t
+turn-on r zones t h g = let z : zones ≡ t .run .zones = h .1 (ap nextRefusal g) in rw z (h .0)
+
+pub turn-stops :
+    (r : PaceTurn) (zones : List Float) (t : DemandTurn) (k : End) (n : ℕ) (e : DemandEnd) →
+    TurnLies r zones t → r .next ≡ Stop k → record { run = t .run; end = k; substeps = n } ≡ e →
+    EndLies (record { pace = r .pace; end = k; substeps = n }) zones e
+turn-stops r zones t k n e h g d =
+    let z : t .run .zones ≡ e .run .zones = ap (λ (x : DemandEnd). x .run .zones) d in
+    let w : runWith (r .pace) (t .run .zones) ≡ t .run = ap (λ (x : DemandTurn). x .run) (h .0) in
+    (ap (λ (v : List Float). endWith (record { pace = r .pace; end = k; substeps = n }) v) (sym z) ∙ ap (λ (v : Run). record { run = v; end = k; substeps = n }) w ∙ d, λ q. h .1 (ap nextRefusal g ∙ q) ∙ z)
+
+pub wet-turn-on : (r : WetTurn) (zones : List Float) (t : HydronicTurn) → WetTurnLies r zones t → r .next ≡ On → wetTurnWith r zones ≡ t
+wet-turn-on r zones t h g = let z : zones ≡ t .run .zones = h .1 (ap nextRefusal g) in rw z (h .0)
+
+pub wet-turn-stops :
+    (r : WetTurn) (zones : List Float) (t : HydronicTurn) (k : End) (e : HydronicEnd) →
+    WetTurnLies r zones t → r .next ≡ Stop k → record { run = t .run; end = k; substeps = t .substeps } ≡ e →
+    WetEndLies (record { pace = r .pace; end = k; substeps = r .substeps }) zones e
+wet-turn-stops r zones t k e h g d =
+    let z : t .run .zones ≡ e .run .zones = ap (λ (x : HydronicEnd). x .run .zones) d in (
+      ap (λ (v : List Float). wetEndWith (record { pace = r .pace; end = k; substeps = r .substeps }) v) (sym z) ∙
+          ap (λ (v : HydronicTurn). record { run = v .run; end = k; substeps = v .substeps }) (h .0) ∙ d,
+      λ q. h .1 (ap nextRefusal g ∙ q) ∙ z,
+    )
+
+module _ (x : DemandTask) (s : Pace) (before zones : List Float) (d : Drive) (o : Outcome) (t : PaceTurn) where
+  pub demand-turn :
+      d ≡ demandDrive x (runWith s before) →
+      InPlace (processHeatBatteryZones (x .card) (x .pcm) d before) o zones →
+      ((energies : List Float) → TurnLies t zones (demandBy x (runWith s before) (substepWith o zones energies) (o .fault))) →
+      TurnLies t zones (demandSubstep x (runWith s before))
+  unfolding demandSubstep substepWith
+  demand-turn h g e =
+      let u = processHeatBatteryZones (x .card) (x .pcm) d before in
+      let w = ap (λ (v : Substep). demandBy x (runWith s before) v (v .fault)) (put-together u o zones g) in
+      rw (← h) (subst (TurnLies t zones) w (e (u .energies)))
+
+module _ (x : HydronicTask) (n : ℕ) (s : WetPace) (before zones : List Float) (d : Drive) (o : Outcome) (t : WetTurn) where
+  pub replay-turn :
+      (seconds reynold : Float) →
+      d ≡ wetDrive x seconds reynold →
+      InPlace (processHeatBatteryZones (x .card) (x .pcm) d before) o zones →
+      ((energies : List Float) → WetTurnLies t zones (replayBy x (n + 1) (wetWith s before) seconds reynold (substepWith o zones energies) (o .fault))) →
+      WetTurnLies t zones
+      (replayBy x (n + 1) (wetWith s before) seconds reynold (processHeatBatteryZones (x .card) (x .pcm) (wetDrive x seconds reynold) before) (processHeatBatteryZones (x .card) (x .pcm) (wetDrive x seconds reynold) before .fault))
+  unfolding substepWith
+  replay-turn seconds reynold h g e =
+      let u = processHeatBatteryZones (x .card) (x .pcm) d before in
+      let w = ap (λ (v : Substep). replayBy x (n + 1) (wetWith s before) seconds reynold v (v .fault)) (put-together u o zones g) in
+      rw (← h) (subst (WetTurnLies t zones) w (e (u .energies)))
+
+  -- the zones behind the turn are those of the substep, or of the fractional one
+  pub hydronic-turn :
+      (after : List Float) →
+      d ≡ wetDrive x (x .card .substep) (s .reynold) →
+      InPlace (processHeatBatteryZones (x .card) (x .pcm) d before) o zones →
+      ((energies : List Float) → WetTurnLies t after (hydronicBy x (n + 1) (wetWith s before) (substepWith o zones energies) (o .fault))) →
+      WetTurnLies t after (hydronicStep x n (wetWith s before))
+  unfolding hydronicStep substepWith
+  hydronic-turn after h g e =
+      let u = processHeatBatteryZones (x .card) (x .pcm) d before in
+      let w = ap (λ (v : Substep). hydronicBy x (n + 1) (wetWith s before) v (v .fault)) (put-together u o zones g) in
+      rw (← h) (subst (WetTurnLies t after) w (e (u .energies)))
+
+module _ (l : Ledger) (before zones : List Float) (pcm : HeatBatteryPcm) (d : Drive) (o : Outcome) (r : Stopped) where
+  pub electric-run :
+      (power target : Float) →
+      pcm ≡ derived (l .card) →
+      d ≡ electricDrive (whole l before) power target →
+      InPlace (processHeatBatteryZones (l .card) pcm d before) o zones →
+      ((energies : List Float) → endedWith r zones ≡ electricEnded (whole l before) (substepWith o zones energies)) →
+      endedWith r zones ≡ chargeElectric (whole l before) power target
+  unfolding chargeElectric
+  electric-run power target p h g e =
+      let u = processHeatBatteryZones (l .card) pcm d before in
+      rw (← h, ← p) (e (u .energies) ∙ ap (electricEnded (whole l before)) (put-together u o zones g))
+
+  pub loss-run :
+      pcm ≡ derived (l .card) →
+      d ≡ lossDrive (whole l before) →
+      InPlace (processHeatBatteryZones (l .card) pcm d before) o zones →
+      ((energies : List Float) → endedWith r zones ≡ lossEnded (whole l before) (substepWith o zones energies)) →
+      endedWith r zones ≡ batteryHeatLoss (whole l before)
+  unfolding batteryHeatLoss
+  loss-run p h g e =
+      let u = processHeatBatteryZones (l .card) pcm d before in
+      rw (← h, ← p) (e (u .energies) ∙ ap (lossEnded (whole l before)) (put-together u o zones g))

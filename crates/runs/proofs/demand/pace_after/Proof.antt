@@ -1,0 +1,15 @@
+use Rattle.runs.specs.Demand.{runAfter}
+use Rattle.substep.specs.Substep.{substepWith}
+use borrow.Author.Needs.{needs}
+use Rattle.runs.proofs.demand.pace_after.Statement.{statement}
+use Rattle.runs.proofs.demand.pace_after.Tie as tie
+
+reynold-between-requires : tie.Need-reynold-between-requires
+reynold-between-requires c κs = search needs
+
+returns : tie.Need-returns
+unfolding runAfter substepWith
+returns c before zones energies = rw (← (c .before .before .before .reynold-between .ensures))
+
+pub pace-after-spec : {M : Type 1} → statement M
+pace-after-spec = tie.close (tie.spec reynold-between-requires returns)

@@ -1,0 +1,176 @@
+-- The engine's one loop: no array of energies, their sum and the zones' tests in the mode's order. Behind the last zone it has what
+-- the definition reads of its arrays.
+use mathlib.Core.Path.{_≡_, refl, sym, _∙_, ap, subst}
+use mathlib.Core.Bool.{Bool, true, cond, _&&_}
+use mathlib.Core.List.{List}
+use Prim.Native.Nat.{ℕ, zero, suc, _≤_, _<_, _+_}
+use native.Mathlib.Omega.{arith}
+use native.Mathlib.Numerals.{add-one}
+use lib.ListN.{length, getD, set, replicate, getD-replicate, length-replicate}
+use lib.Seq.{set-getD}
+use lib.Ieee.{Float, nan, ofBits, add}
+use Rattle.floats.specs.F64.{_⊕_}
+use Rattle.floats.specs.Constants as Constants
+use Rattle.floats.specs.Standins.{finite64}
+use Rattle.floats.specs.Sum2.{sum2Step, sum2After, sum2}
+use Rattle.floats.specs.declared.Sum2.{Sum2}
+use Rattle.zone.specs.Heat.{kj, kwh}
+use Rattle.zone.specs.Layer.{zoneSalt}
+use Rattle.water.specs.Water.{zoneProperties}
+use Rattle.zone.specs.declared.Kilojoules.{Kilojoules}
+use Rattle.zone.specs.declared.KilowattHours.{KilowattHours}
+use Rattle.water.specs.declared.Mode.the-variants.{OnlyCharging}
+use Rattle.zone.specs.declared.Salt.{Salt}
+use Rattle.card.specs.declared.Card.{Card}
+use Rattle.battery.specs.Battery.{zonesFinite}
+use Rattle.substep.specs.Substep.{zoneIndex, zoneStep, zoneAt, zonesAfter, chargerHeat, passFrom, outcomeOf, passFinite, passFault, substepFrom}
+use Rattle.substep.specs.declared.Course.{Course}
+use Rattle.substep.specs.declared.Drive.{Drive}
+use Rattle.substep.specs.declared.Fault.{Fault}
+use Rattle.substep.specs.declared.Fault.the-variants.{Nothing, NotFinite}
+use Rattle.substep.specs.declared.Outcome.{Outcome}
+use Rattle.substep.specs.declared.Pass.{Pass}
+use Rattle.substep.specs.declared.ZoneStep.{ZoneStep}
+use Rattle.substep.proofs.Passes.{index-below}
+use Rattle.substep.proofs.Stores.{stored-places, stored-elsewhere}
+use Rattle.substep.proofs.EachZone.{index-once}
+use Rattle.substep.proofs.Ordered.{inOrder, andFinite, noSum, read-more, gathered-more, tests-all, sum-all}
+
+-- the k-th of n zones' step, and the sum and the tests up to it, in the mode's order
+abbrev stepped : Course → ℕ → ℕ → Pass → ZoneStep
+stepped x n k p =
+    let q = zonesAfter x n k p in
+    let j = zoneIndex (x .mode) n k in
+    zoneStep x (zoneSalt (x .salt) j) (getD (q .zones) j nan) (q .outlet) (q .left) (q .charged)
+
+abbrev pub summed : Course → ℕ → ℕ → Pass → Sum2
+summed x n k p = inOrder (x .mode) n sum2Step noSum (zonesAfter x n k p .energies) k
+
+abbrev pub tested : Course → ℕ → ℕ → Pass → Bool
+tested x n k p = inOrder (x .mode) n andFinite true (zonesAfter x n k p .zones) k
+
+-- what the loop has behind the first k of n zones
+pub record Underway (x : Course) (n k : ℕ) (p : Pass) (zones : List Float) (outlet : Float) (left : Kilojoules) (charged : KilowattHours) (sum : Sum2) (finite : Bool) : Type 0 where
+  pub same-zones : zones ≡ zonesAfter x n k p .zones
+  pub same-outlet : outlet ≡ zonesAfter x n k p .outlet
+  pub same-left : left ≡ zonesAfter x n k p .left
+  pub same-charged : charged ≡ zonesAfter x n k p .charged
+  pub same-sum : sum ≡ summed x n k p
+  pub same-test : finite ≡ tested x n k p
+
+-- a zero more at a zero
+store-zero : (l : List Float) (j : ℕ) (e : Float) → getD l j nan ≡ Constants.zero → e ≡ Constants.zero → set l j (getD l j nan ⊕ e) ≡ l
+unfolding ofBits add
+store-zero l j e h g = rw (h, g) (ap (set l j) (sym h) ∙ set-getD l j nan)
+
+-- charging alone gives no heat to the water
+no-energy : (x : Course) (s : Salt) (t inlet : Float) (q : Kilojoules) (e : KilowattHours) → x .mode ≡ OnlyCharging → zoneStep x s t inlet q e .energy .0 ≡ Constants.zero
+unfolding zoneStep zoneProperties
+no-energy x s t inlet q e m = rw m
+
+module _ (x : Course) (n : ℕ) (p : Pass) (none : p .energies ≡ replicate 64 Constants.zero) (few : n ≤ 64) where
+  clear : (i : ℕ) → i < n → getD (p .energies) i nan ≡ Constants.zero
+  clear i h = rw none (getD-replicate 64 i Constants.zero nan (omega arith))
+
+  still-clear : (k : ℕ) → k < n → getD (zonesAfter x n k p .energies) (zoneIndex (x .mode) n k) nan ≡ Constants.zero
+  unfolding zonesAfter zoneAt
+  still-clear k h =
+      stored-elsewhere (x .mode) n (λ i. zonesAfter x n i p .energies) _ (λ i. refl) k (zoneIndex (x .mode) n k) (λ j g. index-once (x .mode) n k j h g) ∙
+      clear (zoneIndex (x .mode) n k) (index-below (x .mode) n k h)
+
+  charging-energies : x .mode ≡ OnlyCharging → (k : ℕ) → k ≤ n → zonesAfter x n k p .energies ≡ p .energies
+  unfolding zonesAfter zoneAt
+  charging-energies m zero h = refl
+  charging-energies m (suc k) h =
+      store-zero (zonesAfter x n k p .energies) (zoneIndex (x .mode) n k) _ (still-clear k (omega arith)) (no-energy x _ _ _ _ _ m) ∙ charging-energies m k (omega arith)
+
+  module _ (k : ℕ) (h : k < n) where
+    sum-more : sum2Step (summed x n k p) (Constants.zero ⊕ stepped x n k p .energy .0) ≡ summed x n (suc k) p
+    unfolding zonesAfter zoneAt
+    sum-more =
+        let l = stored-places (x .mode) n (λ i. zonesAfter x n i p .energies) _ (λ i. refl) k ∙ (ap length none ∙ length-replicate 64 Constants.zero) in
+        ap (λ (e : Float). sum2Step (summed x n k p) (e ⊕ stepped x n k p .energy .0)) (sym (still-clear k h)) ∙
+        sym (gathered-more (x .mode) n sum2Step noSum (zonesAfter x n k p .energies) k _ h (omega arith))
+
+    tests-more :
+        (tested x n k p && finite64 (getD (zonesAfter x n (suc k) p .zones) (zoneIndex (x .mode) n k) nan)) ≡ tested x n (suc k) p
+    unfolding zonesAfter zoneAt
+    tests-more = sym (read-more (x .mode) n andFinite true (zonesAfter x n k p .zones) k _ h)
+
+    -- one zone more
+    pub underway-more :
+        (zones : List Float) (outlet : Float) (left : Kilojoules) (charged : KilowattHours) (sum more : Sum2) (finite test both : Bool) (j : ℕ) (s : Salt) (z : ZoneStep) →
+        Underway x n k p zones outlet left charged sum finite →
+        j ≡ zoneIndex (x .mode) n k →
+        s ≡ zoneSalt (x .salt) j →
+        z ≡ zoneStep x s (getD zones j nan) outlet left charged →
+        more ≡ sum2Step sum (Constants.zero ⊕ z .energy .0) →
+        test ≡ finite64 (getD (set zones j (z .temperature)) j nan) →
+        both ≡ (finite && test) →
+        Underway x n (k + 1) p (set zones j (z .temperature)) (z .outlet) (z .left) (z .charged) more both
+    unfolding zonesAfter zoneAt
+    underway-more zones outlet left charged sum more finite test both j s z u d r e a t b =
+        let g : z ≡ stepped x n k p = rw (e, r, d, u .same-zones, u .same-outlet, u .same-left, u .same-charged) in
+        record {
+          same-zones = rw (add-one, g, d, u .same-zones);
+          same-outlet = rw (add-one, g);
+          same-left = rw (add-one, g);
+          same-charged = rw (add-one, g);
+          same-sum = rw (add-one, a, g, u .same-sum) sum-more;
+          same-test = rw (add-one, b, t, g, d, u .same-zones, u .same-test) tests-more;
+        }
+
+-- the loop's start from the zones alone, with no energies yet
+abbrev pub startOf : List Float → Float → Kilojoules → KilowattHours → Pass
+startOf zones outlet left charged = record { zones = zones; energies = replicate 64 Constants.zero; outlet = outlet; left = left; charged = charged }
+
+pub underway-start :
+    (x : Course) (n : ℕ) (zones : List Float) (outlet : Float) (left : Kilojoules) (charged : KilowattHours) →
+    Underway x n 0 (startOf zones outlet left charged) zones outlet left charged noSum true
+unfolding zonesAfter inOrder
+underway-start x n zones outlet left charged = record { same-zones = refl; same-outlet = refl; same-left = refl; same-charged = refl; same-sum = refl; same-test = refl }
+
+-- behind the last zone: the zones, and what a substep hands out besides
+module _ (c : Card) (x : Course) (k : ℕ) (d : Drive) (start : List Float) (few : c .layers ≤ 64) where
+  end : Pass
+  end = zonesAfter x (c .layers) (c .layers) (passFrom d start)
+
+  sum-end : summed x (c .layers) (c .layers) (passFrom d start) ≡ sum2After (end .energies) (c .layers)
+  unfolding passFrom end
+  sum-end =
+      sum-all (x .mode) (c .layers) (end .energies)
+      (λ m i h. ap (λ (l : List Float). getD l i nan) (charging-energies x (c .layers) (passFrom d start) refl few m (c .layers) (omega arith)) ∙ clear x (c .layers) (passFrom d start) refl few i h)
+
+  tests-end : tested x (c .layers) (c .layers) (passFrom d start) ≡ zonesFinite (end .zones) (c .layers)
+  unfolding end
+  tests-end = tests-all (x .mode) (c .layers) (end .zones)
+
+  module _ (zones : List Float) (outlet : Float) (left heat : Kilojoules) (charged : KilowattHours) (sum : Sum2) (finite : Bool) (f : Fault) where
+    behind-all :
+        heat ≡ chargerHeat d →
+        k ≡ c .layers →
+        Underway x (c .layers) k (startOf start (d .inlet) heat (kwh Constants.zero)) zones outlet left charged sum finite →
+        Underway x (c .layers) (c .layers) (passFrom d start) zones outlet left charged sum finite
+    unfolding passFrom
+    behind-all h e u =
+        subst (λ (i : ℕ). Underway x (c .layers) i (passFrom d start) zones outlet left charged sum finite) e
+        (subst (λ (q : Kilojoules). Underway x (c .layers) k (startOf start (d .inlet) q (kwh Constants.zero)) zones outlet left charged sum finite) h u)
+
+    handed-out :
+        Underway x (c .layers) (c .layers) (passFrom d start) zones outlet left charged sum finite →
+        f ≡ cond (finite && (finite64 outlet && (finite64 (sum .s ⊕ sum .c) && finite64 (charged .0)))) Nothing NotFinite →
+        (zones ≡ end .zones) × (_≡_ {A = Outcome} (record { outlet = outlet; delivered = kj (sum .s ⊕ sum .c); charged = charged; fault = f }) (outcomeOf (substepFrom c end)))
+    unfolding end outcomeOf substepFrom passFault passFinite sum2
+    handed-out u g = (u .same-zones, rw (g, u .same-test, tests-end, u .same-sum, sum-end, u .same-outlet, u .same-charged))
+
+    pub underway-end :
+        heat ≡ chargerHeat d →
+        k ≤ c .layers →
+        c .layers ≤ k →
+        Underway x (c .layers) k (startOf start (d .inlet) heat (kwh Constants.zero)) zones outlet left charged sum finite →
+        f ≡ cond (finite && (finite64 outlet && (finite64 (sum .s ⊕ sum .c) && finite64 (charged .0)))) Nothing NotFinite →
+        (zones ≡ zonesAfter x (c .layers) (c .layers) (passFrom d start) .zones) ×
+        (_≡_ {A = Outcome} (record { outlet = outlet; delivered = kj (sum .s ⊕ sum .c); charged = charged; fault = f })
+        (outcomeOf (substepFrom c (zonesAfter x (c .layers) (c .layers) (passFrom d start)))))
+    unfolding end
+    underway-end h a b u g = handed-out (behind-all h (omega arith) u) g
