@@ -1,9 +1,11 @@
 -- Document 01, module 9: 'One more entry takes the caller's own battery record and advances it by a call.' There is no sheet, so no 11.
 use Prim.Native.Nat.{ℕ}
 use mathlib.Core.List.{List}
+use Rattle.floats.specs.Constants.{zero}
 use Rattle.battery.specs.Answer.{refusedWith}
 use Rattle.battery.specs.declared.Battery.{Battery}
 use Rattle.battery.specs.declared.Answer.{Answer}
+use Rattle.battery.specs.declared.Reply.{Reply}
 use Rattle.engine.specs.Steps.{advanceOf}
 use Rattle.calls.specs.Calls.{callOf}
 use Rattle.calls.specs.declared.ReadCall.{ReadCall}
@@ -15,6 +17,14 @@ use Rattle.heat_battery.specs.declared.Advanced.{Advanced}
 unfoldable pub shownOf : Answer → Shown
 shownOf a =
     record { refusal = a .refusal; mark = a .mark; substeps = a .substeps; energy = a .energy; outlet = a .outlet; time = a .time }
+
+-- the same of a reply, and of a refusal
+abbrev pub replyShown : Reply → Shown
+replyShown a =
+    record { refusal = a .refusal; mark = a .mark; substeps = a .substeps; energy = a .energy; outlet = a .outlet; time = a .time }
+
+abbrev pub refusedShown : ℕ → Shown
+refusedShown n = record { refusal = n; mark = 0; substeps = 0; energy = zero; outlet = zero; time = zero }
 
 -- the record afterwards, and what the call answers
 unfoldable pub advancedBy : Answer → Advanced

@@ -2,6 +2,7 @@
 // include/heat_battery.h says what a caller must know.
 use battery::Answer;
 use battery::Battery;
+use battery::Reply;
 use calls::ReadCall;
 ghost use mathlib.Core.Path.{_≡_};
 ghost use mathlib.Core.Bool.{true};
@@ -10,7 +11,7 @@ ghost use lib.ListN.{length};
 ghost use Rattle.records.specs.Records.{recordLength};
 ghost use Rattle.calls.specs.Calls.{callOf};
 ghost use Rattle.auditor.specs.Audit.{verdictWord, limitedAuditOf};
-ghost use Rattle.heat_battery.specs.Record.{shownOf, advancedBy, advancedOf};
+ghost use Rattle.heat_battery.specs.Record.{replyShown, refusedShown, advancedOf};
 ghost use Rattle.heat_battery.specs.Entry.{WasAfter, openOf, lineAfter, entryRead, recordLaid, entryOf};
 
 // The version of the sheets that these entries write.
@@ -132,19 +133,32 @@ pub struct Advanced {
     pub shown: Shown,
 }
 
-fn advanced_by(a: Answer) -> Advanced
-    ensures { λ r. ⌜ r ≡ advancedBy a ⌝ }
+// What an answer shows.
+fn shown(a: Reply) -> Shown
+    ensures { λ r. ⌜ r ≡ replyShown a ⌝ }
 {
-    let battery = a.battery;
-    let shown = Shown {
+    Shown {
         refusal: a.refusal,
         mark: a.mark,
         substeps: a.substeps,
         energy: a.energy,
         outlet: a.outlet,
         time: a.time,
-    };
-    Advanced { battery, shown }
+    }
+}
+
+// What a refusal shows.
+fn refused_shown(refusal: u8) -> Shown
+    ensures { λ r. ⌜ r ≡ refusedShown refusal ⌝ }
+{
+    Shown {
+        refusal,
+        mark: 0,
+        substeps: 0,
+        energy: 0.0,
+        outlet: 0.0,
+        time: 0.0,
+    }
 }
 
 // The battery by value, and a call's bytes.
@@ -153,10 +167,28 @@ pub fn advance_battery(b: Battery, call: &[u8]) -> Advanced
 {
     let read = calls::read_call(VERSION, call);
     match read {
-        ReadCall::Bad => advanced_by(battery::refused(10, b)),
+        ReadCall::Bad => Advanced {
+            battery: b,
+            shown: refused_shown(10),
+        },
         ReadCall::Good(c) => {
-            let a = engine::steps::advance(VERSION, b, c);
-            advanced_by(a)
+            let l = battery::ledger_of(b);
+            let mut after = b;
+            let a = engine::steps::advance_in_place(VERSION, l, c, &mut after.zones);
+            if a.refusal == 0 {
+                after.total = a.totals.total;
+                after.pump = a.totals.pump;
+                after.direct = a.totals.direct;
+                after.charged = a.totals.charged;
+                after.electric = a.totals.electric;
+                let shown = shown(a);
+                return Advanced {
+                    battery: after,
+                    shown,
+                };
+            }
+            let shown = refused_shown(a.refusal);
+            Advanced { battery: b, shown }
         }
     }
 }
