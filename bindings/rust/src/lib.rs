@@ -7,7 +7,7 @@
 //! - [`Card`] describes a battery, [`Battery`] is one, a [`Call`] asks something of it and an
 //!   [`Answer`] has energy, outlet, zones and totals. [`Record`] is a battery as a record of
 //!   numbers, for long lists of calls.
-//! - [`Sheet`] is a battery with the sheet of its calls; [`audit`] gives the [`Verdict`] on a
+//! - [`Sheet`] is a battery with the sheet of its calls; [`audit()`] gives the [`Verdict`] on a
 //!   sheet, [`explain`] what lies behind it, [`read`] its card and lines.
 //! - [`text`] has cards and lists of calls as plain text, [`ffi`] the C entries as they stand.
 //!
