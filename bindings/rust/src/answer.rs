@@ -178,6 +178,6 @@ pub(crate) fn read_totals(bytes: &mut Cursor) -> Option<Totals> {
 
 pub(crate) fn write_state<const N: usize>(bytes: &mut Buffer<N>, zones: &[f64], totals: &Totals) {
     for number in zones.iter().chain(&totals.numbers()) {
-        bytes.push_number(*number);
+        bytes.put_number(*number);
     }
 }

@@ -1,9 +1,22 @@
-//! The C entries of libheat_battery.a as they stand, behind safe functions. [`Battery`](crate::Battery),
-//! [`Record`](crate::Record) and [`Sheet`](crate::Sheet) are made of them.
+//! The C entries of libheat_battery.a as they stand, behind safe functions.
 //!
 //! The only unsafe code is here. Each entry is proved to read and write nothing but what it is
 //! lent, for any bytes and numbers in it. Slices of Rust are apart and of the length they say,
-//! which is all that it asks. include/heat_battery.h has the entries' words.
+//! which is all that it asks. [`Battery`](crate::Battery), [`Record`](crate::Record) and
+//! [`Sheet`](crate::Sheet) are made of these functions; include/heat_battery.h has every length
+//! and refusal.
+//!
+//! ```
+//! use heat_battery::{ffi, Card};
+//!
+//! let mut record = [0; 198 + 8 * 8]; // of eight layers
+//! let mut sheet = [0; 161 + 72 + 8 * 8 + 1];
+//! let (opening, line) = sheet.split_at_mut(161);
+//! assert_eq!(ffi::open(&Card::example().to_bytes(), &mut record, opening), 0);
+//! assert_eq!(ffi::call(&mut record, &[9], line), 10); // there is no kind 9
+//! assert_eq!(ffi::call(&mut record, &[4], line), 0); // standing loss
+//! assert_eq!(ffi::audit(&sheet), 256); // accepted, one line
+//! ```
 
 use crate::answer::MOST_LAYERS;
 use std::mem::{align_of, offset_of, size_of};
