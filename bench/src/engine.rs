@@ -64,7 +64,7 @@ impl Crate {
     /// The sum of energies, refusals and the first zone.
     pub fn list(&self) -> f64 {
         let mut sum = 0.0;
-        let mut record = self.start;
+        let mut record = self.start.clone();
         for call in &self.calls {
             sum += match record.advance(call) {
                 Ok(answer) => answer.energy,

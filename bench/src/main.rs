@@ -104,7 +104,7 @@ fn contenders(row: &Row) -> Vec<(&'static str, Runner<'_>)> {
     vec![
         ("published", rounds_of(move || published.list(black_box(&row.calls)))),
         ("stand-ins", rounds_of(move || stand_ins.list(black_box(&row.calls)))),
-        ("plain", rounds_of(plain)),
+        ("plain Rust", rounds_of(plain)),
         ("plain C", rounds_of(move || plain_c.list(black_box(&row.calls)))),
         ("engine", rounds_of(move || black_box(&engine).list().0)),
         ("crate", rounds_of(move || black_box(&wrapped).list())),
@@ -163,7 +163,7 @@ fn check(row: &Row) -> u64 {
 const RATIOS: [(&str, &str); 6] = [
     ("engine", "published"),
     ("engine", "stand-ins"),
-    ("engine", "plain"),
+    ("engine", "plain Rust"),
     ("engine", "plain C"),
     ("crate", "published"),
     ("crate", "plain C"),

@@ -27,7 +27,7 @@ use std::fmt;
 /// assert_eq!(Battery::from(&record), battery);
 /// # Ok::<(), Refusal>(())
 /// ```
-#[derive(Clone, Copy, PartialEq)]
+#[derive(Clone, PartialEq)]
 pub struct Record(ffi::Battery);
 
 impl Record {
@@ -68,7 +68,7 @@ impl Record {
     /// use heat_battery::{Call, Card, Record, Refusal};
     ///
     /// let mut record = Record::open(&Card::example())?;
-    /// let before = record;
+    /// let before = record.clone();
     /// let charge = Call::Electric { power: -1.0, target: 1.0 };
     /// assert_eq!(record.advance(&charge), Err(Refusal::CallField));
     /// assert_eq!(record, before);

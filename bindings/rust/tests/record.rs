@@ -167,7 +167,7 @@ fn answer_bits(answer: &Answer) -> Vec<u64> {
 
 /// One call on both; the refusal.
 fn call_both(record: &mut Record, battery: &mut Battery, call: &Call) -> u8 {
-    let mut again = *record;
+    let mut again = record.clone();
     let (shown, expected) = (record.answer(call), battery.answer(call));
     assert_eq!(shown.as_ref().map(answer_bits), expected.as_ref().map(answer_bits), "{call:?}");
     assert_eq!(Battery::from(&*record).as_bytes(), battery.as_bytes(), "{call:?}");
