@@ -1,20 +1,30 @@
-//! Links libheat_battery.a from the folder that HEAT_BATTERY_LIB names, else from the repository's
-//! target/staticlib.
+//! Makes libplain_c.a of plain_c/heat_battery.c with the system's C compiler, or the one that CC
+//! names.
 
 use std::env;
 use std::path::PathBuf;
+use std::process::Command;
+
+const SOURCE: &str = "plain_c/heat_battery.c";
+
+/// As fast as C gets without changing a result.
+const FLAGS: [&str; 7] =
+    ["-std=c99", "-O3", "-ffp-contract=off", "-march=x86-64", "-fPIE", "-Wall", "-Wextra"];
+
+fn run(command: &mut Command) {
+    let status = command.status().unwrap_or_else(|error| panic!("{command:?}: {error}"));
+    assert!(status.success(), "{command:?}: {status}");
+}
 
 fn main() {
-    let manifest = PathBuf::from(env::var_os("CARGO_MANIFEST_DIR").expect("cargo sets it"));
-    let folder = match env::var_os("HEAT_BATTERY_LIB") {
-        Some(folder) => PathBuf::from(folder),
-        None => manifest.join("../target/staticlib"),
-    };
-    let library = folder.join("libheat_battery.a");
-    assert!(library.is_file(), "no {}: run rt staticlib heat_battery", library.display());
-    println!("cargo:rerun-if-env-changed=HEAT_BATTERY_LIB");
-    println!("cargo:rerun-if-changed={}", library.display());
+    let out = PathBuf::from(env::var_os("OUT_DIR").expect("cargo sets it"));
+    let (object, archive) = (out.join("plain_c.o"), out.join("libplain_c.a"));
+    let compiler = env::var_os("CC").unwrap_or("cc".into());
+    run(Command::new(compiler).args(FLAGS).args(["-c", SOURCE, "-o"]).arg(&object));
+    run(Command::new("ar").arg("crs").arg(&archive).arg(&object));
+    println!("cargo:rerun-if-env-changed=CC");
+    println!("cargo:rerun-if-changed={SOURCE}");
     println!("cargo:rerun-if-changed=build.rs");
-    println!("cargo:rustc-link-search=native={}", folder.display());
-    println!("cargo:rustc-link-lib=static=heat_battery");
+    println!("cargo:rustc-link-search=native={}", out.display());
+    println!("cargo:rustc-link-lib=static=plain_c");
 }

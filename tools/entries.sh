@@ -1,6 +1,6 @@
 #!/bin/sh
 # Compares the C entries, called from C and from Rust, with the oracle's independent ones: results, lines, records, verdicts and
-# every byte that must stay. From C each call is made on the caller's own record too.
+# every byte that must stay. The entry on the caller's own record is compared with the one on bytes: answer, zones and totals.
 #
 #   tools/entries.sh [COUNT [SEED]]     100,000 inputs of the entries and a tenth as many sheets, seed 1
 #
@@ -23,3 +23,6 @@ export HEAT_BATTERY_LIB="$archive"
 echo "from Rust:"
 cargo run --release --offline --quiet -p entries -- entries --count "$count" --seed "$seed" --steps judge
 cargo run --release --offline --quiet -p entries -- audit --count $((count / 10)) --seed "$seed" --steps judge
+echo "from Rust, on the caller's own record:"
+cd ../bindings/rust
+HEAT_BATTERY_CALLS=$count HEAT_BATTERY_SEED=$seed cargo test --offline --quiet --test record -- --nocapture

@@ -1,66 +1,16 @@
-//! Our engine through the C entries of libheat_battery.a, as include/heat_battery.h has them.
+//! Our engine: its C entries as they stand, and the Rust crate over them.
 
-use oracle::model::{Battery, Call};
+use heat_battery::{ffi, Record};
+use oracle::model::{Battery, Call, Card};
 use oracle::sheet;
 
-const MOST_LAYERS: usize = 64;
-
-#[repr(C)]
-#[derive(Clone, Copy)]
-struct Card {
-    layers: u8,
-    units: u16,
-    simultaneous: u8,
-    budget: u16,
-    /// Substep to power, in the header's order.
-    numbers: [f64; 19],
+fn calls_bytes(calls: &[Call]) -> Vec<Vec<u8>> {
+    calls.iter().map(sheet::call_bytes).collect()
 }
 
-#[repr(C)]
-#[derive(Clone, Copy)]
-struct Record {
-    card: Card,
-    zones: [f64; MOST_LAYERS],
-    count: u8,
-    totals: [f64; 5],
-}
-
-const _: () = assert!(size_of::<Card>() == 160 && size_of::<Record>() == 720);
-
-#[repr(C)]
-struct Shown {
-    refusal: u8,
-    mark: u8,
-    substeps: u32,
-    energy: f64,
-    outlet: f64,
-    time: f64,
-}
-
-extern "C" {
-    fn heat_battery_advance(battery: *mut Record, call: *const u8, call_len: usize) -> Shown;
-    fn heat_battery_open(
-        card: *const u8,
-        card_len: usize,
-        record: *mut u8,
-        record_len: usize,
-        sheet: *mut u8,
-        sheet_len: usize,
-    ) -> u8;
-    fn heat_battery_call(
-        record: *mut u8,
-        record_len: usize,
-        call: *const u8,
-        call_len: usize,
-        sheet: *mut u8,
-        sheet_len: usize,
-    ) -> u8;
-    fn heat_battery_audit(sheet: *const u8, sheet_len: usize) -> u64;
-}
-
-/// A battery and a list of calls, on the caller's own record.
+/// A battery and a list of calls, on the caller's own record, by heat_battery_advance.
 pub struct Engine {
-    start: Record,
+    start: ffi::Battery,
     calls: Vec<Vec<u8>>,
 }
 
@@ -68,20 +18,20 @@ impl Engine {
     pub fn new(battery: &Battery, calls: &[Call]) -> Self {
         let card = &battery.card;
         let zones = &battery.state.zones;
-        let mut start = Record {
-            card: Card {
+        let mut start = ffi::Battery {
+            card: ffi::Card {
                 layers: card.layers,
                 units: card.units,
                 simultaneous: card.simultaneous,
                 budget: card.budget,
                 numbers: card.numbers(),
             },
-            zones: [0.0; MOST_LAYERS],
+            zones: [0.0; heat_battery::MOST_LAYERS],
             count: card.layers,
             totals: battery.state.totals.numbers(),
         };
         start.zones[..zones.len()].copy_from_slice(zones);
-        Engine { start, calls: calls.iter().map(sheet::call_bytes).collect() }
+        Engine { start, calls: calls_bytes(calls) }
     }
 
     /// The list from the start on: the sum of energies, refusals and the first zone, and the substeps.
@@ -89,12 +39,39 @@ impl Engine {
         let (mut sum, mut substeps) = (0.0, 0);
         let mut battery = self.start;
         for call in &self.calls {
-            // SAFETY: the record and the call's bytes are whole and apart, and live for the call.
-            let shown = unsafe { heat_battery_advance(&mut battery, call.as_ptr(), call.len()) };
+            let shown = ffi::advance(&mut battery, call);
             sum = sum + shown.energy + f64::from(shown.refusal);
             substeps += u64::from(shown.substeps);
         }
         (sum + battery.zones[0], substeps)
+    }
+}
+
+/// The same by the crate's types.
+pub struct Crate {
+    start: Record,
+    calls: Vec<heat_battery::Call>,
+}
+
+impl Crate {
+    pub fn new(battery: &Battery, calls: &[Call]) -> Self {
+        let bytes = sheet::battery_bytes(battery);
+        let start = heat_battery::Battery::from_bytes(&bytes).expect("a good battery");
+        let read = |call: &Vec<u8>| heat_battery::Call::from_bytes(call).expect("a call");
+        Crate { start: Record::from(&start), calls: calls_bytes(calls).iter().map(read).collect() }
+    }
+
+    /// The sum of energies, refusals and the first zone.
+    pub fn list(&self) -> f64 {
+        let mut sum = 0.0;
+        let mut record = self.start.clone();
+        for call in &self.calls {
+            sum += match record.advance(call) {
+                Ok(answer) => answer.energy,
+                Err(refusal) => f64::from(refusal.number()),
+            };
+        }
+        sum + record.zones()[0]
     }
 }
 
@@ -107,8 +84,8 @@ pub struct Day {
 }
 
 impl Day {
-    pub fn new(card: &oracle::model::Card, calls: &[Call]) -> Self {
-        let calls: Vec<Vec<u8>> = calls.iter().map(sheet::call_bytes).collect();
+    pub fn new(card: &Card, calls: &[Call]) -> Self {
+        let calls = calls_bytes(calls);
         let lines: usize =
             calls.iter().map(|call| 2 + call.len() + sheet::answer_length(card.layers)).sum();
         Day {
@@ -127,30 +104,10 @@ impl Day {
     pub fn write(&mut self) -> u8 {
         let Day { card, calls, record, sheet } = self;
         let answer = record.len() - card.len() + sheet::ANSWER_HEAD_BYTES;
-        // SAFETY: the slices are whole and apart, and live for the call.
-        let mut result = unsafe {
-            heat_battery_open(
-                card.as_ptr(),
-                card.len(),
-                record.as_mut_ptr(),
-                record.len(),
-                sheet.as_mut_ptr(),
-                sheet.len(),
-            )
-        };
+        let mut result = ffi::open(card, record, sheet);
         let mut free = &mut sheet[sheet::OPENING_BYTES..];
         for call in calls.iter() {
-            // SAFETY: as above.
-            result = unsafe {
-                heat_battery_call(
-                    record.as_mut_ptr(),
-                    record.len(),
-                    call.as_ptr(),
-                    call.len(),
-                    free.as_mut_ptr(),
-                    free.len(),
-                )
-            };
+            result = ffi::call(record, call, free);
             free = &mut free[2 + call.len() + answer..];
         }
         result
@@ -158,7 +115,6 @@ impl Day {
 
     /// The audit's verdict on the sheet.
     pub fn audit(&self) -> u64 {
-        // SAFETY: as above.
-        unsafe { heat_battery_audit(self.sheet.as_ptr(), self.sheet.len()) }
+        ffi::audit(&self.sheet)
     }
 }

@@ -1,14 +1,16 @@
-//! The published Rust and our engine on the same lists of calls, in one run.
+//! The published Rust, plain C and our engine on the same lists of calls, in one run.
 //!
 //!   bench                       every row: substeps per second and ratios; then the audit
 //!   bench ROW CONTENDER ROUNDS  that many rounds of one row, for callgrind
 
 mod engine;
+mod plain_c;
 mod rows;
 
-use engine::{Day, Engine};
+use engine::{Crate, Day, Engine};
 use oracle::entries;
 use oracle::model::{Battery, Call, Card, Demand, Hydronic, State, Totals};
+use plain_c::PlainC;
 use published::Published;
 use rows::Row;
 use stand_ins::Published as StandIns;
@@ -96,12 +98,16 @@ fn contenders(row: &Row) -> Vec<(&'static str, Runner<'_>)> {
     let battery = oracle_battery(&row.start);
     let calls = oracle_calls(row);
     let engine = Engine::new(&battery, &calls);
+    let wrapped = Crate::new(&battery, &calls);
+    let mut plain_c = PlainC::new(&row.start);
     let plain = move || oracle_list(oracle::plain::step, black_box(&battery), black_box(&calls)).0;
     vec![
         ("published", rounds_of(move || published.list(black_box(&row.calls)))),
         ("stand-ins", rounds_of(move || stand_ins.list(black_box(&row.calls)))),
-        ("plain", rounds_of(plain)),
+        ("plain Rust", rounds_of(plain)),
+        ("plain C", rounds_of(move || plain_c.list(black_box(&row.calls)))),
         ("engine", rounds_of(move || black_box(&engine).list().0)),
+        ("crate", rounds_of(move || black_box(&wrapped).list())),
     ]
 }
 
@@ -153,19 +159,32 @@ fn check(row: &Row) -> u64 {
     substeps
 }
 
-fn measure(row: &Row) {
+/// Whose rates are divided by whose in the second table.
+const RATIOS: [(&str, &str); 6] = [
+    ("engine", "published"),
+    ("engine", "stand-ins"),
+    ("engine", "plain Rust"),
+    ("engine", "plain C"),
+    ("crate", "published"),
+    ("crate", "plain C"),
+];
+
+/// Measures a row and prints its rates; its line of the second table.
+fn measure(row: &Row) -> String {
     let substeps = check(row);
-    let rates: Vec<f64> =
-        times(&mut contenders(row)).iter().map(|time| substeps as f64 / time).collect();
-    let ours = rates[rates.len() - 1];
+    let mut all = contenders(row);
+    let best = times(&mut all);
     print!("{:33}{substeps:>8}", row.name);
-    for rate in &rates {
-        print!("{rate:>14.0}");
-    }
-    for rate in &rates[..rates.len() - 1] {
-        print!("{:>12.2}", ours / rate);
+    for time in &best {
+        print!("{:>14.0}", substeps as f64 / time);
     }
     println!();
+    let time = |name: &str| {
+        let found = all.iter().zip(&best).find(|((contender, _), _)| *contender == name);
+        *found.expect("a contender").1
+    };
+    let ratios = RATIOS.map(|(ours, other)| format!(" {:.2} |", time(other) / time(ours)));
+    format!("| {} | {substeps} |{}", row.name, ratios.concat())
 }
 
 /// A row's card and calls from a fresh battery on: the sheet is the judge's, and accepted.
@@ -186,26 +205,35 @@ fn day(row: &Row) -> Day {
     day
 }
 
-/// The audit of a row's sheet against the calls that wrote it.
+/// The audit of a row's sheet against the calls that wrote it, and the same calls on the record.
 fn measure_audit(row: &Row) {
     let audited = day(row);
     let mut written = day(row);
+    let fresh = Battery::fresh(&oracle_battery(&row.start).card);
+    let engine = Engine::new(&fresh, &oracle_calls(row));
     let lines = audited.lines();
     let best = times(&mut [
-        ("calls", rounds_of(move || f64::from(black_box(&mut written).write()))),
         ("audit", rounds_of(move || black_box(&audited).audit() as f64)),
+        ("calls", rounds_of(move || f64::from(black_box(&mut written).write()))),
+        ("engine", rounds_of(move || black_box(&engine).list().0)),
     ]);
+    let rates: Vec<f64> = best.iter().map(|time| lines as f64 / time).collect();
     println!(
-        "\n{:33}{:>8}{:>14}{:>14}{:>12}\n{:33}{lines:>8}{:>14.0}{:>14.0}{:>12.2}",
+        "\n{:33}{:>8}{:>14}{:>14}{:>14}\n{:33}{lines:>8}{:>14.0}{:>14.0}{:>14.0}",
         "lines per second",
         "lines",
-        "calls",
         "audit",
-        "audit time",
+        "calls",
+        "engine",
         row.name,
-        lines as f64 / best[0],
-        lines as f64 / best[1],
-        best[1] / best[0]
+        rates[0],
+        rates[1],
+        rates[2],
+    );
+    println!(
+        "the audit's time: {:.2} of the calls on bytes, {:.2} of the calls on the record",
+        best[0] / best[1],
+        best[0] / best[2]
     );
 }
 
@@ -219,23 +247,20 @@ fn main() {
         println!("{}", run(rounds.parse().expect("a number of rounds")));
         return;
     }
-    println!(
-        "{:33}{:>8}{:>14}{:>14}{:>14}{:>14}{:>12}{:>12}{:>12}",
-        "substeps per second",
-        "substeps",
-        "published",
-        "stand-ins",
-        "plain Rust",
-        "engine",
-        "/published",
-        "/stand-ins",
-        "/plain"
-    );
     let chosen = |row: &&Row| words.first().is_none_or(|name| row.name.starts_with(name.as_str()));
-    for row in rows.iter().filter(chosen) {
-        measure(row);
+    let rows: Vec<&Row> = rows.iter().filter(chosen).collect();
+    print!("{:33}{:>8}", "substeps per second", "substeps");
+    for (name, _) in rows.first().map_or(vec![], |row| contenders(row)) {
+        print!("{name:>14}");
     }
-    for row in rows.iter().filter(chosen).filter(|row| row.name.starts_with("winter day")) {
+    println!();
+    let lines: Vec<String> = rows.iter().map(|row| measure(row)).collect();
+    let heads = RATIOS.map(|(ours, other)| format!(" {ours} / {other} |"));
+    println!("\n| row | substeps |{}\n|{}", heads.concat(), "---|".repeat(2 + RATIOS.len()));
+    for line in lines {
+        println!("{line}");
+    }
+    for row in rows.iter().filter(|row| row.name.starts_with("winter day")) {
         measure_audit(row);
     }
 }

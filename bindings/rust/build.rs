@@ -27,19 +27,23 @@ fn make(root: &Path) -> PathBuf {
     }
 }
 
+/// The folder of an archive that is there.
+fn given(folder: PathBuf) -> PathBuf {
+    println!("cargo:rerun-if-changed={}", folder.join(ARCHIVE).display());
+    folder
+}
+
 fn main() {
     println!("cargo:rerun-if-env-changed=HEAT_BATTERY_LIB");
     println!("cargo:rerun-if-changed=build.rs");
     let manifest = PathBuf::from(env::var_os("CARGO_MANIFEST_DIR").unwrap_or_default());
     let folder = match env::var_os("HEAT_BATTERY_LIB") {
-        Some(folder) => manifest.join(folder),
+        Some(folder) => given(manifest.join(folder)),
         None => make(&manifest.join("../..")),
     };
-    let archive = folder.join(ARCHIVE);
-    if !archive.is_file() {
-        stop(format!("no {}: HEAT_BATTERY_LIB names the folder that holds it", archive.display()));
+    if !folder.join(ARCHIVE).is_file() {
+        stop(format!("no {ARCHIVE} in {}, which HEAT_BATTERY_LIB names", folder.display()));
     }
-    println!("cargo:rerun-if-changed={}", archive.display());
     println!("cargo:rustc-link-search=native={}", folder.display());
     println!("cargo:rustc-link-lib=static=heat_battery");
 }

@@ -14,6 +14,7 @@ struct slice {
 };
 
 static FILE *file;
+static unsigned long own_calls; /* on the caller's own record */
 
 static void ended(const char *why) {
     fprintf(stderr, "%s\n", why);
@@ -106,8 +107,20 @@ static int same_battery(const struct heat_battery *x, const struct heat_battery 
         && memcmp(&x->total, &y->total, 5 * sizeof(double)) == 0;
 }
 
-/* The own record gives the byte entry's refusal and battery; it knows no 11, and no record of another length. */
-static int own_record_agrees(const uint8_t *before, size_t length, struct slice call, uint8_t result, struct slice after) {
+/* Whether an answer is the one on a line, whose refusal is at `line`; with 10 there is no line. */
+static int same_answer(struct heat_battery_shown shown, uint8_t result, const uint8_t *line) {
+    static const uint8_t none[30];
+    const uint8_t *head = (result == 10 ? none : line) + 1;
+    uint32_t substeps = (uint32_t)head[25] << 24 | (uint32_t)head[26] << 16 | (uint32_t)head[27] << 8 | head[28];
+    double numbers[3] = {number_at(head), number_at(head + 9), number_at(head + 17)};
+    double answers[3] = {shown.energy, shown.outlet, shown.time};
+    return shown.refusal == result && shown.mark == head[8] && shown.substeps == substeps
+        && memcmp(numbers, answers, sizeof numbers) == 0;
+}
+
+/* The own record gives the byte entry's answer and battery; it knows no 11, and no record of another length. */
+static int own_record_agrees(const uint8_t *before, size_t length, struct slice call, uint8_t result, struct slice after,
+                             struct slice sheet) {
     struct heat_battery b, expected;
     if (result == 11 || !is_record(before, length))
         return 1;
@@ -115,8 +128,9 @@ static int own_record_agrees(const uint8_t *before, size_t length, struct slice 
     battery_from(&expected, after.bytes);
     for (int i = b.count; i < 64; i++) /* places above the count stay */
         b.zones[i] = expected.zones[i] = i;
+    own_calls++;
     struct heat_battery_shown shown = heat_battery_advance(&b, call.bytes, call.length);
-    return shown.refusal == result && same_battery(&b, &expected);
+    return same_answer(shown, result, sheet.bytes + 2 + call.length) && same_battery(&b, &expected);
 }
 
 /* ---- cases */
@@ -143,7 +157,7 @@ static int replay_call(void) {
     same &= as_expected(record);
     same &= as_expected(sheet);
     same &= guarded(call);
-    same &= own_record_agrees(before, record.length, call, result, record);
+    same &= own_record_agrees(before, record.length, call, result, record, sheet);
     free(before);
     drop(record), drop(call), drop(sheet);
     return same;
@@ -167,6 +181,6 @@ int main(int argc, char **argv) {
         if (!same && wrong++ < 20)
             printf("case %lu disagrees (entry %d)\n", cases, entry);
     }
-    printf("%lu cases, %lu disagree\n", cases, wrong);
+    printf("%lu cases, %lu calls on the own record too, %lu disagree\n", cases, own_calls, wrong);
     return wrong == 0 ? 0 : 1;
 }

@@ -92,6 +92,12 @@ impl Totals {
             self.charged_electric,
         ]
     }
+
+    /// The five given in the order of a call line.
+    pub fn from_numbers(numbers: [f64; 5]) -> Totals {
+        let [running_hours, pump_hours, direct_hours, charged, charged_electric] = numbers;
+        Totals { running_hours, pump_hours, direct_hours, charged, charged_electric }
+    }
 }
 
 /// What a call line shows after its call.
@@ -163,17 +169,15 @@ pub(crate) fn read_zones(layers: u8, bytes: &mut Cursor) -> Option<Zones> {
 }
 
 pub(crate) fn read_totals(bytes: &mut Cursor) -> Option<Totals> {
-    Some(Totals {
-        running_hours: bytes.number()?,
-        pump_hours: bytes.number()?,
-        direct_hours: bytes.number()?,
-        charged: bytes.number()?,
-        charged_electric: bytes.number()?,
-    })
+    let mut numbers = [0.0; 5];
+    for place in &mut numbers {
+        *place = bytes.number()?;
+    }
+    Some(Totals::from_numbers(numbers))
 }
 
 pub(crate) fn write_state<const N: usize>(bytes: &mut Buffer<N>, zones: &[f64], totals: &Totals) {
     for number in zones.iter().chain(&totals.numbers()) {
-        bytes.push_number(*number);
+        bytes.put_number(*number);
     }
 }

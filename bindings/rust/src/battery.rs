@@ -90,10 +90,15 @@ impl Battery {
         if zones.len() != usize::from(card.layers) {
             return Err(Refusal::CallField);
         }
+        Battery::of(card, zones, totals).tested()
+    }
+
+    /// The bytes of a card, as many zones as its layers, and totals.
+    pub(crate) fn of(card: &Card, zones: &[f64], totals: &Totals) -> Battery {
         let mut record = Buffer::new();
         record.push(&card.to_bytes());
         write_state(&mut record, zones, totals);
-        Battery { card: *card, record }.tested()
+        Battery { card: *card, record }
     }
 
     /// A battery from the bytes of its card, zones and totals: 10 where it isn't good.
@@ -171,12 +176,20 @@ impl Battery {
 
 impl fmt::Debug for Battery {
     fn fmt(&self, f: &mut fmt::Formatter<'_>) -> fmt::Result {
-        f.debug_struct("Battery")
-            .field("card", &self.card)
-            .field("zones", &self.zones())
-            .field("totals", &self.totals())
-            .finish()
+        debug("Battery", &self.card, &self.zones(), &self.totals(), f)
     }
+}
+
+/// A battery by card, zones and totals.
+pub(crate) fn debug(
+    name: &str,
+    card: &Card,
+    zones: &[f64],
+    totals: &Totals,
+    f: &mut fmt::Formatter<'_>,
+) -> fmt::Result {
+    let mut shown = f.debug_struct(name);
+    shown.field("card", card).field("zones", &zones).field("totals", totals).finish()
 }
 
 /// The same card, zones and totals, as numbers.

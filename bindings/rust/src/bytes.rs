@@ -61,8 +61,20 @@ impl<const N: usize> Buffer<N> {
         self.used = (self.used + bytes.len()).min(N);
     }
 
-    pub fn push_number(&mut self, x: f64) {
-        self.push(&x.to_bits().to_be_bytes());
+    /// Adds as many bytes as their type says; nothing where they have no place.
+    #[inline]
+    pub fn put<const M: usize>(&mut self, bytes: [u8; M]) {
+        let free = self.bytes.get_mut(self.used..).unwrap_or_default();
+        if let Some(place) = free.first_chunk_mut() {
+            *place = bytes;
+            self.used += M;
+        }
+    }
+
+    /// Adds an f64 by its bits.
+    #[inline]
+    pub fn put_number(&mut self, x: f64) {
+        self.put(x.to_bits().to_be_bytes());
     }
 
     /// All N bytes, zeros where none were added.

@@ -183,37 +183,6 @@ impl Kind {
 
 /// The most bytes of a kind and its call fields.
 pub(crate) const MOST_BYTES: usize = 73;
-/// The most call fields.
-const MOST_FIELDS: usize = 9;
-
-/// A call's values, in place.
-struct Values {
-    places: [Value; MOST_FIELDS],
-    count: usize,
-}
-
-impl Values {
-    fn new(values: &[Value]) -> Values {
-        let mut places = [Value::Number(0.0); MOST_FIELDS];
-        for (place, value) in places.iter_mut().zip(values) {
-            *place = *value;
-        }
-        Values { places, count: values.len() }
-    }
-
-    fn numbers(numbers: &[f64]) -> Values {
-        let mut values = Values::new(&[]);
-        values.count = numbers.len();
-        for (place, number) in values.places.iter_mut().zip(numbers) {
-            *place = Value::Number(*number);
-        }
-        values
-    }
-
-    fn iter(&self) -> impl Iterator<Item = Value> + '_ {
-        self.places.iter().take(self.count).copied()
-    }
-}
 
 impl Call {
     /// The kind.
@@ -234,19 +203,20 @@ impl Call {
         matches!(self, Call::Demand { commit: false, .. })
     }
 
-    fn places(&self) -> Values {
+    /// Hands out the values in the order of the sheet.
+    #[inline]
+    fn each(&self, mut take: impl FnMut(Value)) {
+        let mut numbers = |numbers: &[f64]| numbers.iter().for_each(|x| take(Value::Number(*x)));
         match *self {
             Call::Demand { service, commit, control_on, required, start, return_temperature } => {
-                Values::new(&[
-                    Value::Service(service),
-                    Value::Flag(commit),
-                    Value::Flag(control_on),
-                    Value::Number(required),
-                    Value::Number(start),
-                    Value::Optional(return_temperature),
-                ])
+                take(Value::Service(service));
+                take(Value::Flag(commit));
+                take(Value::Flag(control_on));
+                take(Value::Number(required));
+                take(Value::Number(start));
+                take(Value::Optional(return_temperature));
             }
-            Call::Electric { power, target } => Values::numbers(&[power, target]),
+            Call::Electric { power, target } => numbers(&[power, target]),
             Call::Hydronic {
                 inlet,
                 hours,
@@ -257,19 +227,20 @@ impl Call {
                 hex_b,
                 velocity,
                 diameter,
-            } => Values::numbers(&[
-                inlet, hours, flow, target, limit, hex_a, hex_b, velocity, diameter,
-            ]),
-            Call::StandingLoss | Call::CloseTimestep | Call::StateOfCharge => Values::new(&[]),
+            } => numbers(&[inlet, hours, flow, target, limit, hex_a, hex_b, velocity, diameter]),
+            Call::StandingLoss | Call::CloseTimestep | Call::StateOfCharge => {}
             Call::ChargeEnergyDemand { flow_maximum, target } => {
-                Values::new(&[Value::Optional(flow_maximum), Value::Number(target)])
+                take(Value::Optional(flow_maximum));
+                take(Value::Number(target));
             }
         }
     }
 
     /// The fields with their values, in the order of the sheet.
     pub fn fields(&self) -> Vec<(&'static Field, Value)> {
-        self.kind().fields().iter().zip(self.places().iter()).collect()
+        let mut values = Vec::new();
+        self.each(|value| values.push(value));
+        self.kind().fields().iter().zip(values).collect()
     }
 
     /// The call of a kind with values in the order of [`Kind::fields`]; None where their
@@ -323,12 +294,11 @@ impl Call {
         words.map(|words| Fault { refusal: Refusal::CallField, words }).collect()
     }
 
+    #[inline]
     pub(crate) fn buffer(&self) -> Buffer<MOST_BYTES> {
         let mut bytes = Buffer::new();
-        bytes.push(&[self.kind().number()]);
-        for value in self.places().iter() {
-            value.write(&mut bytes);
-        }
+        bytes.put([self.kind().number()]);
+        self.each(|value| value.write(&mut bytes));
         bytes
     }
 

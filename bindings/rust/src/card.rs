@@ -168,7 +168,8 @@ impl Card {
         faults
     }
 
-    fn numbers(&self) -> [f64; NUMBERS] {
+    /// The 19 f64 in the order of [`Card::FIELDS`].
+    pub(crate) fn numbers(&self) -> [f64; NUMBERS] {
         [
             self.substep,
             self.timestep,
@@ -242,9 +243,20 @@ impl Card {
         };
         let numbers: Option<Vec<f64>> = rest.iter().map(Value::number).collect();
         let numbers = numbers?.try_into().ok()?;
+        Some(Card::of(layers, units, simultaneous, budget, numbers))
+    }
+
+    /// The card of its four counts and flags and its numbers, in the order of [`Card::FIELDS`].
+    pub(crate) fn of(
+        layers: u8,
+        units: u16,
+        simultaneous: bool,
+        budget: u16,
+        numbers: [f64; NUMBERS],
+    ) -> Card {
         let mut card = Card { layers, units, simultaneous, budget, ..Card::example() };
         card.set_numbers(numbers);
-        Some(card)
+        card
     }
 
     /// The card as in the sheet's line 0.

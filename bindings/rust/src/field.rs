@@ -107,16 +107,17 @@ impl fmt::Display for Fault {
 }
 
 impl Value {
+    #[inline]
     pub(crate) fn write<const N: usize>(&self, bytes: &mut Buffer<N>) {
         match *self {
-            Value::Byte(byte) => bytes.push(&[byte]),
-            Value::Short(short) => bytes.push(&short.to_be_bytes()),
-            Value::Flag(flag) => bytes.push(&[u8::from(flag)]),
-            Value::Service(service) => bytes.push(&[service.number()]),
-            Value::Number(x) => bytes.push_number(x),
+            Value::Byte(byte) => bytes.put([byte]),
+            Value::Short(short) => bytes.put(short.to_be_bytes()),
+            Value::Flag(flag) => bytes.put([u8::from(flag)]),
+            Value::Service(service) => bytes.put([service.number()]),
+            Value::Number(x) => bytes.put_number(x),
             Value::Optional(x) => {
-                bytes.push(&[u8::from(x.is_some())]);
-                bytes.push_number(x.unwrap_or(0.0));
+                bytes.put([u8::from(x.is_some())]);
+                bytes.put_number(x.unwrap_or(0.0));
             }
         }
     }

@@ -5,10 +5,11 @@
 //! its own: every figure comes from the static library libheat_battery.a.
 //!
 //! - [`Card`] describes a battery, [`Battery`] is one, a [`Call`] asks something of it and an
-//!   [`Answer`] has energy, outlet, zones and totals.
-//! - [`Sheet`] is a battery with the sheet of its calls; [`audit`] gives the [`Verdict`] on a
+//!   [`Answer`] has energy, outlet, zones and totals. [`Record`] is a battery as a record of
+//!   numbers, for long lists of calls.
+//! - [`Sheet`] is a battery with the sheet of its calls; [`audit()`] gives the [`Verdict`] on a
 //!   sheet, [`explain`] what lies behind it, [`read`] its card and lines.
-//! - [`text`] has cards and lists of calls as plain text.
+//! - [`text`] has cards and lists of calls as plain text, [`ffi`] the C entries as they stand.
 //!
 //! # Refusals
 //!
@@ -51,10 +52,11 @@ mod bytes;
 mod call;
 mod card;
 #[allow(unsafe_code)]
-mod ffi;
+pub mod ffi;
 mod field;
 mod ranges;
 mod reading;
+mod record;
 mod refusal;
 mod sheet;
 pub mod text;
@@ -66,6 +68,7 @@ pub use call::{Call, Kind};
 pub use card::Card;
 pub use field::{Fault, Field, ServiceType, Shape, Value};
 pub use reading::{read, Damage, Lines, VERSION};
+pub use record::Record;
 pub use refusal::Refusal;
 pub use sheet::Sheet;
 

@@ -32,6 +32,21 @@ fn the_example_card_is_the_template() {
     assert_eq!(text, Card::example().to_string());
 }
 
+/// The first Rust program of a page.
+fn program(page: &str) -> String {
+    let text = fs::read_to_string(examples().join(page)).unwrap();
+    let rest = text.split("```rust\n").nth(1).unwrap();
+    rest.split("```").next().unwrap().into()
+}
+
+/// The program of the repository's page is that of the crate's, which is run as a test.
+#[test]
+fn the_pages_show_one_program() {
+    let shown = program("../README.md");
+    assert_eq!(shown, program("../bindings/rust/README.md"));
+    assert!(shown.lines().count() <= 20);
+}
+
 /// The hex columns of the annotated lines, in order, are the sheet's bytes.
 #[test]
 fn the_format_page_shows_the_two_line_sheet() {

@@ -20,9 +20,7 @@ pub fn call(call: &model::Call) -> Call {
 
 /// The battery by its state and by its bytes, which are the same.
 pub fn battery(battery: &model::Battery) -> Battery {
-    let [running_hours, pump_hours, direct_hours, charged, charged_electric] =
-        battery.state.totals.numbers();
-    let totals = Totals { running_hours, pump_hours, direct_hours, charged, charged_electric };
+    let totals = Totals::from_numbers(battery.state.totals.numbers());
     let card = card(&battery.card);
     let read = Battery::with_state(&card, &battery.state.zones, &totals).expect("a good battery");
     let bytes = sheet::battery_bytes(battery);
@@ -32,7 +30,7 @@ pub fn battery(battery: &model::Battery) -> Battery {
     read
 }
 
-fn bits(numbers: &[f64]) -> Vec<u64> {
+pub fn bits(numbers: &[f64]) -> Vec<u64> {
     numbers.iter().map(|x| x.to_bits()).collect()
 }
 

@@ -1,0 +1,135 @@
+//! A battery as a record of numbers.
+
+use crate::answer::{Answer, Totals, Zones};
+use crate::battery::{debug, Battery};
+use crate::call::Call;
+use crate::card::Card;
+use crate::ffi;
+use crate::refusal::Refusal;
+use std::fmt;
+
+/// A battery as a record of numbers, laid out as C's `struct heat_battery`: the quickest way
+/// through many calls, since nothing is written to bytes and read back between them.
+///
+/// It gives the answers of [`Battery`] to the bit. It is made from a card or from a battery, so
+/// it is always a good one, and turns into a battery again.
+///
+/// ```
+/// use heat_battery::{Battery, Call, Card, Record, Refusal};
+///
+/// let mut record = Record::open(&Card::example())?;
+/// let mut battery = Battery::open(&Card::example())?;
+/// for call in [Call::Electric { power: 3.0, target: 1.0 }, Call::StandingLoss] {
+///     assert_eq!(record.advance(&call)?, battery.call(&call)?);
+/// }
+/// assert_eq!(*record.zones(), *battery.zones());
+/// assert!(record.totals().charged > 0.0);
+/// assert_eq!(Battery::from(&record), battery);
+/// # Ok::<(), Refusal>(())
+/// ```
+#[derive(Clone, PartialEq)]
+pub struct Record(ffi::Battery);
+
+impl Record {
+    /// A fresh battery: all zones at the card's start, totals 0. Refusals 1 to 4.
+    ///
+    /// ```
+    /// use heat_battery::{Card, Record, Refusal};
+    ///
+    /// let record = Record::open(&Card::example())?;
+    /// assert_eq!(*record.zones(), [58.0; 8]);
+    /// let card = Card { max: 20.0, ..Card::example() };
+    /// assert_eq!(Record::open(&card).err(), Some(Refusal::MaxTooLow));
+    /// # Ok::<(), Refusal>(())
+    /// ```
+    pub fn open(card: &Card) -> Result<Record, Refusal> {
+        Battery::open(card).map(|battery| Record::from(&battery))
+    }
+
+    /// The card.
+    pub fn card(&self) -> Card {
+        let ffi::Card { layers, units, simultaneous, budget, numbers } = self.0.card;
+        Card::of(layers, units, simultaneous == 1, budget, numbers)
+    }
+
+    /// Zone temperatures, °C.
+    pub fn zones(&self) -> &[f64] {
+        self.0.zones.get(..usize::from(self.0.count)).unwrap_or_default()
+    }
+
+    /// The five totals.
+    pub fn totals(&self) -> Totals {
+        Totals::from_numbers(self.0.totals)
+    }
+
+    /// Advances the battery by a call. Refusals 10 and 20 to 25; the battery is then as it was.
+    ///
+    /// ```
+    /// use heat_battery::{Call, Card, Record, Refusal};
+    ///
+    /// let mut record = Record::open(&Card::example())?;
+    /// let before = record.clone();
+    /// let charge = Call::Electric { power: -1.0, target: 1.0 };
+    /// assert_eq!(record.advance(&charge), Err(Refusal::CallField));
+    /// assert_eq!(record, before);
+    /// # Ok::<(), Refusal>(())
+    /// ```
+    #[inline]
+    pub fn advance(&mut self, call: &Call) -> Result<Answer, Refusal> {
+        self.answer(call)?.result()
+    }
+
+    /// Advances the battery by a call and gives what its line would show: one of 20 to 25 is
+    /// an answer with its refusal, only 10 is an error.
+    #[inline]
+    pub fn answer(&mut self, call: &Call) -> Result<Answer, Refusal> {
+        let shown = ffi::advance(&mut self.0, &call.buffer());
+        match Refusal::from_number(shown.refusal) {
+            Some(refusal) if !refusal.is_line() => Err(refusal),
+            refusal => Ok(Answer {
+                refusal,
+                energy: shown.energy,
+                outlet: (shown.mark == 1).then_some(shown.outlet),
+                time: shown.time,
+                substeps: shown.substeps,
+                zones: Zones::new(self.zones()).unwrap_or(Zones::EMPTY),
+                totals: self.totals(),
+            }),
+        }
+    }
+}
+
+impl From<&Battery> for Record {
+    fn from(battery: &Battery) -> Record {
+        let card = battery.card();
+        let read = battery.zones();
+        let mut zones = [0.0; crate::MOST_LAYERS];
+        for (place, zone) in zones.iter_mut().zip(read.iter()) {
+            *place = *zone;
+        }
+        Record(ffi::Battery {
+            card: ffi::Card {
+                layers: card.layers,
+                units: card.units,
+                simultaneous: u8::from(card.simultaneous),
+                budget: card.budget,
+                numbers: card.numbers(),
+            },
+            zones,
+            count: card.layers,
+            totals: battery.totals().numbers(),
+        })
+    }
+}
+
+impl From<&Record> for Battery {
+    fn from(record: &Record) -> Battery {
+        Battery::of(&record.card(), record.zones(), &record.totals())
+    }
+}
+
+impl fmt::Debug for Record {
+    fn fmt(&self, f: &mut fmt::Formatter<'_>) -> fmt::Result {
+        debug("Record", &self.card(), self.zones(), &self.totals(), f)
+    }
+}

@@ -1,0 +1,214 @@
+//! The caller's own record against the byte entry: the same answer, zones and totals, bit for
+//! bit, and the same refusals.
+
+mod common;
+
+use common::{battery, bits};
+use heat_battery::{ffi, Answer, Battery, Call, Record, Refusal};
+use oracle::random::Random;
+use oracle::{generate, raw, reading, sheet};
+use std::collections::BTreeMap;
+
+/// A number that a variable sets.
+fn set(name: &str, otherwise: u64) -> u64 {
+    let set = std::env::var(name).ok();
+    set.map_or(otherwise, |text| text.parse().unwrap_or_else(|_| panic!("{name} is a number")))
+}
+
+/// Calls to compare: 100,000, or as many as the variable HEAT_BATTERY_CALLS says.
+fn calls() -> u64 {
+    set("HEAT_BATTERY_CALLS", 100_000)
+}
+
+/// Seed 1, or what the variable HEAT_BATTERY_SEED says.
+fn random() -> Random {
+    Random::new(set("HEAT_BATTERY_SEED", 1))
+}
+
+/// How often each refusal was given, 0 for none.
+#[derive(Default)]
+struct Counts(BTreeMap<u8, u64>);
+
+impl Counts {
+    fn add(&mut self, refusal: u8) {
+        *self.0.entry(refusal).or_default() += 1;
+    }
+
+    fn all(&self) -> u64 {
+        self.0.values().sum()
+    }
+
+    /// Prints them; every refusal of a call occurred, if there were many.
+    fn end(&self, what: &str) {
+        println!("{what}: {} calls, 0 disagreements, by refusal {:?}", self.all(), self.0);
+        for refusal in [0, 10, 20, 21, 22, 23, 24, 25] {
+            let found = self.0.contains_key(&refusal);
+            assert!(found || self.all() < 20_000, "no call with {refusal}");
+        }
+    }
+}
+
+// ---- The C entries, on any bytes
+
+fn number_at(bytes: &[u8]) -> f64 {
+    f64::from_bits(u64::from_be_bytes(bytes.try_into().expect("eight bytes")))
+}
+
+fn short_at(bytes: &[u8], at: usize) -> u16 {
+    u16::from_be_bytes([bytes[at], bytes[at + 1]])
+}
+
+/// What stands in the places above the count.
+const ABOVE: f64 = 12.5;
+
+/// The record of any bytes that are as long as a record of their first byte, up to 64 layers.
+fn own(bytes: &[u8]) -> Option<ffi::Battery> {
+    let layers = *bytes.first().filter(|layers| **layers <= 64)?;
+    if bytes.len() != sheet::record_length(layers) {
+        return None;
+    }
+    let mut numbers = bytes[6..].chunks_exact(8).map(number_at);
+    let mut next = || numbers.next().expect("a number");
+    let card = ffi::Card {
+        layers,
+        units: short_at(bytes, 1),
+        simultaneous: bytes[3],
+        budget: short_at(bytes, 4),
+        numbers: std::array::from_fn(|_| next()),
+    };
+    let zones = std::array::from_fn(|k| if k < usize::from(layers) { next() } else { ABOVE });
+    Some(ffi::Battery { card, zones, count: layers, totals: std::array::from_fn(|_| next()) })
+}
+
+/// Every bit of a record.
+fn record_bits(battery: &ffi::Battery) -> Vec<u64> {
+    let ffi::Card { layers, units, simultaneous, budget, numbers } = battery.card;
+    let counts = [layers.into(), units.into(), simultaneous.into(), budget.into()];
+    let floats = numbers.iter().chain(&battery.zones).chain(&battery.totals).map(|x| x.to_bits());
+    counts.into_iter().chain([u64::from(battery.count)]).chain(floats).collect()
+}
+
+/// Refusal, energy, outlet's mark, outlet, time and substeps of a line, as on the sheet.
+fn shown_bytes(shown: &ffi::Shown) -> Vec<u8> {
+    let ffi::Shown { refusal, mark, substeps, energy, outlet, time } = *shown;
+    let mut bytes = vec![refusal];
+    bytes.extend(energy.to_bits().to_be_bytes());
+    bytes.push(mark);
+    bytes.extend(outlet.to_bits().to_be_bytes());
+    bytes.extend(time.to_bits().to_be_bytes());
+    bytes.extend(substeps.to_be_bytes());
+    bytes
+}
+
+/// The two entries on one record and call: their refusal, and the record that they left. None
+/// where the bytes are of no record's length.
+fn compare(record: &[u8], call: &[u8]) -> Option<(u8, Vec<u8>)> {
+    let mut ours = own(record)?;
+    let mut record = record.to_vec();
+    let mut line = vec![0; 2 + call.len() + sheet::answer_length(ours.count)];
+    let result = ffi::call(&mut record, call, &mut line);
+    let shown = ffi::advance(&mut ours, call);
+    let head = &line[2 + call.len()..][..sheet::ANSWER_HEAD_BYTES];
+    let head = if result == 10 { shown_bytes(&refused(10)) } else { head.to_vec() };
+    assert_eq!(shown_bytes(&shown), head, "{record:?} {call:?}");
+    let after = own(&record).expect("a record of the same length");
+    assert_eq!(record_bits(&ours), record_bits(&after), "{record:?} {call:?}");
+    Some((result, record))
+}
+
+/// What a refused call shows.
+fn refused(refusal: u8) -> ffi::Shown {
+    ffi::Shown { refusal, mark: 0, substeps: 0, energy: 0.0, outlet: 0.0, time: 0.0 }
+}
+
+/// Lists with damaged records and calls between the good ones.
+#[test]
+fn the_two_entries_agree_on_any_bytes() {
+    let mut random = random();
+    let mut counts = Counts::default();
+    while counts.all() < calls() {
+        let card = generate::card(&mut random);
+        let mut theirs = generate::battery(&mut random, &card);
+        for _ in 0..generate::list_length(&mut random) {
+            let input = raw::calling(&mut random, &theirs);
+            let Some((refusal, after)) = compare(&input.record, &input.call) else { continue };
+            counts.add(refusal);
+            // A list goes on from its last good battery.
+            theirs = reading::battery(&after).unwrap_or(theirs);
+        }
+    }
+    counts.end("the C entries");
+}
+
+/// A count that is not the card's layers is refused with 10, and nothing is changed.
+#[test]
+fn another_count_is_refused() {
+    let card = generate::points_card();
+    let bytes = sheet::battery_bytes(&oracle::model::Battery::fresh(&card));
+    for count in (0..=255).filter(|count| *count != card.layers) {
+        let mut battery = own(&bytes).expect("a record");
+        battery.count = count;
+        let before = record_bits(&battery);
+        assert_eq!(ffi::advance(&mut battery, &[4]), refused(10));
+        assert_eq!(record_bits(&battery), before);
+    }
+}
+
+// ---- Record and Battery
+
+fn answer_bits(answer: &Answer) -> Vec<u64> {
+    let refusal = answer.refusal.map_or(0, |refusal| refusal.number());
+    let mut all = vec![refusal.into(), answer.substeps.into(), answer.outlet.is_some().into()];
+    all.extend(bits(&[answer.energy, answer.outlet.unwrap_or(0.0), answer.time]));
+    all.extend(bits(&answer.zones));
+    all.extend(bits(&answer.totals.numbers()));
+    all
+}
+
+/// One call on both; the refusal.
+fn call_both(record: &mut Record, battery: &mut Battery, call: &Call) -> u8 {
+    let mut again = record.clone();
+    let (shown, expected) = (record.answer(call), battery.answer(call));
+    assert_eq!(shown.as_ref().map(answer_bits), expected.as_ref().map(answer_bits), "{call:?}");
+    assert_eq!(Battery::from(&*record).as_bytes(), battery.as_bytes(), "{call:?}");
+    let result = again.advance(call);
+    assert_eq!(result.is_ok(), matches!(shown, Ok(Answer { refusal: None, .. })));
+    assert!(again == *record, "{call:?}");
+    result.err().map_or(0, |refusal| refusal.number())
+}
+
+/// Lists of typed calls, out of range now and then.
+#[test]
+fn a_record_answers_as_a_battery() {
+    let mut random = random();
+    let mut counts = Counts::default();
+    while counts.all() < calls() {
+        let card = generate::card(&mut random);
+        let theirs = generate::battery(&mut random, &card);
+        let mut ours = battery(&theirs);
+        let mut record = Record::from(&ours);
+        assert_eq!(record.card().to_bytes(), ours.card().to_bytes());
+        for _ in 0..generate::list_length(&mut random) {
+            let now = reading::battery(ours.as_bytes()).expect("a good battery");
+            let Ok(call) = Call::from_bytes(&raw::calling(&mut random, &now).call) else {
+                continue;
+            };
+            counts.add(call_both(&mut record, &mut ours, &call));
+        }
+    }
+    counts.end("Record and Battery");
+}
+
+/// Refusals 1 to 4 as for a battery, and the fresh one.
+#[test]
+fn a_record_opens_as_a_battery() {
+    let mut random = random();
+    for _ in 0..calls() {
+        let drawn = sheet::card_bytes(&generate::any_card(&mut random));
+        let Ok(card) = heat_battery::Card::from_bytes(&drawn) else { continue };
+        let opened = Record::open(&card).map(|record| Battery::from(&record).as_bytes().to_vec());
+        let expected: Result<Vec<u8>, Refusal> =
+            Battery::open(&card).map(|battery| battery.as_bytes().to_vec());
+        assert_eq!(opened, expected);
+    }
+}
