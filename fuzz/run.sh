@@ -51,6 +51,7 @@ fuzz() {
     )
 }
 
+findings() { find "$1/found" -type f -name 'crash-*' | wc -l; }
 executions() { sed -n 's/^stat::number_of_executed_units: *//p' "$1/log"; }
 
 # Each fault, from inputs that are all accepted or answered: broken TARGET FAULT..
@@ -62,11 +63,12 @@ broken() {
         rm -rf "$folder"
         made "$folder" "$target" sound
         start=$(date +%s)
-        if HEAT_BATTERY_FAULT=$fault fuzz "$folder" 120 -seed=1; then
+        HEAT_BATTERY_FAULT=$fault fuzz "$folder" 120 -seed=1 || true
+        if [ "$(findings "$folder")" -eq 1 ]; then
+            echo "$target, fault $fault: found after $(executions "$folder") executions, $(($(date +%s) - start)) s"
+        else
             echo "$target, fault $fault: NOT FOUND"
             missed=$((missed + 1))
-        else
-            echo "$target, fault $fault: found after $(executions "$folder") executions, $(($(date +%s) - start)) s"
         fi
     done
 }
@@ -84,19 +86,18 @@ target=$1 seconds=$2
 shift 2
 folder=made/$target
 made "$folder" "$target" all
-before=$(find "$folder/found" -type f | wc -l)
+before=$(findings "$folder")
 failed=0
 fuzz "$folder" "$seconds" "$@" || failed=1
 cat "$folder/answers"
-found=$(($(find "$folder/found" -type f | wc -l) - before))
+found=$(($(findings "$folder") - before))
 if [ $failed -ne 0 ]; then
     grep -v -E 'NEW|REDUCE|pulse|^"' "$folder/log" | tail -25
     echo "the inputs are in fuzz/$folder/found"
 fi
 reached=$(sed -n 's/.* cov: \([0-9]*\) .*/\1/p' "$folder/log" | tail -1)
-places=$(sed -n 's/.*Loaded 1 modules *(\([0-9]*\) inline.*/\1/p' "$folder/log")
 compared=$(sed -n 's/^\([0-9]*\) inputs, .*/\1/p' "$folder/answers")
 seed=$(sed -n 's/^INFO: Seed: //p' "$folder/log")
-echo "$target: $seconds s, $(executions "$folder") executions, ${compared:-?} answers compared, corpus" \
-    "$(find "$folder/corpus" -type f | wc -l), reached $reached of $places places of referee and harness, $found findings (seed $seed)"
+echo "$target: $seconds s, $(executions "$folder") executions, ${compared:-?} answers compared, $found disagreements;" \
+    "corpus $(find "$folder/corpus" -type f | wc -l) inputs, $reached edges of referee and harness, seed $seed"
 exit $failed

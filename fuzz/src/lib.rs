@@ -36,12 +36,12 @@ extern "C" fn print_report() {
     }
 }
 
-/// libFuzzer's own change of bytes, of which there are then at most `most`.
+/// libFuzzer's own change of bytes, of which there are then at most `most` and twice as many.
 pub fn mutated(bytes: &[u8], most: usize) -> Vec<u8> {
     let size = bytes.len().min(most);
     let mut room = bytes[..size].to_vec();
-    room.resize(most.max(1), 0);
-    // SAFETY: `room` has at least `most` bytes, of which the first `size` are an input.
+    room.resize(most.min(2 * size + 64).max(1), 0);
+    // SAFETY: the first `size` bytes of `room` are an input, and its length is said.
     let size = unsafe { LLVMFuzzerMutate(room.as_mut_ptr(), size, room.len()) };
     room.truncate(size);
     room
