@@ -10,10 +10,9 @@ set -eu
 here=$(cd "$(dirname "$0")" && pwd)
 usage() { sed -n '4,5s/^# *//p' "$here/run.sh" >&2; exit 2; }
 
-[ $# -ge 1 ] || usage
-case $1 in
-    entries | audit) [ $# -ge 2 ] && [ "$2" -gt 0 ] || usage ;;
-    --broken) [ $# -eq 1 ] || usage ;;
+case ${1-} in
+    entries | audit) [ "${2:-0}" -gt 0 ] || usage ;;
+    --broken) ;;
     *) usage ;;
 esac
 

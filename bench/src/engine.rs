@@ -1,41 +1,8 @@
 //! Our engine through the C entries of libheat_battery.a, as include/heat_battery.h has them.
 
 use oracle::model::{Battery, Call};
+use oracle::own::{Record, Shown};
 use oracle::sheet;
-
-const MOST_LAYERS: usize = 64;
-
-#[repr(C)]
-#[derive(Clone, Copy)]
-struct Card {
-    layers: u8,
-    units: u16,
-    simultaneous: u8,
-    budget: u16,
-    /// Substep to power, in the header's order.
-    numbers: [f64; 19],
-}
-
-#[repr(C)]
-#[derive(Clone, Copy)]
-struct Record {
-    card: Card,
-    zones: [f64; MOST_LAYERS],
-    count: u8,
-    totals: [f64; 5],
-}
-
-const _: () = assert!(size_of::<Card>() == 160 && size_of::<Record>() == 720);
-
-#[repr(C)]
-struct Shown {
-    refusal: u8,
-    mark: u8,
-    substeps: u32,
-    energy: f64,
-    outlet: f64,
-    time: f64,
-}
 
 extern "C" {
     fn heat_battery_advance(battery: *mut Record, call: *const u8, call_len: usize) -> Shown;
@@ -66,22 +33,8 @@ pub struct Engine {
 
 impl Engine {
     pub fn new(battery: &Battery, calls: &[Call]) -> Self {
-        let card = &battery.card;
-        let zones = &battery.state.zones;
-        let mut start = Record {
-            card: Card {
-                layers: card.layers,
-                units: card.units,
-                simultaneous: card.simultaneous,
-                budget: card.budget,
-                numbers: card.numbers(),
-            },
-            zones: [0.0; MOST_LAYERS],
-            count: card.layers,
-            totals: battery.state.totals.numbers(),
-        };
-        start.zones[..zones.len()].copy_from_slice(zones);
-        Engine { start, calls: calls.iter().map(sheet::call_bytes).collect() }
+        let calls = calls.iter().map(sheet::call_bytes).collect();
+        Engine { start: Record::from(battery), calls }
     }
 
     /// The list from the start on: the sum of energies, refusals and the first zone, and the substeps.

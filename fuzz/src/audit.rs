@@ -3,7 +3,7 @@
 
 use crate::change;
 use crate::input::Input;
-use crate::tested::{self, Tested};
+use crate::tested;
 use oracle::auditor::MOST_BYTES;
 use oracle::compare::{check_sheet, Report};
 use oracle::damage::{self, Known, Sheet};
@@ -18,7 +18,7 @@ pub fn check(bytes: &[u8], report: &mut Report) {
         return;
     }
     let sheet = Sheet { what: "a sheet", bytes: bytes.to_vec(), known: Known::From(0) };
-    check_sheet(&Tested::new(), tested::referee(), &sheet, report);
+    check_sheet(&tested::library(), tested::referee(), &sheet, report);
 }
 
 /// Card and calls of a sheet, as far as its lines have a kind and a length.

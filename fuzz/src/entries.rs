@@ -3,7 +3,7 @@
 
 use crate::change;
 use crate::input::{filled, Input};
-use crate::tested::{self, Tested};
+use crate::tested;
 use oracle::compare::{check_advance, check_call, check_open, Report};
 use oracle::generate::points_card;
 use oracle::model::{Battery, State, Totals};
@@ -15,7 +15,7 @@ use oracle::sheet::{self, CARD_BYTES};
 
 pub fn check(bytes: &[u8], report: &mut Report) {
     let input = Input::read(bytes);
-    let (library, step) = (Tested::new(), tested::referee());
+    let (library, step) = (tested::library(), tested::referee());
     let opening = Opening {
         card: input.card.clone(),
         record: filled(input.record),

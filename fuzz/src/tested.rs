@@ -27,12 +27,10 @@ pub enum Tested {
     Faulty(Faulty),
 }
 
-impl Tested {
-    pub fn new() -> Self {
-        match FAULT.as_deref() {
-            None | Some("" | IN_REFEREE) => Tested::Linked,
-            Some(name) => Tested::Faulty(Faulty::named(name)),
-        }
+pub fn library() -> Tested {
+    match FAULT.as_deref() {
+        None | Some("" | IN_REFEREE) => Tested::Linked,
+        Some(name) => Tested::Faulty(Faulty::named(name)),
     }
 }
 

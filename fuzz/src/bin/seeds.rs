@@ -2,7 +2,7 @@
 
 use fuzz::change;
 use fuzz::input::{Called, Input};
-use oracle::arguments::Arguments;
+use oracle::arguments::{ended, Arguments};
 use oracle::auditor::MOST_BYTES;
 use oracle::damage;
 use oracle::entries;
@@ -125,11 +125,5 @@ fn run() -> Result<(), String> {
 }
 
 fn main() -> ExitCode {
-    match run() {
-        Ok(()) => ExitCode::SUCCESS,
-        Err(message) => {
-            eprintln!("{message}");
-            ExitCode::FAILURE
-        }
-    }
+    ended(run())
 }
