@@ -69,10 +69,11 @@ fn call(random: &mut Random, call: &mut Vec<u8>, battery: &Battery) {
     let kind = call.first().copied().unwrap_or(0);
     let whole = sheet::call_length(kind) == Some(call.len());
     let numbers = fields::numbers(kind, timestep);
-    match random.below(8) {
+    match random.below(9) {
         0 => *call = drawn(random, battery),
         1 => *call = crate::mutated(call, call.len() + 2),
         2 if whole => fields::break_call(random, call, timestep),
+        8 if whole && kind == 3 => equalize(random, call, battery.card.layers),
         3 | 4 => in_place(call),
         _ if whole && !numbers.is_empty() => {
             let (at, range) = random.pick(&numbers);
@@ -83,6 +84,13 @@ fn call(random: &mut Random, call: &mut Vec<u8>, battery: &Battery) {
         }
         _ => *call = drawn(random, battery),
     }
+}
+
+/// A hydronic charge's exchanger that brings the water to each zone's temperature.
+fn equalize(random: &mut Random, call: &mut [u8], layers: u8) {
+    let flow = fields::number_at(call, 17);
+    fields::put_number(call, 41, 0.0);
+    fields::put_number(call, 49, random.near(generate::equalizing_b(layers, flow)));
 }
 
 fn drawn(random: &mut Random, battery: &Battery) -> Vec<u8> {
