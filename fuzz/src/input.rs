@@ -55,8 +55,9 @@ fn put_number(bytes: &mut Vec<u8>, number: u16) {
 }
 
 fn put_slice(bytes: &mut Vec<u8>, slice: &[u8]) {
-    put_number(bytes, u16::try_from(slice.len()).expect("lent bytes are few"));
-    bytes.extend(slice);
+    let length = u16::try_from(slice.len()).unwrap_or(u16::MAX);
+    put_number(bytes, length);
+    bytes.extend(&slice[..usize::from(length)]);
 }
 
 impl Input {
