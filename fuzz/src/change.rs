@@ -1,7 +1,7 @@
 //! Changes of an input that know its parts: fields on the edges of their ranges, drawn calls and
 //! records, room that just fits; and libFuzzer's own changes within one part.
 
-use crate::input::{Called, Input};
+use crate::input::{Called, Input, MOST_CALLS};
 use oracle::fields;
 use oracle::generate;
 use oracle::model::Battery;
@@ -13,8 +13,6 @@ use oracle::sheet::{self, CARD_BYTES, OPENING_BYTES};
 
 /// The most zones times substeps that an input may call for, so that none takes long.
 const MOST_WORK: usize = 4_000_000;
-/// The most calls to which one is added.
-const MOST_CALLS: u64 = 24;
 
 /// How many calls a list of that card may have, at least one.
 fn calls_of(card: &[u8]) -> usize {
@@ -130,16 +128,23 @@ pub fn line_length(call: &[u8], layers: u8) -> usize {
 
 /// A call with room for its line.
 pub fn called(call: Vec<u8>, layers: u8) -> Called {
-    let room = line_length(&call, layers) as u16;
-    Called { call, room, ..Called::default() }
+    let mut called = Called { call, ..Called::default() };
+    fit(&mut called, layers);
+    called
 }
 
-/// Adds, repeats, removes, swaps or changes a call.
+/// Room for a call's line.
+fn fit(called: &mut Called, layers: u8) {
+    let layers = called.record.first().copied().unwrap_or(layers);
+    called.room = line_length(&called.call, layers) as u16;
+}
+
+/// Adds, repeats, removes, swaps or changes a call, or removes those without a kind.
 pub fn one_call(random: &mut Random, input: &mut Input) {
     let battery = battery(&input.card);
     let calls = &mut input.calls;
     let count = calls.len() as u64;
-    if count == 0 || (count < MOST_CALLS && random.one_in(6)) {
+    if count == 0 || (calls.len() < MOST_CALLS && random.one_in(6)) {
         let at = random.below(count + 1) as usize;
         let new = called(drawn(random, &battery), battery.card.layers);
         calls.insert(at, new);
@@ -152,7 +157,13 @@ pub fn one_call(random: &mut Random, input: &mut Input) {
         }
         1 => calls.insert(at, calls[at].clone()),
         2 => calls.swap(at, random.below(count) as usize),
-        _ => call(random, &mut calls[at].call, &battery),
+        3 => calls.retain(|called| !called.call.is_empty()),
+        _ => {
+            call(random, &mut calls[at].call, &battery);
+            if !random.one_in(4) {
+                fit(&mut calls[at], battery.card.layers);
+            }
+        }
     }
 }
 
@@ -170,14 +181,22 @@ fn one_lent(random: &mut Random, input: &mut Input) {
             called.room = room(random, line_length(&called.call, layers));
         }
         2 => called.count = random.pick(&[0, 0, 1, 2, 63, 64, 65, 255]),
-        _ => record(random, &mut called.record, &battery),
+        _ => {
+            record(random, &mut called.record, &battery);
+            fit(called, battery.card.layers);
+        }
     }
 }
 
 /// One change of any part.
 pub fn input(random: &mut Random, input: &mut Input) {
     match random.below(10) {
-        0 => card(random, &mut input.card),
+        0 => {
+            card(random, &mut input.card);
+            let layers = input.card.first().copied().unwrap_or(1);
+            input.record = sheet::record_length(layers) as u16;
+            input.calls.iter_mut().for_each(|called| fit(called, layers));
+        }
         1 => {
             let layers = input.card.first().copied().unwrap_or(1);
             input.record = room(random, sheet::record_length(layers));

@@ -4,10 +4,12 @@
 //! the lengths of record and sheet that opening is lent; then for each call the call (a slice),
 //! the length of its sheet, the count of the caller's own record (0: the card's layers), and a
 //! record handed in (a slice; empty: the one that the last call left). Bytes that end early stand
-//! for zeros and for slices that are cut.
+//! for zeros and for slices that are cut; what stands behind 24 calls is left out.
 
 /// The most bytes of a record or sheet that are lent.
 const MOST_LENT: u16 = 1024;
+/// The most calls of a list.
+pub const MOST_CALLS: usize = 24;
 
 pub struct Input {
     pub card: Vec<u8>,
@@ -69,7 +71,7 @@ impl Input {
             room: cursor.number() % MOST_LENT,
             calls: Vec::new(),
         };
-        while !cursor.0.is_empty() {
+        while !cursor.0.is_empty() && input.calls.len() < MOST_CALLS {
             input.calls.push(Called {
                 call: cursor.slice(),
                 room: cursor.number() % MOST_LENT,
