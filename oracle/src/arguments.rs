@@ -2,6 +2,7 @@
 
 use crate::compare::Report;
 use crate::entries::{self, Step};
+use std::process::ExitCode;
 
 /// Words that are no options, and options with their values.
 pub struct Arguments {
@@ -55,5 +56,16 @@ pub fn show(report: &Report) -> Result<(), String> {
     match report.is_clean() {
         true => Ok(()),
         false => Err("the comparison failed".to_string()),
+    }
+}
+
+/// How a command ends: an error is printed.
+pub fn ended(result: Result<(), String>) -> ExitCode {
+    match result {
+        Ok(()) => ExitCode::SUCCESS,
+        Err(message) => {
+            eprintln!("{message}");
+            ExitCode::FAILURE
+        }
     }
 }

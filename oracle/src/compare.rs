@@ -7,6 +7,7 @@ use crate::entries::{self, Step};
 use crate::generate;
 use crate::library::Library;
 use crate::model::Battery;
+use crate::own::{self, Record, Shown};
 use crate::random::Random;
 use crate::raw::{self, Calling, Opening};
 use crate::reading;
@@ -144,7 +145,8 @@ fn failure(what: &str, read: &[u8], lent: &Outcome, ours: &Outcome, theirs: &Out
 
 // ---- Entries
 
-fn check_open(library: &impl Library, input: &Opening, report: &mut Report) {
+/// Compares an opening.
+pub fn check_open(library: &impl Library, input: &Opening, report: &mut Report) {
     let lend = || Outcome::lend(&input.record, &input.sheet, &input.card);
     let (mut ours, mut theirs) = (lend(), lend());
     ours.result = entries::open(ours.read.bytes(), ours.record.bytes_mut(), ours.sheet.bytes_mut());
@@ -157,7 +159,7 @@ fn check_open(library: &impl Library, input: &Opening, report: &mut Report) {
 }
 
 /// Compares a call; the battery that the independent entry left.
-fn check_call(
+pub fn check_call(
     library: &impl Library,
     step: Step,
     input: &Calling,
@@ -174,6 +176,46 @@ fn check_call(
         failure("call", &input.call, &lend(), &ours, &theirs)
     });
     reading::battery(ours.record.bytes())
+}
+
+/// The caller's own record with guards around it.
+#[repr(C)]
+struct Guarded {
+    before: [u8; GUARD],
+    record: Record,
+    after: [u8; GUARD],
+}
+
+/// Compares a call on the caller's own record.
+pub fn check_advance(
+    advance: impl Fn(&mut Record, &[u8]) -> Shown,
+    step: Step,
+    record: &Record,
+    call: &[u8],
+    report: &mut Report,
+) {
+    let guard = [GUARD_BYTE; GUARD];
+    let mut ours = *record;
+    let expected = own::advance(step, &mut ours, call);
+    let lent = Lent::new(call);
+    let mut theirs = Guarded { before: guard, record: *record, after: guard };
+    let shown = advance(&mut theirs.record, lent.bytes());
+    report.add("advance", expected.refusal);
+    let same = shown.words() == expected.words()
+        && theirs.record.words() == ours.words()
+        && (theirs.before, theirs.after) == (guard, guard)
+        && lent == Lent::new(call);
+    report.fail(true, same, || {
+        format!(
+            "advance\n  call {}\n  record {:x?}\n  independent: {:x?}\n    record {:x?}\n  library: {:x?}\n    record {:x?}",
+            hex(call),
+            record.words(),
+            expected.words(),
+            ours.words(),
+            shown.words(),
+            theirs.record.words()
+        )
+    });
 }
 
 /// Compares `open` and `call` on at least `count` inputs, in lists.
@@ -195,7 +237,8 @@ pub fn entries(library: &impl Library, step: Step, count: u64, seed: u64) -> Rep
 
 // ---- Audit
 
-fn check_sheet(library: &impl Library, step: Step, sheet: &Sheet, report: &mut Report) {
+/// Compares the verdicts on a sheet.
+pub fn check_sheet(library: &impl Library, step: Step, sheet: &Sheet, report: &mut Report) {
     let verdict = auditor::audit_by(step, &sheet.bytes);
     let ours = auditor::limited(&sheet.bytes, |_| verdict);
     let lent = Lent::new(&sheet.bytes);

@@ -314,7 +314,7 @@ fn demand(random: &mut Random, card: &Card) -> Call {
 }
 
 /// b that brings the water of a layer to the zone's temperature.
-fn equalizing_b(layers: u8, flow: f64) -> f64 {
+pub fn equalizing_b(layers: u8, flow: f64) -> f64 {
     2.0 * flow / 60.0 * 4184.0 * f64::from(layers)
 }
 

@@ -14,6 +14,7 @@ pub mod fields;
 pub mod generate;
 pub mod library;
 pub mod model;
+pub mod own;
 pub mod plain;
 pub mod random;
 pub mod ranges;

@@ -1,6 +1,6 @@
 //! The oracle's commands.
 
-use oracle::arguments::{show, Arguments};
+use oracle::arguments::{ended, show, Arguments};
 use oracle::library::Independent;
 use oracle::{cases, compare, cross, judge, plain, sheets, vectors};
 use std::path::Path;
@@ -65,11 +65,5 @@ fn run() -> Result<(), String> {
 }
 
 fn main() -> ExitCode {
-    match run() {
-        Ok(()) => ExitCode::SUCCESS,
-        Err(message) => {
-            eprintln!("{message}");
-            ExitCode::FAILURE
-        }
-    }
+    ended(run())
 }

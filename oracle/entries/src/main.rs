@@ -3,7 +3,7 @@
 mod linked;
 
 use linked::Linked;
-use oracle::arguments::{show, Arguments};
+use oracle::arguments::{ended, show, Arguments};
 use oracle::{compare, plain};
 use std::process::ExitCode;
 
@@ -29,11 +29,5 @@ fn run() -> Result<(), String> {
 }
 
 fn main() -> ExitCode {
-    match run() {
-        Ok(()) => ExitCode::SUCCESS,
-        Err(message) => {
-            eprintln!("{message}");
-            ExitCode::FAILURE
-        }
-    }
+    ended(run())
 }

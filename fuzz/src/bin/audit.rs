@@ -1,0 +1,4 @@
+//! The target of the audit.
+#![no_main]
+
+fuzz::target!(audit);

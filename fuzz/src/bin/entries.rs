@@ -1,0 +1,4 @@
+//! The target of the C entries.
+#![no_main]
+
+fuzz::target!(entries);

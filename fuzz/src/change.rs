@@ -1,0 +1,208 @@
+//! Changes of an input that know its parts: fields on the edges of their ranges, drawn calls and
+//! records, room that just fits; and libFuzzer's own changes within one part.
+
+use crate::input::{Called, Input, MOST_CALLS};
+use oracle::fields;
+use oracle::generate;
+use oracle::model::Battery;
+use oracle::plain;
+use oracle::random::Random;
+use oracle::ranges;
+use oracle::reading;
+use oracle::sheet::{self, CARD_BYTES, OPENING_BYTES};
+
+/// The most zones times substeps that an input may call for, so that none takes long.
+const MOST_WORK: usize = 4_000_000;
+
+/// How many calls a list of that card may have, at least one.
+fn calls_of(card: &[u8]) -> usize {
+    let work = match card {
+        [layers, _, _, _, high, low, ..] => {
+            usize::from(*layers) * usize::from(u16::from_be_bytes([*high, *low]))
+        }
+        _ => 0,
+    };
+    (MOST_WORK / work.max(1)).max(1)
+}
+
+/// How many calls of an input are made: as few as its dearest card allows.
+pub fn affordable(input: &Input) -> usize {
+    let records = input.calls.iter().map(|called| called.record.as_slice());
+    records.chain([input.card.as_slice()]).map(calls_of).min().unwrap_or(1)
+}
+
+/// The fresh battery of a card, or of one that is accepted.
+pub fn battery(card: &[u8]) -> Battery {
+    let read = reading::card(card).filter(|card| plain::card_refusal(card) == 0);
+    Battery::fresh(&read.unwrap_or_else(generate::points_card))
+}
+
+/// libFuzzer's own change of bytes, in their length.
+fn in_place(bytes: &mut Vec<u8>) {
+    let length = bytes.len();
+    if length > 0 {
+        *bytes = crate::mutated(bytes, length);
+        bytes.resize(length, 0);
+    }
+}
+
+/// Changes one field of a card, or takes another card.
+pub fn card(random: &mut Random, card: &mut Vec<u8>) {
+    match random.below(8) {
+        0 => *card = sheet::card_bytes(&generate::card(random)),
+        1 => *card = sheet::card_bytes(&generate::any_card(random)),
+        2 => *card = crate::mutated(card, CARD_BYTES + 2),
+        3 => in_place(card),
+        _ if card.len() == CARD_BYTES => {
+            let at = random.below(19) as usize;
+            fields::put_number(card, 6 + 8 * at, random.within(ranges::CARD[at]));
+        }
+        _ => card.resize(CARD_BYTES, 0),
+    }
+}
+
+/// Changes one field of a call, or takes another call.
+fn call(random: &mut Random, call: &mut Vec<u8>, battery: &Battery) {
+    let timestep = battery.card.timestep;
+    let kind = call.first().copied().unwrap_or(0);
+    let whole = sheet::call_length(kind) == Some(call.len());
+    let numbers = fields::numbers(kind, timestep);
+    match random.below(9) {
+        0 => *call = drawn(random, battery),
+        1 => *call = crate::mutated(call, call.len() + 2),
+        2 if whole => fields::break_call(random, call, timestep),
+        8 if whole && kind == 3 => equalize(random, call, battery.card.layers),
+        3 | 4 => in_place(call),
+        _ if whole && !numbers.is_empty() => {
+            let (at, range) = random.pick(&numbers);
+            if fields::mark(kind).is_some_and(|mark| mark + 1 == at) {
+                call[at - 1] = 1;
+            }
+            fields::put_number(call, at, random.within(range));
+        }
+        _ => *call = drawn(random, battery),
+    }
+}
+
+/// A hydronic charge's exchanger that brings the water to each zone's temperature.
+fn equalize(random: &mut Random, call: &mut [u8], layers: u8) {
+    let flow = fields::number_at(call, 17);
+    fields::put_number(call, 41, 0.0);
+    fields::put_number(call, 49, random.near(generate::equalizing_b(layers, flow)));
+}
+
+fn drawn(random: &mut Random, battery: &Battery) -> Vec<u8> {
+    sheet::call_bytes(&generate::next_call(random, battery))
+}
+
+/// Hands a record in, changes a number of the one handed in, or takes it back.
+fn record(random: &mut Random, record: &mut Vec<u8>, battery: &Battery) {
+    let card = &battery.card;
+    match random.below(6) {
+        0 => record.clear(),
+        1 => *record = crate::mutated(record, record.len() + 2),
+        2 => in_place(record),
+        _ if record.len() >= CARD_BYTES + 8 => {
+            let at = random.below((record.len() - CARD_BYTES) as u64 / 8) as usize;
+            let number = generate::any_zone(random, card);
+            fields::put_number(record, CARD_BYTES + 8 * at, number);
+        }
+        _ => *record = sheet::battery_bytes(&generate::battery(random, card)),
+    }
+}
+
+/// Room that just fits, or nearly so, or any.
+fn room(random: &mut Random, needed: usize) -> u16 {
+    let room = match random.below(6) {
+        0 => needed - 1,
+        1 => needed + 1,
+        2 => random.below(needed as u64 + 64) as usize,
+        _ => needed,
+    };
+    room as u16
+}
+
+pub fn line_length(call: &[u8], layers: u8) -> usize {
+    2 + call.len() + sheet::answer_length(layers)
+}
+
+/// A call with room for its line.
+pub fn called(call: Vec<u8>, layers: u8) -> Called {
+    let mut called = Called { call, ..Called::default() };
+    fit(&mut called, layers);
+    called
+}
+
+/// Room for a call's line.
+fn fit(called: &mut Called, layers: u8) {
+    let layers = called.record.first().copied().unwrap_or(layers);
+    called.room = line_length(&called.call, layers) as u16;
+}
+
+/// Adds, repeats, removes, swaps or changes a call, or removes those without a kind.
+pub fn one_call(random: &mut Random, input: &mut Input) {
+    let battery = battery(&input.card);
+    let calls = &mut input.calls;
+    let count = calls.len() as u64;
+    if count == 0 || (calls.len() < MOST_CALLS && random.one_in(6)) {
+        let at = random.below(count + 1) as usize;
+        let new = called(drawn(random, &battery), battery.card.layers);
+        calls.insert(at, new);
+        return;
+    }
+    let at = random.below(count) as usize;
+    match random.below(10) {
+        0 => {
+            calls.remove(at);
+        }
+        1 => calls.insert(at, calls[at].clone()),
+        2 => calls.swap(at, random.below(count) as usize),
+        3 => calls.retain(|called| !called.call.is_empty()),
+        _ => {
+            call(random, &mut calls[at].call, &battery);
+            if !random.one_in(4) {
+                fit(&mut calls[at], battery.card.layers);
+            }
+        }
+    }
+}
+
+/// Changes the room, record or count that a call is lent.
+fn one_lent(random: &mut Random, input: &mut Input) {
+    let battery = battery(&input.card);
+    let count = input.calls.len() as u64;
+    if count == 0 {
+        return;
+    }
+    let called = &mut input.calls[random.below(count) as usize];
+    match random.below(8) {
+        0 | 1 => {
+            let layers = called.record.first().copied().unwrap_or(battery.card.layers);
+            called.room = room(random, line_length(&called.call, layers));
+        }
+        2 => called.count = random.pick(&[0, 0, 1, 2, 63, 64, 65, 255]),
+        _ => {
+            record(random, &mut called.record, &battery);
+            fit(called, battery.card.layers);
+        }
+    }
+}
+
+/// One change of any part.
+pub fn input(random: &mut Random, input: &mut Input) {
+    match random.below(10) {
+        0 => {
+            card(random, &mut input.card);
+            let layers = input.card.first().copied().unwrap_or(1);
+            input.record = sheet::record_length(layers) as u16;
+            input.calls.iter_mut().for_each(|called| fit(called, layers));
+        }
+        1 => {
+            let layers = input.card.first().copied().unwrap_or(1);
+            input.record = room(random, sheet::record_length(layers));
+            input.room = room(random, OPENING_BYTES);
+        }
+        2..=4 => one_lent(random, input),
+        _ => one_call(random, input),
+    }
+}

@@ -1,0 +1,81 @@
+//! The target of heat_battery_open, heat_battery_call and heat_battery_advance: an opening, then
+//! a list of calls, each on bytes and on the caller's own record.
+
+use crate::change;
+use crate::input::{filled, Input};
+use crate::tested;
+use oracle::compare::{check_advance, check_call, check_open, Report};
+use oracle::generate::points_card;
+use oracle::model::{Battery, State, Totals};
+use oracle::own::{Record, MOST_LAYERS};
+use oracle::random::Random;
+use oracle::raw::{Calling, Known, Opening};
+use oracle::reading;
+use oracle::sheet::{self, CARD_BYTES};
+
+pub fn check(bytes: &[u8], report: &mut Report) {
+    let input = Input::read(bytes);
+    let (library, step) = (tested::library(), tested::referee());
+    let opening = Opening {
+        card: input.card.clone(),
+        record: filled(input.record),
+        sheet: filled(input.room),
+        known: Known::Nothing,
+    };
+    check_open(&library, &opening, report);
+    let mut battery = change::battery(&input.card);
+    let calls = change::affordable(&input);
+    for called in input.calls.into_iter().take(calls) {
+        let handed_in = !called.record.is_empty();
+        let record = if handed_in { called.record } else { sheet::battery_bytes(&battery) };
+        let count = u8::try_from(called.count).unwrap_or(u8::MAX);
+        check_advance(tested::advance, step, &own(&record, count), &called.call, report);
+        let sheet = filled(called.room);
+        let calling = Calling { record, call: called.call, sheet, known: Known::Nothing };
+        battery = check_call(&library, step, &calling, report).unwrap_or(battery);
+    }
+}
+
+/// The caller's own record of a record's bytes; what they lack is 0. Places above the count have
+/// numbers that must stay.
+fn own(bytes: &[u8], count: u8) -> Record {
+    let mut whole = bytes.to_vec();
+    whole.resize(bytes.len().max(CARD_BYTES), 0);
+    let card = reading::card(&whole[..CARD_BYTES]).expect("a card's length");
+    let mut numbers = whole[CARD_BYTES..]
+        .chunks_exact(8)
+        .map(|eight| f64::from_bits(u64::from_be_bytes(eight.try_into().expect("eight bytes"))));
+    let layers = usize::from(card.layers).min(MOST_LAYERS);
+    let zones = numbers.by_ref().take(layers).collect();
+    let mut total = || numbers.next().unwrap_or(0.0);
+    let totals = Totals {
+        running_hours: total(),
+        pump_hours: total(),
+        direct_hours: total(),
+        charged: total(),
+        charged_electric: total(),
+    };
+    let mut record = Record::from(&Battery { card, state: State { zones, totals } });
+    for (at, place) in record.zones.iter_mut().enumerate().skip(layers) {
+        *place = at as f64;
+    }
+    if count != 0 {
+        record.count = count;
+    }
+    record
+}
+
+/// Some changes are libFuzzer's own on all bytes.
+pub fn mutate(random: &mut Random, bytes: &[u8], most: usize) -> Vec<u8> {
+    if random.one_in(4) {
+        return crate::mutated(bytes, most);
+    }
+    let mut input = Input::read(bytes);
+    if input.card.is_empty() {
+        input.card = sheet::card_bytes(&points_card());
+    }
+    for _ in 0..1 + random.below(3) {
+        change::input(random, &mut input);
+    }
+    input.bytes()
+}

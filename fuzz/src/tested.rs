@@ -1,0 +1,81 @@
+//! What is compared: the library and the referee. The variable HEAT_BATTERY_FAULT puts a fault
+//! in, to show that it is found: `referee` in the referee's steps, a name of `oracle::faults` in
+//! the library, whose place the oracle's own entries then take.
+
+#[path = "../../oracle/entries/src/linked.rs"]
+mod linked;
+
+use linked::Linked;
+use oracle::entries::Step;
+use oracle::faults::Faulty;
+use oracle::library::Library;
+use oracle::model::{Answer, Battery, Call};
+use oracle::own::{Record, Shown};
+use oracle::plain;
+use std::sync::LazyLock;
+
+extern "C" {
+    fn heat_battery_advance(battery: *mut Record, call: *const u8, call_len: usize) -> Shown;
+}
+
+static FAULT: LazyLock<Option<String>> = LazyLock::new(|| std::env::var("HEAT_BATTERY_FAULT").ok());
+
+const IN_REFEREE: &str = "referee";
+
+pub enum Tested {
+    Linked,
+    Faulty(Faulty),
+}
+
+pub fn library() -> Tested {
+    match FAULT.as_deref() {
+        None | Some("" | IN_REFEREE) => Tested::Linked,
+        Some(name) => Tested::Faulty(Faulty::named(name)),
+    }
+}
+
+impl Library for Tested {
+    fn open(&self, card: &[u8], record: &mut [u8], sheet: &mut [u8]) -> u8 {
+        match self {
+            Tested::Linked => Linked.open(card, record, sheet),
+            Tested::Faulty(faulty) => faulty.open(card, record, sheet),
+        }
+    }
+
+    fn call(&self, record: &mut [u8], call: &[u8], sheet: &mut [u8]) -> u8 {
+        match self {
+            Tested::Linked => Linked.call(record, call, sheet),
+            Tested::Faulty(faulty) => faulty.call(record, call, sheet),
+        }
+    }
+
+    fn audit(&self, sheet: &[u8]) -> u64 {
+        match self {
+            Tested::Linked => Linked.audit(sheet),
+            Tested::Faulty(faulty) => faulty.audit(sheet),
+        }
+    }
+}
+
+/// The library's call on the caller's own record.
+pub fn advance(record: &mut Record, call: &[u8]) -> Shown {
+    // SAFETY: the record and the call's bytes are whole and apart, and live for the call.
+    unsafe { heat_battery_advance(record, call.as_ptr(), call.len()) }
+}
+
+/// The referee's steps.
+pub fn referee() -> Step {
+    match FAULT.as_deref() {
+        Some(IN_REFEREE) => wrong,
+        _ => plain::step,
+    }
+}
+
+/// The plain steps with 23 in the place of 24.
+fn wrong(battery: &Battery, call: &Call) -> (Answer, Battery) {
+    let (mut answer, after) = plain::step(battery, call);
+    if answer.refusal == 24 {
+        answer.refusal = 23;
+    }
+    (answer, after)
+}
