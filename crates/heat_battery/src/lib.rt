@@ -134,7 +134,7 @@ pub struct Advanced {
 }
 
 // What an answer shows.
-fn shown(a: Reply) -> Shown
+fn reply_shown(a: Reply) -> Shown
     ensures { λ r. ⌜ r ≡ replyShown a ⌝ }
 {
     Shown {
@@ -181,7 +181,7 @@ pub fn advance_battery(b: Battery, call: &[u8]) -> Advanced
                 after.direct = a.totals.direct;
                 after.charged = a.totals.charged;
                 after.electric = a.totals.electric;
-                let shown = shown(a);
+                let shown = reply_shown(a);
                 return Advanced {
                     battery: after,
                     shown,
