@@ -10,15 +10,18 @@ fn calls_bytes(calls: &[Call]) -> Vec<Vec<u8>> {
 
 /// A battery and a list of calls, on the caller's own record, by heat_battery_advance.
 pub struct Engine {
-    start: ffi::Battery,
+    battery: ffi::Battery,
+    zones: Vec<f64>,
+    totals: [f64; 5],
     calls: Vec<Vec<u8>>,
 }
 
 impl Engine {
     pub fn new(battery: &Battery, calls: &[Call]) -> Self {
         let card = &battery.card;
-        let zones = &battery.state.zones;
-        let mut start = ffi::Battery {
+        let zones = battery.state.zones.clone();
+        let totals = battery.state.totals.numbers();
+        let battery = ffi::Battery {
             card: ffi::Card {
                 layers: card.layers,
                 units: card.units,
@@ -28,22 +31,22 @@ impl Engine {
             },
             zones: [0.0; heat_battery::MOST_LAYERS],
             count: card.layers,
-            totals: battery.state.totals.numbers(),
+            totals,
         };
-        start.zones[..zones.len()].copy_from_slice(zones);
-        Engine { start, calls: calls_bytes(calls) }
+        Engine { battery, zones, totals, calls: calls_bytes(calls) }
     }
 
-    /// The list from the start on: the sum of energies, refusals and the first zone, and the substeps.
-    pub fn list(&self) -> (f64, u64) {
+    /// The list, the state written back first: the sum of energies, refusals and the first zone, and the substeps.
+    pub fn list(&mut self) -> (f64, u64) {
         let (mut sum, mut substeps) = (0.0, 0);
-        let mut battery = self.start;
+        self.battery.zones[..self.zones.len()].copy_from_slice(&self.zones);
+        self.battery.totals = self.totals;
         for call in &self.calls {
-            let shown = ffi::advance(&mut battery, call);
+            let shown = ffi::advance(&mut self.battery, call);
             sum = sum + shown.energy + f64::from(shown.refusal);
             substeps += u64::from(shown.substeps);
         }
-        (sum + battery.zones[0], substeps)
+        (sum + self.battery.zones[0], substeps)
     }
 }
 

@@ -97,7 +97,7 @@ fn contenders(row: &Row) -> Vec<(&'static str, Runner<'_>)> {
     let stand_ins = StandIns::new(&row.start);
     let battery = oracle_battery(&row.start);
     let calls = oracle_calls(row);
-    let engine = Engine::new(&battery, &calls);
+    let mut engine = Engine::new(&battery, &calls);
     let wrapped = Crate::new(&battery, &calls);
     let mut plain_c = PlainC::new(&row.start);
     let plain = move || oracle_list(oracle::plain::step, black_box(&battery), black_box(&calls)).0;
@@ -106,7 +106,7 @@ fn contenders(row: &Row) -> Vec<(&'static str, Runner<'_>)> {
         ("stand-ins", rounds_of(move || stand_ins.list(black_box(&row.calls)))),
         ("plain Rust", rounds_of(plain)),
         ("plain C", rounds_of(move || plain_c.list(black_box(&row.calls)))),
-        ("engine", rounds_of(move || black_box(&engine).list().0)),
+        ("engine", rounds_of(move || black_box(&mut engine).list().0)),
         ("crate", rounds_of(move || black_box(&wrapped).list())),
     ]
 }
@@ -210,12 +210,12 @@ fn measure_audit(row: &Row) {
     let audited = day(row);
     let mut written = day(row);
     let fresh = Battery::fresh(&oracle_battery(&row.start).card);
-    let engine = Engine::new(&fresh, &oracle_calls(row));
+    let mut engine = Engine::new(&fresh, &oracle_calls(row));
     let lines = audited.lines();
     let best = times(&mut [
         ("audit", rounds_of(move || black_box(&audited).audit() as f64)),
         ("calls", rounds_of(move || f64::from(black_box(&mut written).write()))),
-        ("engine", rounds_of(move || black_box(&engine).list().0)),
+        ("engine", rounds_of(move || black_box(&mut engine).list().0)),
     ]);
     let rates: Vec<f64> = best.iter().map(|time| lines as f64 / time).collect();
     println!(

@@ -21,7 +21,7 @@ use Rattle.card.specs.declared.HeatBatteryPcm.{HeatBatteryPcm}
 use Rattle.water.specs.declared.Mode.{Mode}
 use Rattle.water.specs.declared.Mode.the-variants.{OnlyCharging, Losses, Normal}
 use Rattle.zone.specs.declared.Salt.{Salt}
-use Rattle.substep.specs.Substep.{zoneIndex, zoneStep, zoneAt, zonesAfter, chargerHeat, substepWith, outcomeOf, withoutEnergies, zoneTransfer, courseOf, passFrom, withoutLogarithm, withTransfer, processHeatBatteryZones, substepFrom}
+use Rattle.substep.specs.Substep.{zoneIndex, zoneStep, zoneAt, zonesAfter, chargerHeat, substepWith, outcomeOf, zoneTransfer, courseOf, passFrom, withoutLogarithm, withTransfer, processHeatBatteryZones, substepFrom}
 use Rattle.substep.specs.declared.Drive.{Drive}
 use Rattle.substep.specs.declared.Substep.{Substep}
 use Rattle.substep.specs.declared.Outcome.{Outcome}
@@ -94,13 +94,6 @@ pub whole :
     substepWith o zs es ≡ u
 unfolding substepWith outcomeOf
 whole o zs es u h e = rw (h .0, h .1, e)
-
-pub bare-end :
-    (o : Outcome) (zs : List Float) (u : Substep) →
-    (zs ≡ u .zones) × (o ≡ outcomeOf u) →
-    substepWith o zs (replicate 64 Constants.zero) ≡ withoutEnergies u
-unfolding withoutEnergies
-bare-end o zs u h = rw (h .0, h .1)
 
 pub index-below : (m : Mode) (n k : ℕ) → k < n → zoneIndex m n k < n
 unfolding zoneIndex

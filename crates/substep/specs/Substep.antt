@@ -105,10 +105,6 @@ substepWith o zones energies =
 unfoldable pub outcomeOf : Substep → Outcome
 outcomeOf u = record { outlet = u .outlet; delivered = u .delivered; charged = u .charged; fault = u .fault }
 
--- a substep with zeros for its energies
-unfoldable pub withoutEnergies : Substep → Substep
-withoutEnergies u = substepWith (outcomeOf u) (u .zones) (replicate 64 Constants.zero)
-
 -- '24 the logarithm's argument is not positive, normal and finite'
 unfoldable pub withoutLogarithm : List Float → Substep
 withoutLogarithm zones =
