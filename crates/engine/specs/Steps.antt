@@ -126,13 +126,16 @@ demandAnswer b d r =
       battery = demandKept b d r;
     }
 
+-- what a demand's substeps hand out, and the answer
+abbrev pub demandRan : Battery → Demand → Float → Ended
+demandRan b d feed = demandEnded (demandRun (demandTask b d feed) (b .card .budget) 0 (demandStart b))
+
+abbrev pub demandAnswered : Battery → Demand → Float → Answer
+demandAnswered b d feed = unlessRefused b (demandRan b d feed) (demandAnswer b d (demandRan b d feed))
+
 -- '21 committed, required above 1e-10, service type 0', before the first substep
 unfoldable pub demandFrom : Battery → Demand → Float → Answer
-demandFrom b d feed =
-    let r = demandEnded (demandRun (demandTask b d feed) (b .card .budget) 0 (demandStart b)) in
-    cond (d .commit && unserved (serviceClass (b .card) (d .service)))
-    (refusedWith 21 b)
-    (unlessRefused b r (demandAnswer b d r))
+demandFrom b d feed = cond (d .commit && unserved (serviceClass (b .card) (d .service))) (refusedWith 21 b) (demandAnswered b d feed)
 
 -- '20 required above 1e-10 without return temperature'
 unfoldable pub demandGiven : Battery → Demand → Given → Answer

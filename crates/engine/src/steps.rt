@@ -27,9 +27,8 @@ ghost use lib.Ieee.{Float};
 ghost use Rattle.battery.specs.Ledger.{whole, answerWith, settled};
 ghost use Rattle.runs.specs.declared.Ended.{Ended};
 ghost use Rattle.runs.specs.Apart.{runWith, EndedLies};
-ghost use Rattle.runs.specs.Demand.{demandRun, demandEnded};
 ghost use Rattle.engine.specs.Apart.{demandReply, runReply, servedTotals, chargedTotals, closedTotals};
-ghost use Rattle.engine.specs.Steps.{checked as checkedOf, unlessRefused, serviceClass, unserved as unservedOf, pumpAfter, directAfter, demandPower, demandTask, demandStart, demandAnswer, demandFrom, demandGiven, demandEnergy, charge as chargeOf, heatLoss, level as levelOf, readLevel, demandToLevel, wetSource, stepOf, advanceOf};
+ghost use Rattle.engine.specs.Steps.{checked as checkedOf, unlessRefused, serviceClass, unserved as unservedOf, pumpAfter, directAfter, demandPower, demandTask, demandStart, demandRan, demandAnswered, demandFrom, demandGiven, demandEnergy, charge as chargeOf, heatLoss, level as levelOf, readLevel, demandToLevel, wetSource, stepOf, advanceOf};
 
 // 23 where a reported number or total is not finite.
 fn checked(l: Ledger, a: Reply, zones: &[f64; 64]) -> Reply
@@ -149,7 +148,7 @@ fn demand_start(l: Ledger) -> Pace
 // The substeps of a demand.
 fn demand_stopped(l: Ledger, d: Demand, feed: f64, zones: &mut [f64; 64]) -> Stopped
     requires { ⌜ l .card .layers ≤ 64 ⌝ }
-    ensures { λ r. ⌜ EndedLies r (now (zones .exit)) (demandEnded (demandRun (demandTask (whole l (now (zones .entry))) d feed) (l .card .budget) 0 (demandStart (whole l (now (zones .entry)))))) ⌝ }
+    ensures { λ r. ⌜ EndedLies r (now (zones .exit)) (demandRan (whole l (now (zones .entry))) d feed) ⌝ }
 {
     let card = l.card;
     let task = demand_task(l, d, feed);
@@ -190,9 +189,10 @@ fn demand_reply(l: Ledger, s: Stopped, totals: Totals) -> Reply
     }
 }
 
+// On the battery's own zones.
 fn committed(l: Ledger, d: Demand, feed: f64, zones: &mut [f64; 64]) -> Reply
     requires { ⌜ (l .card .layers ≤ 64) × (d .commit ≡ true) ⌝ }
-    ensures { λ r. ⌜ ((e : Ended) → e ≡ demandEnded (demandRun (demandTask (whole l (now (zones .entry))) d feed) (l .card .budget) 0 (demandStart (whole l (now (zones .entry))))) → settled l (now (zones .entry)) r (now (zones .exit)) ≡ unlessRefused (whole l (now (zones .entry))) e (demandAnswer (whole l (now (zones .entry))) d e)) ⌝ }
+    ensures { λ r. ⌜ settled l (now (zones .entry)) r (now (zones .exit)) ≡ demandAnswered (whole l (now (zones .entry))) d feed ⌝ }
 {
     let s = demand_stopped(l, d, feed, zones);
     let card = l.card;
@@ -203,10 +203,10 @@ fn committed(l: Ledger, d: Demand, feed: f64, zones: &mut [f64; 64]) -> Reply
     unless_refused(l, end, a, zones)
 }
 
-// The same on a copy of the zones.
+// On a copy of the zones.
 fn trial(l: Ledger, d: Demand, feed: f64, zones: &[f64; 64]) -> Reply
     requires { ⌜ (l .card .layers ≤ 64) × (d .commit ≡ false) ⌝ }
-    ensures { λ r. ⌜ ((e : Ended) → e ≡ demandEnded (demandRun (demandTask (whole l (now (zones .entry))) d feed) (l .card .budget) 0 (demandStart (whole l (now (zones .entry))))) → settled l (now (zones .entry)) r (now (zones .entry)) ≡ unlessRefused (whole l (now (zones .entry))) e (demandAnswer (whole l (now (zones .entry))) d e)) ⌝ }
+    ensures { λ r. ⌜ settled l (now (zones .entry)) r (now (zones .entry)) ≡ demandAnswered (whole l (now (zones .entry))) d feed ⌝ }
 {
     let mut own = *zones;
     let s = demand_stopped(l, d, feed, &mut own);

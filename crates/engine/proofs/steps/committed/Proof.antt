@@ -1,9 +1,7 @@
-use mathlib.Core.Path.{subst}
-use Rattle.runs.specs.Apart.{EndedLies}
 use Rattle.engine.proofs.Settled.{run-end}
 use Rattle.battery.specs.declared.Reply.{Reply}
 use Rattle.engine.proofs.Settled.{committed-with}
-use mathlib.Core.Path.{sym, _∙_, ap}
+use mathlib.Core.Path.{_∙_, ap}
 use borrow.Author.Needs.{needs}
 use Rattle.engine.proofs.steps.committed.Statement.{statement}
 use Rattle.engine.proofs.steps.committed.Tie as tie
@@ -24,9 +22,9 @@ unless-refused-requires : tie.Need-unless-refused-requires
 unless-refused-requires c κs = (c .before .before .before .before .before .before .before .pre .0, ap (λ (x : Reply). x .refusal) (c .before .demand-reply .ensures))
 
 returns : tie.Need-returns
-returns c e h =
-    let w = subst (EndedLies _ _) (sym h) (c .before .before .before .before .before .before .demand-stopped .ensures) in
-    c .unless-refused .ensures _ e (run-end _ _ _ w) ∙ committed-with _ _ _ _ _ w _ _ _ _ (c .before .before .before .before .before .before .before .before .pre .1) (c .before .before .before .before .service-class .ensures) (c .before .before .before .served-totals .ensures) (c .before .before .demand-reply .ensures)
+returns c =
+    let w = c .before .before .before .before .before .before .demand-stopped .ensures in
+    c .unless-refused .ensures _ _ (run-end _ _ _ w) ∙ committed-with _ _ _ _ _ w _ _ _ _ (c .before .before .before .before .before .before .before .before .pre .1) (c .before .before .before .before .service-class .ensures) (c .before .before .before .served-totals .ensures) (c .before .before .demand-reply .ensures)
 
 pub committed-spec : {M : Type 1} → statement M
 committed-spec =

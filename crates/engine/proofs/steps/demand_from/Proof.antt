@@ -27,14 +27,14 @@ committed-requires c κs = (c .before .before .before .before .before .before .b
 
 returns-2 : tie.Need-returns-2
 unfolding demandFrom
-returns-2 c = rw (← (c .before .before .before .before .before .before .service-class .ensures), ← (c .before .before .before .before .before .unserved .ensures), ← (c .before .before .before .before .both .ensures)) (via-false _ _ (c .before .before .before .if1 .left) (c .committed .ensures _ refl))
+returns-2 c = rw (← (c .before .before .before .before .before .before .service-class .ensures), ← (c .before .before .before .before .before .unserved .ensures), ← (c .before .before .before .before .both .ensures)) (via-false _ _ (c .before .before .before .if1 .left) (c .committed .ensures))
 
 trial-requires : tie.Need-trial-requires
 trial-requires c κs = (c .before .before .before .before .before .before .before .pre, c .before .if2 .left)
 
 returns-3 : tie.Need-returns-3
 unfolding demandFrom
-returns-3 c = rw (← (c .before .before .before .before .before .before .service-class .ensures), ← (c .before .before .before .before .before .unserved .ensures), ← (c .before .before .before .before .both .ensures)) (via-false _ _ (c .before .before .before .if1 .left) (c .trial .ensures _ refl))
+returns-3 c = rw (← (c .before .before .before .before .before .before .service-class .ensures), ← (c .before .before .before .before .before .unserved .ensures), ← (c .before .before .before .before .both .ensures)) (via-false _ _ (c .before .before .before .if1 .left) (c .trial .ensures))
 
 pub demand-from-spec : {M : Type 1} → statement M
 demand-from-spec =
