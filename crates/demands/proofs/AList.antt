@@ -11,7 +11,7 @@ use Rattle.battery.specs.declared.Battery.{Battery}
 use Rattle.records.specs.Cards.{cardLength, cardAt}
 use Rattle.records.specs.Records.{recordBytes}
 use Rattle.sheet.specs.Lines.{openingBytes}
-use Rattle.heat_battery.specs.Entry.{openOf}
+use Rattle.entry.specs.Entry.{openOf}
 use Rattle.heat_battery.specs.Cases.{Opens}
 use Rattle.heat_battery.specs.Lists.{sheetOf, sparedOf}
 use Rattle.heat_battery.proofs.OpenCases.{open-0}

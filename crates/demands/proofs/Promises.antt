@@ -19,7 +19,8 @@ use Rattle.engine.proofs.NotFinite.{not-finite-only}
 use Rattle.records.specs.Cards.{cardAt}
 use Rattle.records.specs.Records.{recordOf}
 use Rattle.sheet.specs.Lines.{lineBytes}
-use Rattle.heat_battery.specs.Entry.{unchanged, openOf, entryOf}
+use Rattle.entry.specs.Entry.{unchanged, openOf}
+use Rattle.heat_battery.specs.Entries.{entryOf}
 use Rattle.heat_battery.specs.Cases.{OpenCase1, OpenCase2, OpenCase3, OpenCase4, OpenCase10, OpenCase11, Opens, CallCase10, CallCase11, CallCase20, CallCase21}
 use Rattle.heat_battery.specs.Lists.{SheetOfSteps}
 use Rattle.heat_battery.specs.Record.{advancedOf}

@@ -14,7 +14,7 @@ use Rattle.calls.specs.Calls.{callOf}
 use Rattle.records.specs.Records.{recordBytes}
 use Rattle.sheet.specs.Lines.{lineBytes}
 use Rattle.calls.specs.declared.ReadCall.the-variants.{Good}
-use Rattle.heat_battery.specs.Entry.{unchanged}
+use Rattle.entry.specs.Entry.{unchanged}
 use Rattle.heat_battery.specs.Lists.{noLine, spared, Encoded}
 use Rattle.heat_battery.proofs.Encodings.{lined, Entered, kept-10, kept-11, stepped, entry-on-encoding, step-encoded, gets-line, free-behind}
 use Rattle.heat_battery.proofs.EqualSteps.{spared-more, nothing-used}

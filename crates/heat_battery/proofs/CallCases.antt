@@ -25,9 +25,11 @@ use borrow.Author.Tests.{ne-eqb}
 use Rattle.calls.specs.declared.ReadCall.{ReadCall}
 use Rattle.calls.specs.declared.ReadCall.the-variants.{Good, Bad}
 use Rattle.calls.proofs.CallExact.{call-laid, laid-call}
-use Rattle.heat_battery.specs.Entry.{After, unchanged, renewed, entered, lineAfter, recordLaid, entryOf}
+use Rattle.entry.specs.Entry.{After, unchanged, renewed, entered, lineAfter, recordLaid}
+use Rattle.heat_battery.specs.Entries.{entryOf}
 use Rattle.heat_battery.specs.Cases.{GoodRecord, GoodCall, CallCase10, bad-record, bad-call, CallCase11, GetsLine}
-use Rattle.heat_battery.proofs.Calling.{LaidRecord, record-laid, laid-record, line-ten, line-room, line-entered, entry-unlaid, entry-bad, entry-read}
+use Rattle.entry.proofs.Entering.{LaidRecord, record-laid, laid-record, line-ten, line-room, line-entered}
+use Rattle.heat_battery.proofs.Calling.{entry-unlaid, entry-bad, entry-read}
 use Rattle.heat_battery.proofs.Finite.{record-card, accepted-good, good-accepted}
 use Rattle.engine.proofs.StepKeeps.{step-refusals, step-keeps-card, refused-line}
 use Rattle.engine.proofs.AdvanceKeeps.{advance-is-step}

@@ -16,7 +16,8 @@ use Rattle.engine.specs.Steps.{demandEnergy, stepOf}
 use Rattle.records.specs.Records.{recordOf}
 use Rattle.calls.specs.Calls.{callOf}
 use Rattle.calls.specs.declared.ReadCall.the-variants.{Good}
-use Rattle.heat_battery.specs.Entry.{After, unchanged, entered, entryOf}
+use Rattle.entry.specs.Entry.{After, unchanged, entered}
+use Rattle.heat_battery.specs.Entries.{entryOf}
 use Rattle.heat_battery.specs.Cases.{GetsLine, CallCase20, CallCase21}
 use Rattle.heat_battery.proofs.Finite.{record-card}
 use Rattle.heat_battery.proofs.CallCases.{CallWay, ten, eleven, line, call-way, gets-step}

@@ -26,7 +26,8 @@ use Rattle.sheet.proofs.Good.{good-layers}
 use Rattle.sheet.proofs.AnswerBack.{record-back, card-front}
 use Rattle.calls.proofs.CallLaws.{call-length, call-short}
 use Rattle.sheet.proofs.LineLaws.{line-fits, line-says, line-behind}
-use Rattle.heat_battery.specs.Entry.{After, unchanged, renewed, entered, entryOf}
+use Rattle.entry.specs.Entry.{After, unchanged, renewed, entered}
+use Rattle.heat_battery.specs.Entries.{entryOf}
 use Rattle.heat_battery.specs.Lists.{noLine, lineTaken, freeBehind, answerRead, answerTo, Encoded}
 use Rattle.heat_battery.proofs.CallCases.{CallWay, ten, eleven, line, call-way}
 use Rattle.engine.proofs.StepKeeps.{step-refusals, step-keeps-card, refused-keeps-state, step-keeps-good}

@@ -15,12 +15,13 @@ use Rattle.engine.specs.Steps.{stepOf}
 use Rattle.records.specs.Cards.{cardAt}
 use Rattle.records.specs.Records.{recordBytes}
 use Rattle.sheet.specs.Lines.{lineBytes, openingLength, openingBytes}
-use Rattle.heat_battery.specs.Entry.{After, unchanged, openedWith, openOf, entryOf}
+use Rattle.entry.specs.Entry.{After, unchanged, openedWith, openOf}
+use Rattle.heat_battery.specs.Entries.{entryOf}
 use Rattle.heat_battery.specs.Cases.{AcceptedBytes, Opens}
 use Rattle.heat_battery.specs.Lists.{noLine, lineTaken, freeBehind, recordAfter, freeAfter, written, spared, sheetOf, behindSheet, sparedOf, lastRecord, answerTo, stateAfter, stepLines, Encoded, SameAsSteps, SheetOfSteps}
 use Rattle.sheet.proofs.Lengths.{length-openingBytes}
 use Rattle.sheet.proofs.LineLaws.{opening-behind}
-use Rattle.heat_battery.proofs.Opening.{opened}
+use Rattle.entry.proofs.Opening.{opened}
 use Rattle.heat_battery.proofs.Encodings.{lined, Entered, kept-10, kept-11, stepped, entry-on-encoding, step-encoded, gets-line, line-taken, free-behind, answer-is}
 use Rattle.battery.proofs.FreshGood.{fresh-good}
 

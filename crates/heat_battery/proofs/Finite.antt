@@ -17,7 +17,7 @@ use Rattle.records.specs.Records.{zonesAt, stateAt, recordOf}
 use Rattle.sheet.proofs.Good.{zone-finite, accepted-battery}
 use Rattle.sheet.proofs.Back.{zonesAt-below}
 use Rattle.heat_battery.specs.Cases.{GoodRecord}
-use Rattle.heat_battery.proofs.Calling.{LaidRecord}
+use Rattle.entry.proofs.Entering.{LaidRecord}
 
 -- what holds of 0 to 4
 five : (P : ℕ → Type 0) → P 0 → P 1 → P 2 → P 3 → P 4 → (i : ℕ) → i < 5 → P i

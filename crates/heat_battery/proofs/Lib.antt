@@ -1,4 +1,3 @@
-pub mod Opening
 pub mod Calling
 pub mod Finite
 pub mod CallCases

@@ -12,9 +12,9 @@ use Rattle.card.specs.declared.Card.{Card}
 use Rattle.records.specs.Cards.{cardLength, cardAt}
 use Rattle.records.specs.Records.{recordLength}
 use Rattle.sheet.specs.Lines.{openingLength}
-use Rattle.heat_battery.specs.Entry.{After, unchanged, openedWith, openOf}
+use Rattle.entry.specs.Entry.{After, unchanged, openedWith, openOf}
 use Rattle.heat_battery.specs.Cases.{OpenCase1, OpenCase2, OpenCase3, OpenCase4, OpenCase10, OpenCase11, Opens}
-use Rattle.heat_battery.proofs.Opening.{open-length, open-card, open-record, open-room, opened}
+use Rattle.entry.proofs.Opening.{open-length, open-card, open-record, open-room, opened}
 use Rattle.heat_battery.proofs.CardCases.{CardWay, out-of-range, lower-above, max-low, nothing, accepted, card-way, card-1, card-2, card-3, card-4, lower-above-is, max-above-is}
 
 -- which way opening goes

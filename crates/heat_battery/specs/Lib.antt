@@ -1,4 +1,4 @@
-pub mod Entry
+pub mod Entries
 pub mod Cases
 pub mod Lists
 pub mod Record

@@ -17,7 +17,8 @@ use Rattle.calls.specs.Calls.{callOf}
 use Rattle.sheet.specs.Lines.{lineBytes, openingLength, openingBytes}
 use Rattle.calls.specs.declared.ReadCall.{ReadCall}
 use Rattle.calls.specs.declared.ReadCall.the-variants.{Good, Bad}
-use Rattle.heat_battery.specs.Entry.{After, openOf, entryOf}
+use Rattle.entry.specs.Entry.{After, openOf}
+use Rattle.heat_battery.specs.Entries.{entryOf}
 
 -- ---- the entries
 

@@ -14,8 +14,8 @@ use Rattle.battery.specs.declared.Answer.{Answer}
 use Rattle.engine.specs.Steps.{advanceOf}
 use Rattle.records.specs.Cards.{cardAt}
 use Rattle.records.specs.Records.{recordOf, stateAt}
-use Rattle.heat_battery.specs.Entry.{entryRead}
-use Rattle.heat_battery.proofs.Calling.{record-laid}
+use Rattle.heat_battery.specs.Entries.{entryRead}
+use Rattle.entry.proofs.Entering.{record-laid}
 use borrow.Author.Needs.{needs}
 use Rattle.heat_battery.proofs.advance.Statement.{statement}
 use Rattle.heat_battery.proofs.advance.Tie as tie

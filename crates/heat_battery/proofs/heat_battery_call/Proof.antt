@@ -1,5 +1,5 @@
 use mathlib.Core.Path.{refl, sym, _∙_}
-use Rattle.heat_battery.specs.Entry.{entryOf}
+use Rattle.heat_battery.specs.Entries.{entryOf}
 use borrow.Author.Needs.{needs}
 use Rattle.heat_battery.proofs.heat_battery_call.Statement.{statement}
 use Rattle.heat_battery.proofs.heat_battery_call.Tie as tie

@@ -1,81 +1,9 @@
-use mathlib.Core.Path.{_≡_, refl, sym, _∙_, ap}
-use native.Mathlib.Omega.{arith}
-use Rattle.card.specs.Card.{cardRefusal}
-use Rattle.card.proofs.Accepted.{accepted-layers}
-use Rattle.battery.specs.Battery.{fresh}
-use Rattle.battery.specs.declared.Battery.{Battery}
-use Rattle.records.specs.Cards.{cardAt}
-use Rattle.records.specs.Records.{recordLength, recordBytes}
-use Rattle.heat_battery.proofs.Opening.{open-length, open-card, open-record, open-room, opened}
 use borrow.Author.Needs.{needs}
 use Rattle.heat_battery.proofs.heat_battery_open.Statement.{statement}
 use Rattle.heat_battery.proofs.heat_battery_open.Tie as tie
 
-card-length-requires : tie.Need-card-length-requires
-card-length-requires c κs = search needs
-
-returns : tie.Need-returns
-returns c =
-    let s = c .before .before .before .before .before .args in
-    rw (open-length 1 (s .card .now) (s .«record» .now) (s .sheet .now) (λ e. c .if1 .taken (e ∙ sym (c .before .card-length .ensures))))
-    (record { code-is = refl; record-is = refl; sheet-is = refl })
-
-read-card-requires : tie.Need-read-card-requires
-read-card-requires c κs = search needs
-
-refusal-requires : tie.Need-refusal-requires
-refusal-requires c κs = search needs
-
-returns-2 : tie.Need-returns-2
-returns-2 c =
-    let s = c .before .before .before .before .before .before .before .before .args in
-    let e : c .before .refusal .result ≡ cardRefusal 1 (cardAt 1 (s .card .now)) = c .before .refusal .ensures ∙ ap (cardRefusal 1) (c .before .before .read-card .ensures) in
-    rw (open-card 1 (s .card .now) (s .«record» .now) (s .sheet .now) (c .before .before .before .if1 .left ∙ c .before .before .before .before .card-length .ensures) (λ z. c .if2 .taken (e ∙ z)))
-    (record { code-is = e; record-is = refl; sheet-is = refl })
-
-record-length-requires : tie.Need-record-length-requires
-record-length-requires c κs = search needs
-
-returns-3 : tie.Need-returns-3
-returns-3 c =
-    let s = c .before .before .before .before .before .before .before .before .before .before .args in
-    let e = c .before .before .before .before .read-card .ensures in
-    rw (
-    open-record 1 (s .card .now) (s .«record» .now) (s .sheet .now) (c .before .before .before .before .before .if1 .left ∙ c .before .before .before .before .before .before .card-length .ensures)
-    (sym (c .before .before .before .refusal .ensures ∙ ap (cardRefusal 1) e) ∙ c .before .before .if2 .left)
-    (λ z. c .if3 .taken (z ∙ sym (c .before .record-length .ensures ∙ ap (recordLength 1) e)))
-    )
-    (record { code-is = refl; record-is = refl; sheet-is = refl })
-
-opening-length-requires : tie.Need-opening-length-requires
-opening-length-requires c κs = search needs
-
-returns-4 : tie.Need-returns-4
-returns-4 c =
-    let s = c .before .before .before .before .before .before .before .before .before .before .before .before .args in
-    let e = c .before .before .before .before .before .before .read-card .ensures in
-    rw (
-    open-room 1 (s .card .now) (s .«record» .now) (s .sheet .now) (c .before .before .before .before .before .before .before .if1 .left ∙ c .before .before .before .before .before .before .before .before .card-length .ensures)
-    (sym (c .before .before .before .before .before .refusal .ensures ∙ ap (cardRefusal 1) e) ∙ c .before .before .before .before .if2 .left)
-    (c .before .before .if3 .left ∙ c .before .before .before .record-length .ensures ∙ ap (recordLength 1) e)
-    (omega (arith, c .if4 .taken, c .before .opening-length .ensures))
-    )
-    (record { code-is = refl; record-is = refl; sheet-is = refl })
-
-fresh-requires : tie.Need-fresh-requires
-fresh-requires c κs = accepted-layers 1 (c .before .before .before .before .before .before .read-card .result) (sym (c .before .before .before .before .before .refusal .ensures) ∙ c .before .before .before .before .if2 .left) .1
-
-put-record-requires : tie.Need-put-record-requires
-unfolding fresh
-put-record-requires c κs =
-    let e : c .before .fresh .result .card ≡ c .before .before .before .before .before .before .before .before .read-card .result = ap (λ (x : Battery). x .card) (c .before .fresh .ensures) in (
-      rw e (accepted-layers 1 (c .before .before .before .before .before .before .before .before .read-card .result) (sym (c .before .before .before .before .before .before .before .refusal .ensures) ∙ c .before .before .before .before .before .before .if2 .left) .1),
-      c .before .before .before .before .before .before .before .before .before .if1 .left ∙ c .before .before .before .before .before .before .before .before .before .before .card-length .ensures,
-      c .before .before .before .before .if3 .left ∙ c .before .before .before .before .before .record-length .ensures ∙ ap (recordLength 1) (sym e),
-    )
-
-put-opening-requires : tie.Need-put-opening-requires
-put-opening-requires c κs = search needs
+open-requires : tie.Need-open-requires
+open-requires c κs = search needs
 
 same-length : tie.Need-same-length
 same-length c = search needs
@@ -83,38 +11,8 @@ same-length c = search needs
 same-length-2 : tie.Need-same-length-2
 same-length-2 c = search needs
 
-returns-5 : tie.Need-returns-5
-returns-5 c =
-    let s = c .before .before .before .before .before .before .before .before .before .before .before .before .before .before .before .before .before .before .before .before .before .args in
-    let e = c .before .before .before .before .before .before .before .before .before .before .before .before .before .before .before .read-card .ensures in
-    rw (
-    opened 1 (s .card .now) (s .«record» .now) (s .sheet .now) (c .before .before .before .before .before .before .before .before .before .before .before .before .before .before .before .before .if1 .left ∙ c .before .before .before .before .before .before .before .before .before .before .before .before .before .before .before .before .before .card-length .ensures)
-    (sym (c .before .before .before .before .before .before .before .before .before .before .before .before .before .before .refusal .ensures ∙ ap (cardRefusal 1) e) ∙ c .before .before .before .before .before .before .before .before .before .before .before .before .before .if2 .left)
-    (c .before .before .before .before .before .before .before .before .before .before .before .if3 .left ∙ c .before .before .before .before .before .before .before .before .before .before .before .before .record-length .ensures ∙ ap (recordLength 1) e)
-    (omega (arith, c .before .before .before .before .before .before .before .before .before .if4 .left, c .before .before .before .before .before .before .before .before .before .before .opening-length .ensures))
-    )
-    (record {
-      code-is = refl;
-      record-is = c .before .before .before .before .before .before .put-record .ensures ∙ ap (recordBytes 1 (s .card .now)) (c .before .before .before .before .before .before .before .before .fresh .ensures ∙ ap fresh e);
-      sheet-is = c .before .before .put-opening .ensures;
-    })
+returns : tie.Need-returns
+returns c = search needs
 
 pub heat-battery-open-spec : {M : Type 1} → statement M
-heat-battery-open-spec =
-    tie.close
-    (tie.spec
-    card-length-requires
-    returns
-    read-card-requires
-    refusal-requires
-    returns-2
-    record-length-requires
-    returns-3
-    opening-length-requires
-    returns-4
-    fresh-requires
-    put-record-requires
-    put-opening-requires
-    same-length
-    same-length-2
-    returns-5)
+heat-battery-open-spec = tie.close (tie.spec open-requires same-length same-length-2 returns)

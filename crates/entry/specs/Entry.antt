@@ -9,13 +9,9 @@ use Rattle.codec.specs.Bytes.{over}
 use Rattle.card.specs.Card.{cardRefusal}
 use Rattle.battery.specs.Battery.{fresh}
 use Rattle.battery.specs.declared.Answer.{Answer}
-use Rattle.engine.specs.Steps.{advanceOf}
 use Rattle.records.specs.Cards.{cardLength, cardAt}
-use Rattle.records.specs.Records.{recordLength, recordOf, recordBytes}
-use Rattle.calls.specs.Calls.{callOf}
+use Rattle.records.specs.Records.{recordLength, recordBytes}
 use Rattle.sheet.specs.Lines.{lineSize, lineBytes, openingLength, openingBytes}
-use Rattle.calls.specs.declared.ReadCall.{ReadCall}
-use Rattle.calls.specs.declared.ReadCall.the-variants.{Good, Bad}
 
 -- the refusal, the battery record and the lent part of the sheet afterwards
 pub record After : Type 0 where
@@ -70,10 +66,6 @@ lineAfter version rec call free a =
     (entered version rec call free a)
     (unchanged 11 rec free))
 
-unfoldable pub entryRead : ℕ → List ℕ → List ℕ → List ℕ → ReadCall → After
-entryRead version rec call free Bad = unchanged 10 rec free
-entryRead version rec call free (Good c) = lineAfter version rec call free (advanceOf version (recordOf version rec) c)
-
 -- a record of a length that its accepted card gives
 unfoldable pub recordLaid : ℕ → List ℕ → Bool
 recordLaid version rec =
@@ -82,7 +74,3 @@ recordLaid version rec =
     (eqb (length rec) (recordLength version (cardAt version rec)))
     false)
     false
-
--- a call: 10 for another length of record or call, a record that is refused, a call field that is
-unfoldable pub entryOf : ℕ → List ℕ → List ℕ → List ℕ → After
-entryOf version rec call free = cond (recordLaid version rec) (entryRead version rec call free (callOf version call)) (unchanged 10 rec free)

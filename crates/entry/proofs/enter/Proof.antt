@@ -1,9 +1,9 @@
 use mathlib.Core.Path.{refl}
 use native.Mathlib.Omega.{arith}
-use Rattle.heat_battery.proofs.Calling.{line-ten, line-room, line-refused, line-answered}
+use Rattle.entry.proofs.Entering.{line-ten, line-room, line-refused, line-answered}
 use borrow.Author.Needs.{needs}
-use Rattle.heat_battery.proofs.enter.Statement.{statement}
-use Rattle.heat_battery.proofs.enter.Tie as tie
+use Rattle.entry.proofs.enter.Statement.{statement}
+use Rattle.entry.proofs.enter.Tie as tie
 
 returns : tie.Need-returns
 returns c =

@@ -1,10 +1,10 @@
 use mathlib.Core.Path.{refl}
 use borrow.Author.Tests.{eq-eqb, ne-eqb, le-leb, lt-leb}
 use Rattle.floats.proofs.Branch.{via-true, via-false}
-use Rattle.heat_battery.specs.Entry.{recordLaid}
+use Rattle.entry.specs.Entry.{recordLaid}
 use borrow.Author.Needs.{needs}
-use Rattle.heat_battery.proofs.record_laid.Statement.{statement}
-use Rattle.heat_battery.proofs.record_laid.Tie as tie
+use Rattle.entry.proofs.record_laid.Statement.{statement}
+use Rattle.entry.proofs.record_laid.Tie as tie
 
 card-length-requires : tie.Need-card-length-requires
 card-length-requires c κs = search needs

@@ -8,7 +8,7 @@ use Rattle.card.specs.Card.{cardRefusal}
 use Rattle.records.specs.Cards.{cardLength, cardAt}
 use Rattle.records.specs.Records.{recordLength}
 use Rattle.sheet.specs.Lines.{openingLength}
-use Rattle.heat_battery.specs.Entry.{unchanged, openedWith, openOf}
+use Rattle.entry.specs.Entry.{unchanged, openedWith, openOf}
 
 module _ (version : ℕ) (card rec free : List ℕ) where
   pub open-length : (length card ≡ cardLength version → ⊥) → openOf version card rec free ≡ unchanged 1 rec free
