@@ -6,14 +6,14 @@ use Prim.Native.Nat.{ℕ, suc, _≤_, _+_}
 use native.Mathlib.Omega.{arith}
 use Rattle.battery.proofs.Zones.{SameAbove, same-above, then-above}
 use Rattle.engine.specs.Budget.{DemandOver, HydronicOver}
-use Rattle.runs.specs.declared.DemandTask.{DemandTask}
-use Rattle.runs.specs.declared.Run.{Run}
+use Rattle.delivery.specs.declared.DemandTask.{DemandTask}
+use Rattle.delivery.specs.declared.Run.{Run}
 use Rattle.runs.specs.declared.HydronicTask.{HydronicTask}
 use Rattle.runs.specs.declared.HydronicRun.{HydronicRun}
 use Rattle.runs.specs.declared.End.{End}
 use Rattle.runs.specs.declared.End.the-variants.{OverBudget}
 use Rattle.runs.specs.declared.Next.the-variants.{Stop}
-use Rattle.runs.specs.Demand.{demandRun}
+use Rattle.delivery.specs.Demand.{demandRun}
 use Rattle.runs.specs.Hydronic.{hydronicEnd, hydronicRun, hydronicStep}
 use Rattle.runs.proofs.Runs.{on-counts}
 use Rattle.engine.proofs.Inductions.{demand-induction, hydronic-induction}

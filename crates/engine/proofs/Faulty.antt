@@ -26,9 +26,9 @@ use Rattle.substep.specs.declared.Pass.{Pass}
 use Rattle.substep.specs.declared.Substep.{Substep}
 use Rattle.substep.specs.declared.Fault.{Fault}
 use Rattle.substep.specs.declared.Fault.the-variants.{Nothing, Logarithm, NotFinite}
-use Rattle.runs.specs.declared.DemandTask.{DemandTask}
-use Rattle.runs.specs.declared.DemandTurn.{DemandTurn}
-use Rattle.runs.specs.declared.Run.{Run}
+use Rattle.delivery.specs.declared.DemandTask.{DemandTask}
+use Rattle.delivery.specs.declared.DemandTurn.{DemandTurn}
+use Rattle.delivery.specs.declared.Run.{Run}
 use Rattle.runs.specs.declared.HydronicTask.{HydronicTask}
 use Rattle.runs.specs.declared.HydronicRun.{HydronicRun}
 use Rattle.runs.specs.declared.HydronicTurn.{HydronicTurn}
@@ -36,7 +36,7 @@ use Rattle.runs.specs.declared.Next.{Next}
 use Rattle.runs.specs.declared.Next.the-variants.{On, Stop}
 use Rattle.runs.specs.declared.End.{End}
 use Rattle.runs.specs.declared.End.the-variants.{Done, Negative, Met, NoStep, Level, Limit, Time, OverBudget, NoLogarithm, NotFiniteRun}
-use Rattle.runs.specs.Demand.{demandDrive, demandMet, demandDelivered, demandBy, demandSubstep, demandRun}
+use Rattle.delivery.specs.Demand.{demandDrive, demandMet, demandDelivered, demandBy, demandSubstep, demandRun}
 use Rattle.runs.specs.Hydronic.{wetDrive, clearlyBelow, limitReached, replayBy, replayed, fractionSeconds, hydronicWhole, hydronicBy, hydronicStep, hydronicRun}
 use Rattle.runs.specs.Runs.{reynoldBetween}
 use Rattle.engine.specs.Budget.{wholeFrom, FractionDue}

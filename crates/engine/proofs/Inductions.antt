@@ -6,9 +6,9 @@ use lib.Dec.{T, eqb, eqb→eq}
 use lib.Ieee.{lt}
 use Rattle.floats.specs.Constants as Constants
 use Rattle.floats.proofs.Cases.{by-test}
-use Rattle.runs.specs.declared.DemandTask.{DemandTask}
-use Rattle.runs.specs.declared.DemandEnd.{DemandEnd}
-use Rattle.runs.specs.declared.Run.{Run}
+use Rattle.delivery.specs.declared.DemandTask.{DemandTask}
+use Rattle.delivery.specs.declared.DemandEnd.{DemandEnd}
+use Rattle.delivery.specs.declared.Run.{Run}
 use Rattle.runs.specs.declared.HydronicTask.{HydronicTask}
 use Rattle.runs.specs.declared.HydronicRun.{HydronicRun}
 use Rattle.runs.specs.declared.HydronicEnd.{HydronicEnd}
@@ -16,7 +16,7 @@ use Rattle.runs.specs.declared.End.{End}
 use Rattle.runs.specs.declared.End.the-variants.{NoStep, OverBudget, Time}
 use Rattle.runs.specs.declared.Next.{Next}
 use Rattle.runs.specs.declared.Next.the-variants.{On, Stop}
-use Rattle.runs.specs.Demand.{demandEnd, demandThen, demandRun, demandSubstep}
+use Rattle.delivery.specs.Demand.{demandEnd, demandThen, demandRun, demandSubstep}
 use Rattle.runs.specs.Hydronic.{hydronicEnd, hydronicThen, hydronicRun, hydronicStep}
 
 -- of the substeps left, those done, the run and its end

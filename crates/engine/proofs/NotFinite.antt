@@ -11,7 +11,7 @@ use Rattle.battery.specs.declared.Answer.{Answer}
 use Rattle.battery.specs.declared.Call.{Call}
 use Rattle.battery.specs.declared.Call.the-variants.{DemandEnergy, ChargeElectric, ChargeHydronic, HeatLoss, CloseTimestep, ReadStateOfCharge, ChargeEnergyDemand}
 use Rattle.substep.specs.declared.Fault.the-variants.{Nothing, NotFinite}
-use Rattle.runs.specs.Demand.{demandEnded}
+use Rattle.delivery.specs.Demand.{demandEnded}
 use Rattle.runs.specs.Charge.{electricDrive, electricEnded, chargeElectric, chargeBattery, lossDrive, lossEnded, batteryHeatLoss}
 use Rattle.runs.specs.declared.Ended.{Ended}
 use Rattle.runs.specs.declared.Source.the-variants.{Electric}

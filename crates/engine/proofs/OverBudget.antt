@@ -23,7 +23,7 @@ use Rattle.battery.specs.declared.Answer.{Answer}
 use Rattle.battery.specs.declared.Call.{Call}
 use Rattle.battery.specs.declared.Call.the-variants.{DemandEnergy, ChargeElectric, ChargeHydronic, HeatLoss, CloseTimestep, ReadStateOfCharge, ChargeEnergyDemand}
 use Rattle.runs.specs.Runs.{faultEnd, endRefusal}
-use Rattle.runs.specs.Demand.{demandRun, demandEnded}
+use Rattle.delivery.specs.Demand.{demandRun, demandEnded}
 use Rattle.runs.specs.Hydronic.{hydronicEnded, wholeSubsteps}
 use Rattle.runs.specs.Charge.{electricEnded, chargeElectric, hydronicTask, hydronicStart, chargeHydronic, chargeBattery, lossEnded, batteryHeatLoss, chargeEnergyDemand}
 use Rattle.engine.specs.Steps.{checked, unlessRefused, serviceClass, unserved, demandTask, demandStart, demandAnswer, demandFrom, demandGiven, demandEnergy, runAnswer, chargedBattery, cooledBattery, charge, heatLoss, closedBattery, level, readLevel, demandToLevel, wetSource, stepOf}

@@ -26,7 +26,7 @@ use Rattle.runs.specs.declared.Ended.{Ended}
 use Rattle.runs.specs.declared.Exchanger.{Exchanger}
 use Rattle.runs.specs.declared.Source.{Source}
 use Rattle.runs.specs.declared.Source.the-variants.{Electric, Wet}
-use Rattle.runs.specs.Demand.{demandRun, demandEnded}
+use Rattle.delivery.specs.Demand.{demandRun, demandEnded}
 use Rattle.runs.specs.Hydronic.{hydronicEnded, wholeSubsteps}
 use Rattle.runs.specs.Charge.{electricDrive, electricEnded, chargeElectric, hydronicTask, hydronicStart, chargeHydronic, chargeBattery, lossDrive, lossEnded, batteryHeatLoss, chargeEnergyDemand}
 use Rattle.engine.specs.Steps.{serviceClass, unserved, demandTask, demandStart, served, demandKept, demandAnswer, demandFrom, demandGiven, demandEnergy, chargedBattery, cooledBattery, runAnswer, charge, heatLoss, closedBattery, level, readLevel, demandToLevel, wetSource, stepOf}

@@ -17,15 +17,15 @@ use Rattle.substep.specs.declared.Fault.the-variants.{Nothing, Logarithm, NotFi
 use Rattle.substep.proofs.Above.{substep-above}
 use Rattle.runs.specs.Runs.{reynoldBetween}
 use Rattle.engine.specs.Budget.{wholeFrom, FractionDue}
-use Rattle.runs.specs.declared.DemandTask.{DemandTask}
-use Rattle.runs.specs.declared.DemandTurn.{DemandTurn}
-use Rattle.runs.specs.declared.Run.{Run}
+use Rattle.delivery.specs.declared.DemandTask.{DemandTask}
+use Rattle.delivery.specs.declared.DemandTurn.{DemandTurn}
+use Rattle.delivery.specs.declared.Run.{Run}
 use Rattle.runs.specs.declared.HydronicTask.{HydronicTask}
 use Rattle.runs.specs.declared.HydronicRun.{HydronicRun}
 use Rattle.runs.specs.declared.HydronicTurn.{HydronicTurn}
 use Rattle.runs.specs.declared.End.the-variants.{OverBudget}
 use Rattle.runs.specs.declared.Next.the-variants.{Stop}
-use Rattle.runs.specs.Demand.{demandDrive, demandMet, runAfter, demandDelivered, demandBy, demandSubstep}
+use Rattle.delivery.specs.Demand.{demandDrive, demandMet, runAfter, demandDelivered, demandBy, demandSubstep}
 use Rattle.runs.specs.Hydronic.{wetDrive, clearlyBelow, limitReached, replayBy, replayed, fractionSeconds, hydronicWhole, hydronicBy, hydronicStep}
 
 -- two constructors are apart: `never (cc)`

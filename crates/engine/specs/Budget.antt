@@ -16,13 +16,13 @@ use Rattle.battery.specs.declared.Call.the-variants.{DemandEnergy, ChargeElectr
 use Rattle.substep.specs.Substep.{processHeatBatteryZones}
 use Rattle.substep.specs.declared.Substep.{Substep}
 use Rattle.substep.specs.declared.Fault.the-variants.{Nothing}
-use Rattle.runs.specs.declared.DemandEnd.{DemandEnd}
+use Rattle.delivery.specs.declared.DemandEnd.{DemandEnd}
 use Rattle.runs.specs.declared.Exchanger.{Exchanger}
 use Rattle.runs.specs.declared.HydronicTask.{HydronicTask}
 use Rattle.runs.specs.declared.HydronicRun.{HydronicRun}
 use Rattle.runs.specs.declared.HydronicEnd.{HydronicEnd}
 use Rattle.runs.specs.declared.End.the-variants.{OverBudget}
-use Rattle.runs.specs.Demand.{demandRun}
+use Rattle.delivery.specs.Demand.{demandRun}
 use Rattle.runs.specs.Hydronic.{wetDrive, clearlyBelow, limitReached, hydronicRun, wholeSubsteps}
 use Rattle.runs.specs.Charge.{hydronicTask, hydronicStart}
 use Rattle.engine.specs.Steps.{demandTask, demandStart}

@@ -31,10 +31,10 @@ use Rattle.substep.specs.declared.Substep.{Substep}
 use Rattle.substep.specs.declared.Fault.{Fault}
 use Rattle.substep.specs.declared.Fault.the-variants.{Nothing, Logarithm, NotFinite}
 use Rattle.runs.specs.Runs.{faultEnd, endRefusal, reynoldBetween}
-use Rattle.runs.specs.Demand.{demandDrive, demandRun, demandEnded}
+use Rattle.delivery.specs.Demand.{demandDrive, demandRun, demandEnded}
 use Rattle.runs.specs.Hydronic.{wetDrive, fractionSeconds, hydronicRun, wholeSubsteps}
 use Rattle.runs.specs.Charge.{electricDrive, lossDrive, hydronicTask, hydronicStart, chargeBattery, batteryHeatLoss, chargeEnergyDemand}
-use Rattle.runs.specs.declared.DemandEnd.{DemandEnd}
+use Rattle.delivery.specs.declared.DemandEnd.{DemandEnd}
 use Rattle.runs.specs.declared.HydronicTask.{HydronicTask}
 use Rattle.runs.specs.declared.HydronicRun.{HydronicRun}
 use Rattle.runs.specs.declared.HydronicEnd.{HydronicEnd}

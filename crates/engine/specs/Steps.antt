@@ -27,11 +27,11 @@ use Rattle.engine.specs.declared.ServiceClass.{ServiceClass}
 use Rattle.engine.specs.declared.ServiceClass.the-variants.{Combi, Regular, Space, Direct}
 use Rattle.runs.specs.declared.Source.{Source}
 use Rattle.runs.specs.declared.Source.the-variants.{Electric, Wet}
-use Rattle.runs.specs.declared.DemandTask.{DemandTask}
-use Rattle.runs.specs.declared.Run.{Run}
+use Rattle.delivery.specs.declared.DemandTask.{DemandTask}
+use Rattle.delivery.specs.declared.Run.{Run}
 use Rattle.runs.specs.declared.Ended.{Ended}
 use Rattle.runs.specs.Runs.{endRefusal, reynoldBetween, timeAvailable}
-use Rattle.runs.specs.Demand.{demandRun, demandEnded}
+use Rattle.delivery.specs.Demand.{demandRun, demandEnded}
 use Rattle.runs.specs.Charge.{chargeBattery, batteryHeatLoss, chargeEnergyDemand}
 
 -- '23 .. or a reported number or total isn't' finite: the refusal line with the battery b as before

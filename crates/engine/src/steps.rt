@@ -11,10 +11,10 @@ use battery::Ledger;
 use battery::Reply;
 use battery::Totals;
 use card::Card;
-use runs::DemandTask;
+use delivery::DemandTask;
+use delivery::Pace;
 use runs::End;
 use runs::Exchanger;
-use runs::Pace;
 use runs::Source;
 use runs::Stopped;
 use zone::KilowattHours;
@@ -26,7 +26,8 @@ ghost use Prim.Native.Nat.{_≤_};
 ghost use lib.Ieee.{Float};
 ghost use Rattle.battery.specs.Ledger.{whole, answerWith, settled};
 ghost use Rattle.runs.specs.declared.Ended.{Ended};
-ghost use Rattle.runs.specs.Apart.{runWith, EndedLies};
+ghost use Rattle.delivery.specs.Apart.{runWith};
+ghost use Rattle.runs.specs.Apart.{EndedLies};
 ghost use Rattle.engine.specs.Apart.{demandReply, runReply, servedTotals, chargedTotals, closedTotals};
 ghost use Rattle.engine.specs.Steps.{checked as checkedOf, unlessRefused, serviceClass, unserved as unservedOf, pumpAfter, directAfter, demandPower, demandTask, demandStart, demandRan, demandAnswered, demandFrom, demandGiven, demandEnergy, charge as chargeOf, heatLoss, level as levelOf, readLevel, demandToLevel, wetSource, stepOf, advanceOf};
 
@@ -153,8 +154,8 @@ fn demand_stopped(l: Ledger, d: Demand, feed: f64, zones: &mut [f64; 64]) -> Sto
     let card = l.card;
     let task = demand_task(l, d, feed);
     let start = demand_start(l);
-    let e = runs::demand::demand_run(task, card.budget, start, zones);
-    runs::demand::demand_ended(e)
+    let e = delivery::demand_run(task, card.budget, start, zones);
+    delivery::demand_ended(e)
 }
 
 // Running hours by class, and charged electric.

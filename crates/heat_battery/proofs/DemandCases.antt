@@ -25,7 +25,7 @@ use Rattle.battery.specs.declared.Demand.{Demand}
 use Rattle.battery.specs.declared.Given.{Given}
 use Rattle.battery.specs.declared.Given.the-variants.{Absent, Value}
 use Rattle.runs.specs.Runs.{endRefusal}
-use Rattle.runs.specs.Demand.{demandRun, demandEnded}
+use Rattle.delivery.specs.Demand.{demandRun, demandEnded}
 use Rattle.runs.specs.Charge.{chargeBattery, batteryHeatLoss, chargeEnergyDemand}
 use Rattle.engine.specs.Steps.{checked, unlessRefused, serviceClass, unserved, demandTask, demandStart, demandAnswer, demandFrom, demandGiven, demandEnergy, chargedBattery, cooledBattery, closedBattery, runAnswer, charge, heatLoss, level, readLevel, demandToLevel, wetSource, stepOf}
 use Rattle.runs.specs.declared.End.{End}

@@ -5,11 +5,12 @@ use mathlib.Core.List.{List}
 use Prim.Native.Nat.{ℕ, _+_}
 use native.Mathlib.Omega.{arith}
 use lib.Ieee.{Float}
+use Rattle.substep.proofs.Together.{InPlace, put-together}
 use Rattle.card.specs.declared.HeatBatteryPcm.{HeatBatteryPcm}
 use Rattle.card.specs.Derived.{derived}
 use Rattle.battery.specs.declared.Ledger.{Ledger}
 use Rattle.battery.specs.Ledger.{whole}
-use Rattle.substep.specs.Substep.{processHeatBatteryZones, substepWith, outcomeOf}
+use Rattle.substep.specs.Substep.{processHeatBatteryZones, substepWith}
 use Rattle.substep.specs.declared.Drive.{Drive}
 use Rattle.substep.specs.declared.Outcome.{Outcome}
 use Rattle.substep.specs.declared.Substep.{Substep}
@@ -19,40 +20,18 @@ use Rattle.runs.specs.declared.End.{End}
 use Rattle.runs.specs.declared.End.the-variants.{NoLogarithm, NotFiniteRun}
 use Rattle.runs.specs.declared.Next.the-variants.{On, Stop}
 use Rattle.runs.specs.Runs.{endRefusal}
-use Rattle.runs.specs.declared.DemandTurn.{DemandTurn}
-use Rattle.runs.specs.declared.DemandEnd.{DemandEnd}
-use Rattle.runs.specs.declared.PaceEnd.{PaceEnd}
 use Rattle.runs.specs.declared.HydronicTurn.{HydronicTurn}
 use Rattle.runs.specs.declared.HydronicEnd.{HydronicEnd}
 use Rattle.runs.specs.declared.WetEnd.{WetEnd}
-use Rattle.runs.specs.declared.DemandTask.{DemandTask}
-use Rattle.runs.specs.declared.Run.{Run}
-use Rattle.runs.specs.declared.Pace.{Pace}
-use Rattle.runs.specs.declared.PaceTurn.{PaceTurn}
 use Rattle.runs.specs.declared.HydronicTask.{HydronicTask}
 use Rattle.runs.specs.declared.WetPace.{WetPace}
 use Rattle.runs.specs.declared.WetTurn.{WetTurn}
-use Rattle.runs.specs.Apart.{endedWith, runWith, turnWith, endWith, wetWith, wetTurnWith, wetEndWith, nextRefusal, TurnLies, EndLies, WetTurnLies, WetEndLies, EndedLies}
+use Rattle.runs.specs.Apart.{endedWith, wetWith, wetTurnWith, wetEndWith, nextRefusal, WetTurnLies, WetEndLies, EndedLies}
 use Rattle.zone.specs.declared.KilowattHours.{KilowattHours}
-use Rattle.runs.specs.Demand.{demandDrive, demandBy, demandSubstep, demandEnded}
 use Rattle.runs.specs.Hydronic.{wetDrive, replayBy, hydronicBy, hydronicStep, hydronicEnded}
 use Rattle.runs.specs.Charge.{electricDrive, electricEnded, chargeElectric, lossDrive, lossEnded, batteryHeatLoss}
 
--- what is known of a substep in place, u being the definition's
-abbrev InPlace : Substep → Outcome → List Float → Type 0
-InPlace u o zones = (zones ≡ u .zones) × (o ≡ outcomeOf u)
-
-put-together : (u : Substep) (o : Outcome) (zones : List Float) → InPlace u o zones → substepWith o zones (u .energies) ≡ u
-unfolding substepWith outcomeOf
-put-together u o zones h = rw (h .0, h .1)
-
 -- where all is the definition's, zones included
-
-pub turn-lies : (r : PaceTurn) (zones : List Float) (t : DemandTurn) → turnWith r zones ≡ t → TurnLies r zones t
-turn-lies r zones t e = let z : zones ≡ t .run .zones = ap (λ (x : DemandTurn). x .run .zones) e in (ap (turnWith r) (sym z) ∙ e, λ h. z)
-
-pub end-lies : (r : PaceEnd) (zones : List Float) (t : DemandEnd) → endWith r zones ≡ t → EndLies r zones t
-end-lies r zones t e = let z : zones ≡ t .run .zones = ap (λ (x : DemandEnd). x .run .zones) e in (ap (endWith r) (sym z) ∙ e, λ h. z)
 
 pub wet-turn-lies : (r : WetTurn) (zones : List Float) (t : HydronicTurn) → wetTurnWith r zones ≡ t → WetTurnLies r zones t
 wet-turn-lies r zones t e = let z : zones ≡ t .run .zones = ap (λ (x : HydronicTurn). x .run .zones) e in (ap (wetTurnWith r) (sym z) ∙ e, λ h. z)
@@ -73,13 +52,6 @@ pub finite-refused : endRefusal NotFiniteRun ≡ 0 → ⊥
 unfolding endRefusal
 finite-refused h = omega arith
 
-pub turn-fault :
-    (s : Pace) (before zones : List Float) (e : End) (t : DemandTurn) → (endRefusal e ≡ 0 → ⊥) → record { run = runWith s before; next = Stop e } ≡ t →
-    TurnLies (record { pace = s; next = Stop e }) zones t
-turn-fault s before zones e t q d =
-    let z : before ≡ t .run .zones = ap (λ (x : DemandTurn). x .run .zones) d in
-    (ap (turnWith (record { pace = s; next = Stop e })) (sym z) ∙ d, λ h. absurd (q h))
-
 pub wet-fault :
     (s : WetPace) (before zones : List Float) (e : End) (n : ℕ) (t : HydronicTurn) → (endRefusal e ≡ 0 → ⊥) → record { run = wetWith s before; next = Stop e; substeps = n } ≡ t →
     WetTurnLies (record { pace = s; next = Stop e; substeps = n }) zones t
@@ -96,13 +68,6 @@ at-false r zones b t u h l = rw h l
 
 -- what a run hands out
 
-pub demand-lies :
-    (e : PaceEnd) (zones : List Float) (d : DemandEnd) (r : Stopped) → EndLies e zones d → ((w : List Float) → endedWith r w ≡ demandEnded (endWith e w)) →
-    EndedLies r zones (demandEnded d)
-unfolding demandEnded
-demand-lies e zones d r l f =
-    (f (d .run .zones) ∙ ap demandEnded (l .0), λ h. l .1 (sym (ap (λ (x : Ended). endRefusal (x .end)) (f zones)) ∙ h))
-
 pub wet-lies :
     (electric : KilowattHours) (e : WetEnd) (zones : List Float) (d : HydronicEnd) (r : Stopped) → WetEndLies e zones d →
     ((w : List Float) → endedWith r w ≡ hydronicEnded electric (wetEndWith e w)) → EndedLies r zones (hydronicEnded electric d)
@@ -111,18 +76,6 @@ wet-lies electric e zones d r l f =
     (f (d .run .zones) ∙ ap (hydronicEnded electric) (l .0), λ h. l .1 (sym (ap (λ (x : Ended). endRefusal (x .end)) (f zones)) ∙ h))
 
 -- a turn that goes on, and one that stops the run
-
-pub turn-on : (r : PaceTurn) (zones : List Float) (t : DemandTurn) → TurnLies r zones t → r .next ≡ On → turnWith r zones ≡ t
-turn-on r zones t h g = let z : zones ≡ t .run .zones = h .1 (ap nextRefusal g) in rw z (h .0)
-
-pub turn-stops :
-    (r : PaceTurn) (zones : List Float) (t : DemandTurn) (k : End) (n : ℕ) (e : DemandEnd) →
-    TurnLies r zones t → r .next ≡ Stop k → record { run = t .run; end = k; substeps = n } ≡ e →
-    EndLies (record { pace = r .pace; end = k; substeps = n }) zones e
-turn-stops r zones t k n e h g d =
-    let z : t .run .zones ≡ e .run .zones = ap (λ (x : DemandEnd). x .run .zones) d in
-    let w : runWith (r .pace) (t .run .zones) ≡ t .run = ap (λ (x : DemandTurn). x .run) (h .0) in
-    (ap (λ (v : List Float). endWith (record { pace = r .pace; end = k; substeps = n }) v) (sym z) ∙ ap (λ (v : Run). record { run = v; end = k; substeps = n }) w ∙ d, λ q. h .1 (ap nextRefusal g ∙ q) ∙ z)
 
 pub wet-turn-on : (r : WetTurn) (zones : List Float) (t : HydronicTurn) → WetTurnLies r zones t → r .next ≡ On → wetTurnWith r zones ≡ t
 wet-turn-on r zones t h g = let z : zones ≡ t .run .zones = h .1 (ap nextRefusal g) in rw z (h .0)
@@ -137,18 +90,6 @@ wet-turn-stops r zones t k e h g d =
           ap (λ (v : HydronicTurn). record { run = v .run; end = k; substeps = v .substeps }) (h .0) ∙ d,
       λ q. h .1 (ap nextRefusal g ∙ q) ∙ z,
     )
-
-module _ (x : DemandTask) (s : Pace) (before zones : List Float) (d : Drive) (o : Outcome) (t : PaceTurn) where
-  pub demand-turn :
-      d ≡ demandDrive x (runWith s before) →
-      InPlace (processHeatBatteryZones (x .card) (x .pcm) d before) o zones →
-      ((energies : List Float) → TurnLies t zones (demandBy x (runWith s before) (substepWith o zones energies) (o .fault))) →
-      TurnLies t zones (demandSubstep x (runWith s before))
-  unfolding demandSubstep substepWith
-  demand-turn h g e =
-      let u = processHeatBatteryZones (x .card) (x .pcm) d before in
-      let w = ap (λ (v : Substep). demandBy x (runWith s before) v (v .fault)) (put-together u o zones g) in
-      rw (← h) (subst (TurnLies t zones) w (e (u .energies)))
 
 module _ (x : HydronicTask) (n : ℕ) (s : WetPace) (before zones : List Float) (d : Drive) (o : Outcome) (t : WetTurn) where
   pub replay-turn :

@@ -1,60 +1,28 @@
 -- The runs of substeps, turn by turn: each way out of a run, and one turn on.
 use mathlib.Core.Path.{_≡_, refl, sym, _∙_, ap}
-use mathlib.Core.Bool.{Bool, true, false, not, cond}
+use mathlib.Core.Bool.{Bool, true, false, cond}
 use Prim.Native.Nat.{ℕ, zero, suc, _≤_, _+_, _-_}
 use native.Mathlib.Omega.{arith}
-use borrow.Author.Tests.{not-true, not-false, eq-eqb, ne-eqb}
+use borrow.Author.Tests.{eq-eqb, ne-eqb}
 use lib.Dec.{eqb}
 use lib.Ieee.{Float, lt, neg}
 use Rattle.floats.specs.F64.{_⊕_}
 use Rattle.floats.specs.Constants as Constants
-use Rattle.floats.proofs.Branch.{via-true, via-false}
+use Rattle.floats.proofs.Branch.{via-true}
 use Rattle.zone.specs.Heat.{kj}
 use Rattle.substep.specs.Substep.{processHeatBatteryZones}
 use Rattle.substep.specs.declared.Substep.{Substep}
 use Rattle.substep.specs.declared.Fault.{Fault}
 use Rattle.substep.specs.declared.Fault.the-variants.{Nothing, Logarithm, NotFinite}
 use Rattle.runs.specs.Runs.{reynoldBetween}
-use Rattle.runs.specs.declared.DemandTask.{DemandTask}
-use Rattle.runs.specs.declared.Run.{Run}
-use Rattle.runs.specs.declared.DemandTurn.{DemandTurn}
 use Rattle.runs.specs.declared.HydronicTask.{HydronicTask}
 use Rattle.runs.specs.declared.HydronicRun.{HydronicRun}
 use Rattle.runs.specs.declared.HydronicTurn.{HydronicTurn}
 use Rattle.runs.specs.declared.End.{End}
-use Rattle.runs.specs.declared.End.the-variants.{NoStep, OverBudget, Time, Limit, Level}
+use Rattle.runs.specs.declared.End.the-variants.{OverBudget, Time, Limit, Level}
 use Rattle.runs.specs.declared.Next.{Next}
 use Rattle.runs.specs.declared.Next.the-variants.{On, Stop}
-use Rattle.runs.specs.Demand.{demandEnd, demandThen, demandRun, demandSubstep}
 use Rattle.runs.specs.Hydronic.{wetDrive, clearlyBelow, limitReached, hydronicTurn, replayBy, replayed, fractionSeconds, hydronicWhole, hydronicBy, hydronicEnd, hydronicThen, hydronicRun, hydronicStep}
-
-no-step-at : (x : DemandTask) (k n : ℕ) (s : Run) → lt Constants.zero (s .step) ≡ false → demandEnd s NoStep n ≡ demandRun x k n s
-unfolding demandRun
-no-step-at x zero n s h = via-false _ _ h refl
-no-step-at x (suc k) n s h = via-false _ _ h refl
-
-module _ (x : DemandTask) (b n : ℕ) (s : Run) where
-  pub demand-no-step : not (lt Constants.zero (s .step)) ≡ true → demandEnd s NoStep n ≡ demandRun x (b - n) n s
-  demand-no-step h = no-step-at x (b - n) n s (not-true (lt Constants.zero (s .step)) h)
-
-  pub demand-over-budget : n ≡ b → not (lt Constants.zero (s .step)) ≡ false → demandEnd s OverBudget n ≡ demandRun x (b - n) n s
-  unfolding demandRun
-  demand-over-budget e h =
-      let z : b - n ≡ 0 = omega arith in
-      rw z (via-true _ _ (not-false (lt Constants.zero (s .step)) h) refl)
-
-  module _ (t : DemandTurn) (p : n ≤ b) (q : n ≡ b → ⊥) (h : not (lt Constants.zero (s .step)) ≡ false) (e : t ≡ demandSubstep x s) where
-    demand-unfolds : demandRun x (b - n) n s ≡ demandThen (demandRun x (b - (n + 1)) (n + 1)) (n + 1) (t .run) (t .next)
-    unfolding demandRun
-    demand-unfolds =
-        let z : b - n ≡ suc (b - (n + 1)) = omega arith in
-        rw (z, not-false (lt Constants.zero (s .step)) h, e)
-
-    pub demand-stop : (k : End) → t .next ≡ Stop k → demandEnd (t .run) k (n + 1) ≡ demandRun x (b - n) n s
-    demand-stop k d = sym (demand-unfolds ∙ rw d)
-
-    pub demand-on : t .next ≡ On → demandRun x (b - n) n s ≡ demandRun x (b - (n + 1)) (n + 1) (t .run)
-    demand-on d = demand-unfolds ∙ rw d
 
 -- a turn that goes on took one substep
 

@@ -5,12 +5,6 @@ use Prim.Native.Nat.{ℕ}
 use lib.Ieee.{Float}
 use Rattle.runs.specs.declared.Ended.{Ended}
 use Rattle.runs.specs.declared.Stopped.{Stopped}
-use Rattle.runs.specs.declared.Run.{Run}
-use Rattle.runs.specs.declared.Pace.{Pace}
-use Rattle.runs.specs.declared.DemandTurn.{DemandTurn}
-use Rattle.runs.specs.declared.PaceTurn.{PaceTurn}
-use Rattle.runs.specs.declared.DemandEnd.{DemandEnd}
-use Rattle.runs.specs.declared.PaceEnd.{PaceEnd}
 use Rattle.runs.specs.declared.HydronicRun.{HydronicRun}
 use Rattle.runs.specs.declared.WetPace.{WetPace}
 use Rattle.runs.specs.declared.HydronicTurn.{HydronicTurn}
@@ -24,16 +18,6 @@ use Rattle.runs.specs.Runs.{endRefusal}
 abbrev pub endedWith : Stopped → List Float → Ended
 endedWith s zones =
     record { zones = zones; energy = s .energy; electric = s .electric; outlet = s .outlet; time = s .time; end = s .end; substeps = s .substeps }
-
-abbrev pub runWith : Pace → List Float → Run
-runWith p zones =
-    record { zones = zones; step = p .step; running = p .running; delivered = p .delivered; electric = p .electric; outlet = p .outlet; reynold = p .reynold }
-
-abbrev pub turnWith : PaceTurn → List Float → DemandTurn
-turnWith t zones = record { run = runWith (t .pace) zones; next = t .next }
-
-abbrev pub endWith : PaceEnd → List Float → DemandEnd
-endWith e zones = record { run = runWith (e .pace) zones; end = e .end; substeps = e .substeps }
 
 abbrev pub wetWith : WetPace → List Float → HydronicRun
 wetWith p zones = record { zones = zones; absorbed = p .absorbed; reynold = p .reynold; time = p .time }
@@ -50,12 +34,6 @@ nextRefusal On = 0
 nextRefusal (Stop e) = endRefusal e
 
 -- What a function hands out, and the zones that it leaves, are the definition's; a refused run may leave any zones, since they are shown nowhere.
-abbrev pub TurnLies : PaceTurn → List Float → DemandTurn → Type 0
-TurnLies r zones t = (turnWith r (t .run .zones) ≡ t) × (nextRefusal (r .next) ≡ 0 → zones ≡ t .run .zones)
-
-abbrev pub EndLies : PaceEnd → List Float → DemandEnd → Type 0
-EndLies r zones e = (endWith r (e .run .zones) ≡ e) × (endRefusal (r .end) ≡ 0 → zones ≡ e .run .zones)
-
 abbrev pub WetTurnLies : WetTurn → List Float → HydronicTurn → Type 0
 WetTurnLies r zones t = (wetTurnWith r (t .run .zones) ≡ t) × (nextRefusal (r .next) ≡ 0 → zones ≡ t .run .zones)
 

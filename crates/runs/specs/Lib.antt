@@ -1,5 +1,4 @@
 pub mod Runs
-pub mod Demand
 pub mod Hydronic
 pub mod Charge
 pub mod Apart

@@ -1,6 +1,5 @@
-// The runs of substeps: document 01, module 6, and the substeps of module 7.
+// The runs of substeps that charge or lose heat: document 01, module 6; and what every run has.
 pub mod charge;
-pub mod demand;
 pub mod hydronic;
 
 use card::Card;
@@ -56,64 +55,6 @@ pub struct Stopped {
     pub time: f64,
     pub end: End,
     pub substeps: u32,
-}
-
-// What a demand asks: fixed over its substeps.
-pub struct DemandTask {
-    pub card: Card,
-    pub pcm: HeatBatteryPcm,
-    // °C of the return
-    pub feed: f64,
-    // kW of the charger
-    pub power: f64,
-    // of one unit
-    pub demand: KilowattHours,
-    // time available
-    pub seconds: f64,
-}
-
-// What a demand's substeps change.
-pub struct Run {
-    pub zones: [f64; 64],
-    // seconds of the next substep
-    pub step: f64,
-    pub running: f64,
-    pub delivered: KilowattHours,
-    pub electric: KilowattHours,
-    pub outlet: f64,
-    pub reynold: f64,
-}
-
-// The same but its zones.
-pub struct Pace {
-    pub step: f64,
-    pub running: f64,
-    pub delivered: KilowattHours,
-    pub electric: KilowattHours,
-    pub outlet: f64,
-    pub reynold: f64,
-}
-
-pub struct DemandTurn {
-    pub run: Run,
-    pub next: Next,
-}
-
-pub struct PaceTurn {
-    pub pace: Pace,
-    pub next: Next,
-}
-
-pub struct DemandEnd {
-    pub run: Run,
-    pub end: End,
-    pub substeps: u16,
-}
-
-pub struct PaceEnd {
-    pub pace: Pace,
-    pub end: End,
-    pub substeps: u16,
 }
 
 // A wet source's figures.

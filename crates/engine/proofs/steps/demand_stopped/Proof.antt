@@ -1,4 +1,4 @@
-use Rattle.runs.proofs.InPlace.{demand-lies}
+use Rattle.delivery.proofs.InPlace.{demand-lies}
 use mathlib.Core.List.{[]}
 use Rattle.engine.specs.Steps.{demandTask}
 use borrow.Author.Needs.{needs}

@@ -1,8 +1,8 @@
 use mathlib.Core.Path.{refl}
 use Rattle.floats.proofs.Branch.{via-true, via-false}
-use Rattle.runs.specs.Demand.{cut}
-use Rattle.runs.proofs.demand.cut.Statement.{statement}
-use Rattle.runs.proofs.demand.cut.Tie as tie
+use Rattle.delivery.specs.Demand.{cut}
+use Rattle.delivery.proofs.cut.Statement.{statement}
+use Rattle.delivery.proofs.cut.Tie as tie
 
 returns : tie.Need-returns
 unfolding cut

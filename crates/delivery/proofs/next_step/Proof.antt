@@ -1,9 +1,9 @@
 use mathlib.Core.Path.{refl}
 use Rattle.floats.proofs.Branch.{via-true, via-false}
-use Rattle.runs.specs.Demand.{nextStep}
+use Rattle.delivery.specs.Demand.{nextStep}
 use borrow.Author.Needs.{needs}
-use Rattle.runs.proofs.demand.next_step.Statement.{statement}
-use Rattle.runs.proofs.demand.next_step.Tie as tie
+use Rattle.delivery.proofs.next_step.Statement.{statement}
+use Rattle.delivery.proofs.next_step.Tie as tie
 
 capped-requires : tie.Need-capped-requires
 capped-requires c κs = search needs

@@ -1,10 +1,11 @@
-use Rattle.runs.proofs.InPlace.{demand-turn, turn-lies, turn-fault, log-refused, finite-refused}
+use Rattle.delivery.proofs.InPlace.{demand-turn, turn-lies, turn-fault}
+use Rattle.runs.proofs.InPlace.{log-refused, finite-refused}
 use Rattle.substep.specs.Substep.{substepWith}
-use Rattle.runs.specs.Demand.{demandBy}
+use Rattle.delivery.specs.Demand.{demandBy}
 use mathlib.Core.Path.{sym, _∙_, ap}
 use borrow.Author.Needs.{needs}
-use Rattle.runs.proofs.demand.demand_substep.Statement.{statement}
-use Rattle.runs.proofs.demand.demand_substep.Tie as tie
+use Rattle.delivery.proofs.demand_substep.Statement.{statement}
+use Rattle.delivery.proofs.demand_substep.Tie as tie
 
 demand-drive-requires : tie.Need-demand-drive-requires
 demand-drive-requires c κs = search needs

@@ -1,8 +1,8 @@
 use mathlib.Core.Path.{refl}
-use Rattle.runs.specs.Demand.{demandEnded}
+use Rattle.delivery.specs.Demand.{demandEnded}
 use borrow.Author.Needs.{needs}
-use Rattle.runs.proofs.demand.demand_ended.Statement.{statement}
-use Rattle.runs.proofs.demand.demand_ended.Tie as tie
+use Rattle.delivery.proofs.demand_ended.Statement.{statement}
+use Rattle.delivery.proofs.demand_ended.Tie as tie
 
 cast-t6 : tie.Need-cast-t6
 cast-t6 c = search needs

@@ -14,16 +14,16 @@ use Rattle.substep.specs.declared.Drive.{Drive}
 use Rattle.substep.specs.declared.Substep.{Substep}
 use Rattle.substep.specs.declared.Fault.{Fault}
 use Rattle.substep.specs.declared.Fault.the-variants.{Nothing, Logarithm, NotFinite}
-use Rattle.runs.specs.declared.DemandTask.{DemandTask}
-use Rattle.runs.specs.declared.Run.{Run}
+use Rattle.delivery.specs.declared.DemandTask.{DemandTask}
+use Rattle.delivery.specs.declared.Run.{Run}
 use Rattle.runs.specs.declared.Next.{Next}
 use Rattle.runs.specs.declared.Next.the-variants.{On, Stop}
-use Rattle.runs.specs.declared.DemandTurn.{DemandTurn}
-use Rattle.runs.specs.declared.DemandEnd.{DemandEnd}
+use Rattle.delivery.specs.declared.DemandTurn.{DemandTurn}
+use Rattle.delivery.specs.declared.DemandEnd.{DemandEnd}
 use Rattle.runs.specs.declared.Ended.{Ended}
 use Rattle.runs.specs.declared.End.{End}
 use Rattle.runs.specs.declared.End.the-variants.{Negative, Met, NoStep, OverBudget, NoLogarithm, NotFiniteRun}
 use Rattle.runs.specs.Runs.{reynoldBetween}
 
 -- a substep of the step's length; a demand charges to level 0
 unfoldable pub demandDrive : DemandTask → Run → Drive

@@ -1,8 +1,8 @@
-use Rattle.runs.specs.Demand.{runAfter}
+use Rattle.delivery.specs.Demand.{runAfter}
 use Rattle.substep.specs.Substep.{substepWith}
 use borrow.Author.Needs.{needs}
-use Rattle.runs.proofs.demand.pace_after.Statement.{statement}
-use Rattle.runs.proofs.demand.pace_after.Tie as tie
+use Rattle.delivery.proofs.pace_after.Statement.{statement}
+use Rattle.delivery.proofs.pace_after.Tie as tie
 
 reynold-between-requires : tie.Need-reynold-between-requires
 reynold-between-requires c κs = search needs

@@ -1,16 +1,16 @@
 use mathlib.Core.Path.{refl, ap}
-use Rattle.runs.specs.declared.DemandTurn.{DemandTurn}
-use Rattle.runs.proofs.InPlace.{turn-on, end-lies, turn-stops}
+use Rattle.delivery.specs.declared.DemandTurn.{DemandTurn}
+use Rattle.delivery.proofs.InPlace.{turn-on, end-lies, turn-stops}
 use native.Mathlib.Nat.{sub-zero}
-use Rattle.runs.specs.Apart.{runWith}
-use Rattle.runs.specs.Demand.{demandRun}
-use Rattle.runs.proofs.Runs.{demand-no-step, demand-over-budget, demand-stop, demand-on}
+use Rattle.delivery.specs.Apart.{runWith}
+use Rattle.delivery.specs.Demand.{demandRun}
+use Rattle.delivery.proofs.Turns.{demand-no-step, demand-over-budget, demand-stop, demand-on}
 use mathlib.Core.Path.{_≡_, sym, _∙_}
 use Prim.Native.Nat.{_≤_, _-_}
 use native.Mathlib.Omega.{arith}
 use borrow.Author.Needs.{needs}
-use Rattle.runs.proofs.demand.demand_run.Statement.{statement}
-use Rattle.runs.proofs.demand.demand_run.Tie as tie
+use Rattle.delivery.proofs.demand_run.Statement.{statement}
+use Rattle.delivery.proofs.demand_run.Tie as tie
 
 abbrev Inv-loop : tie.InvT-loop
 Inv-loop x budget zones₀ pace₀ substeps₀ zones pace substeps =

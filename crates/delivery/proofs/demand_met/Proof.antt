@@ -1,9 +1,9 @@
 use mathlib.Core.Path.{refl}
 use Rattle.floats.proofs.Branch.{via-true, via-false}
-use Rattle.runs.specs.Demand.{demandMet}
+use Rattle.delivery.specs.Demand.{demandMet}
 use borrow.Author.Needs.{needs}
-use Rattle.runs.proofs.demand.demand_met.Statement.{statement}
-use Rattle.runs.proofs.demand.demand_met.Tie as tie
+use Rattle.delivery.proofs.demand_met.Statement.{statement}
+use Rattle.delivery.proofs.demand_met.Tie as tie
 
 nearly-equal-requires : tie.Need-nearly-equal-requires
 nearly-equal-requires c κs = search needs

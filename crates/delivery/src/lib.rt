@@ -1,11 +1,9 @@
 // Document 01, module 7: the substeps of a demand.
-use crate::DemandTask;
-use crate::End;
-use crate::Next;
-use crate::Pace;
-use crate::PaceEnd;
-use crate::PaceTurn;
-use crate::Stopped;
+use card::Card;
+use card::HeatBatteryPcm;
+use runs::End;
+use runs::Next;
+use runs::Stopped;
 use substep::Drive;
 use substep::Fault;
 use substep::Outcome;
@@ -16,8 +14,67 @@ ghost use mathlib.Core.List.{List};
 ghost use Prim.Native.Nat.{_≤_};
 ghost use lib.Ieee.{Float};
 ghost use Rattle.substep.specs.Substep.{substepWith};
-ghost use Rattle.runs.specs.Apart.{endedWith, runWith, turnWith, endWith, TurnLies, EndLies};
-ghost use Rattle.runs.specs.Demand.{demandDrive, capped as cappedOf, nextStep, demandMet, cut as cutOf, runAfter, demandDelivered, demandSubstep, demandRun, demandEnded};
+ghost use Rattle.runs.specs.Apart.{endedWith};
+ghost use Rattle.delivery.specs.Apart.{runWith, turnWith, endWith, TurnLies, EndLies};
+ghost use Rattle.delivery.specs.Demand.{demandDrive, capped as cappedOf, nextStep, demandMet, cut as cutOf, runAfter, demandDelivered, demandSubstep, demandRun, demandEnded};
+
+// What a demand asks: fixed over its substeps.
+pub struct DemandTask {
+    pub card: Card,
+    pub pcm: HeatBatteryPcm,
+    // °C of the return
+    pub feed: f64,
+    // kW of the charger
+    pub power: f64,
+    // of one unit
+    pub demand: KilowattHours,
+    // time available
+    pub seconds: f64,
+}
+
+// What a demand's substeps change.
+pub struct Run {
+    pub zones: [f64; 64],
+    // seconds of the next substep
+    pub step: f64,
+    pub running: f64,
+    pub delivered: KilowattHours,
+    pub electric: KilowattHours,
+    pub outlet: f64,
+    pub reynold: f64,
+}
+
+// The same but its zones.
+pub struct Pace {
+    pub step: f64,
+    pub running: f64,
+    pub delivered: KilowattHours,
+    pub electric: KilowattHours,
+    pub outlet: f64,
+    pub reynold: f64,
+}
+
+pub struct DemandTurn {
+    pub run: Run,
+    pub next: Next,
+}
+
+pub struct PaceTurn {
+    pub pace: Pace,
+    pub next: Next,
+}
+
+pub struct DemandEnd {
+    pub run: Run,
+    pub end: End,
+    pub substeps: u16,
+}
+
+pub struct PaceEnd {
+    pub pace: Pace,
+    pub end: End,
+    pub substeps: u16,
+}
 
 fn demand_drive(x: DemandTask, s: Pace) -> Drive
     ensures { λ r. ⌜ ((zones : List Float) → r ≡ demandDrive x (runWith s zones)) ⌝ }
@@ -84,7 +141,7 @@ fn pace_after(x: DemandTask, s: Pace, u: Outcome, step: f64, delivered: Kilowatt
     ensures { λ r. ⌜ ((before zones energies : List Float) → runWith r zones ≡ runAfter x (runWith s before) (substepWith u zones energies) step delivered) ⌝ }
 {
     let card = x.card;
-    let reynold = crate::reynold_between(x.feed, u.outlet, card.velocity, x.pcm.diameter);
+    let reynold = runs::reynold_between(x.feed, u.outlet, card.velocity, x.pcm.diameter);
     Pace {
         step,
         running: s.running + s.step,

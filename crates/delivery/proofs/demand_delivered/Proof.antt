@@ -1,10 +1,10 @@
 use mathlib.Core.Path.{refl}
 use Rattle.floats.proofs.Branch.{via-true, via-false}
-use Rattle.runs.specs.Demand.{demandDelivered}
+use Rattle.delivery.specs.Demand.{demandDelivered}
 use Rattle.substep.specs.Substep.{substepWith}
 use borrow.Author.Needs.{needs}
-use Rattle.runs.proofs.demand.demand_delivered.Statement.{statement}
-use Rattle.runs.proofs.demand.demand_delivered.Tie as tie
+use Rattle.delivery.proofs.demand_delivered.Statement.{statement}
+use Rattle.delivery.proofs.demand_delivered.Tie as tie
 
 pace-after-requires : tie.Need-pace-after-requires
 pace-after-requires c κs = search needs

@@ -1,8 +1,8 @@
 use mathlib.Core.Path.{refl}
 use Rattle.floats.proofs.Branch.{via-true, via-false}
-use Rattle.runs.specs.Demand.{capped}
-use Rattle.runs.proofs.demand.capped.Statement.{statement}
-use Rattle.runs.proofs.demand.capped.Tie as tie
+use Rattle.delivery.specs.Demand.{capped}
+use Rattle.delivery.proofs.capped.Statement.{statement}
+use Rattle.delivery.proofs.capped.Tie as tie
 
 returns : tie.Need-returns
 unfolding capped

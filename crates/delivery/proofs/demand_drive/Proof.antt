@@ -1,7 +1,7 @@
 use mathlib.Core.Path.{refl}
-use Rattle.runs.specs.Demand.{demandDrive}
-use Rattle.runs.proofs.demand.demand_drive.Statement.{statement}
-use Rattle.runs.proofs.demand.demand_drive.Tie as tie
+use Rattle.delivery.specs.Demand.{demandDrive}
+use Rattle.delivery.proofs.demand_drive.Statement.{statement}
+use Rattle.delivery.proofs.demand_drive.Tie as tie
 
 returns : tie.Need-returns
 unfolding demandDrive
