@@ -27,6 +27,7 @@ pub mod Cases
 pub mod Standins
 pub mod Rulesets
 pub mod Branch
+pub mod Negligible
 pub mod Constants
 pub mod Sum2Laws
 pub mod LnLaws

@@ -140,14 +140,12 @@ pub fn calculate_new_zone_temperature(salt: Salt, zone: f64, energy: Kilojoules)
     ensures { λ r. ⌜ r ≡ newZoneTemperature salt zone energy ⌝ }
 {
     let e = energy.0;
-    if floats::nearly_equal(e, 0.0, floats::NEGLIGIBLE_ENERGY_KJ, floats::MAX_RELATIVE) {
-        return ZoneUpdate { temperature: zone };
-    }
-    if e > 0.0 {
+    // Nearly equal to 0 is a magnitude of at most NEGLIGIBLE_ENERGY_KJ, and two comparisons cost less; a NaN leaves the zone.
+    if e > floats::NEGLIGIBLE_ENERGY_KJ {
         let d = delivering(salt, zone, e);
         return lowered(zone, d);
     }
-    if e < 0.0 {
+    if e < -floats::NEGLIGIBLE_ENERGY_KJ {
         let d = retrieving(salt, zone, e);
         return lowered(zone, d);
     }
