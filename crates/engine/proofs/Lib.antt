@@ -16,4 +16,5 @@ pub mod Refused
 pub mod OverFull
 pub mod NoLogarithm
 pub mod NotFinite
-pub mod Settled
+pub mod ByKind
+pub mod ByValue

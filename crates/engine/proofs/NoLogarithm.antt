@@ -25,7 +25,8 @@ use Rattle.runs.specs.declared.End.{End}
 use Rattle.runs.specs.declared.End.the-variants.{Done, Negative, Met, NoStep, Level, Limit, Time, OverBudget, NoLogarithm, NotFiniteRun}
 use Rattle.runs.specs.declared.Ended.{Ended}
 use Rattle.runs.specs.declared.Source.the-variants.{Electric}
-use Rattle.engine.specs.Steps.{demandTask, demandStart, wetSource, stepOf}
+use Rattle.replies.specs.Replies.{demandStart}
+use Rattle.engine.specs.Steps.{demandTask, wetSource, stepOf}
 use Rattle.engine.specs.Budget.{wetOf}
 use Rattle.engine.specs.Faults.{demandRunOf, hydronicTaskOf, hydronicRunOf, DemandFaulted, HydronicFaulted, NoLogarithmTaken}
 use Rattle.engine.proofs.Turns.{never}

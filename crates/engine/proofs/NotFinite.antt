@@ -15,7 +15,8 @@ use Rattle.delivery.specs.Demand.{demandEnded}
 use Rattle.runs.specs.Charge.{electricDrive, electricEnded, chargeElectric, chargeBattery, lossDrive, lossEnded, batteryHeatLoss}
 use Rattle.runs.specs.declared.Ended.{Ended}
 use Rattle.runs.specs.declared.Source.the-variants.{Electric}
-use Rattle.engine.specs.Steps.{demandAnswer, stepOf}
+use Rattle.replies.specs.Replies.{demandAnswer}
+use Rattle.engine.specs.Steps.{stepOf}
 use Rattle.engine.specs.Faults.{SubstepFault, demandRunOf, AnswerNotFinite, LevelNotFinite, NotFiniteFound}
 use Rattle.engine.proofs.Turns.{never}
 use Rattle.engine.proofs.Faulty.{substep-fault, endFault}

@@ -17,7 +17,7 @@ use Rattle.battery.specs.declared.Battery.{Battery}
 use Rattle.battery.specs.declared.Answer.{Answer}
 use Rattle.battery.proofs.Zones.{SameAbove, same-above}
 use Rattle.runs.specs.Runs.{endRefusal}
-use Rattle.engine.specs.Steps.{checked, unlessRefused, runAnswer, chargedBattery, cooledBattery, closedBattery}
+use Rattle.replies.specs.Replies.{checked, unlessRefused, runAnswer, chargedBattery, cooledBattery, closedBattery}
 use Rattle.runs.specs.declared.End.{End}
 use Rattle.runs.specs.declared.End.the-variants.{Done, Negative, Met, NoStep, Level, Limit, Time, OverBudget, NoLogarithm, NotFiniteRun}
 use Rattle.runs.specs.declared.Ended.{Ended}

@@ -37,7 +37,8 @@ use Rattle.battery.proofs.Zones.{zones-finite-at}
 use Rattle.substep.proofs.Warmth.{losses-warm-none, charging-cools-none}
 use Rattle.runs.specs.Runs.{endRefusal, timeAvailable}
 use Rattle.runs.specs.Charge.{electricDrive, electricEnded, chargeElectric, chargeBattery, lossDrive, lossEnded, batteryHeatLoss}
-use Rattle.engine.specs.Steps.{checked, unlessRefused, runAnswer, chargedBattery, cooledBattery, charge, heatLoss, stepOf}
+use Rattle.replies.specs.Replies.{checked, unlessRefused, runAnswer, chargedBattery, cooledBattery}
+use Rattle.engine.specs.Steps.{charge, heatLoss, stepOf}
 use Rattle.runs.specs.declared.Ended.{Ended}
 use Rattle.runs.specs.declared.Source.the-variants.{Electric}
 

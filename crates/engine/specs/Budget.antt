@@ -25,7 +25,8 @@ use Rattle.runs.specs.declared.End.the-variants.{OverBudget}
 use Rattle.delivery.specs.Demand.{demandRun}
 use Rattle.runs.specs.Hydronic.{wetDrive, clearlyBelow, limitReached, hydronicRun, wholeSubsteps}
 use Rattle.runs.specs.Charge.{hydronicTask, hydronicStart}
-use Rattle.engine.specs.Steps.{demandTask, demandStart}
+use Rattle.replies.specs.Replies.{demandStart}
+use Rattle.engine.specs.Steps.{demandTask}
 
 -- a run of a demand, with its budget: its next step is positive
 pub record DemandOver (budget : ℕ) (e : DemandEnd) : Type 0 where

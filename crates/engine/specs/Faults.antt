@@ -40,7 +40,8 @@ use Rattle.runs.specs.declared.HydronicRun.{HydronicRun}
 use Rattle.runs.specs.declared.HydronicEnd.{HydronicEnd}
 use Rattle.runs.specs.declared.Ended.{Ended}
 use Rattle.runs.specs.declared.Source.the-variants.{Electric}
-use Rattle.engine.specs.Steps.{demandTask, demandStart, demandAnswer, runAnswer, chargedBattery, cooledBattery, closedBattery, level, wetSource}
+use Rattle.replies.specs.Replies.{demandStart, demandAnswer, runAnswer, chargedBattery, cooledBattery, closedBattery}
+use Rattle.engine.specs.Steps.{demandTask, level, wetSource}
 use Rattle.engine.specs.Budget.{wholeFrom, FractionDue, wetOf}
 
 -- '25 state of charge above 1.0 + 1e-10'

@@ -1,4 +1,4 @@
 pub mod Steps
+pub mod Asked
 pub mod Budget
 pub mod Faults
-pub mod Apart

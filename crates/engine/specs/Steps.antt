@@ -1,11 +1,10 @@
 -- Document 01, 'What demand 3 speaks of': the steps. 'Their state is zones and five totals, at first fresh'; a battery is that state with its card.
 use Prim.Native.Nat.{ℕ}
-use mathlib.Core.Bool.{Bool, true, false, cond, _&&_}
+use mathlib.Core.Bool.{Bool, cond, _&&_}
 use lib.Dec.{eqb}
-use lib.IntN.{pos}
-use lib.Ieee.{Float, binary64, le, ofInt}
-use Rattle.floats.specs.F64.{_⊕_, _⊗_, _⊘_}
-use Rattle.floats.specs.Constants.{zero, one, tolerance, hour}
+use lib.Ieee.{Float, le}
+use Rattle.floats.specs.F64.{_⊗_, _⊘_}
+use Rattle.floats.specs.Constants.{zero, tolerance, hour}
 use Rattle.zone.specs.Heat.{kwh}
 use Rattle.zone.specs.Layer.{stateOfCharge}
 use Rattle.zone.specs.declared.StateOfCharge.{StateOfCharge}
@@ -14,7 +13,7 @@ use Rattle.card.specs.Derived.{derived}
 use Rattle.card.specs.declared.Card.{Card}
 use Rattle.battery.specs.Battery.{batteryAccepted}
 use Rattle.battery.specs.Call.{callInRange}
-use Rattle.battery.specs.Answer.{refusedWith, plainAnswer, answerFinite}
+use Rattle.battery.specs.Answer.{refusedWith, plainAnswer}
 use Rattle.battery.specs.declared.Battery.{Battery}
 use Rattle.battery.specs.declared.Given.{Given}
 use Rattle.battery.specs.declared.Given.the-variants.{Absent, Value}
@@ -23,54 +22,18 @@ use Rattle.battery.specs.declared.Hydronic.{Hydronic}
 use Rattle.battery.specs.declared.Call.{Call}
 use Rattle.battery.specs.declared.Call.the-variants.{DemandEnergy, ChargeElectric, ChargeHydronic, HeatLoss, CloseTimestep, ReadStateOfCharge, ChargeEnergyDemand}
 use Rattle.battery.specs.declared.Answer.{Answer}
-use Rattle.engine.specs.declared.ServiceClass.{ServiceClass}
-use Rattle.engine.specs.declared.ServiceClass.the-variants.{Combi, Regular, Space, Direct}
 use Rattle.runs.specs.declared.Source.{Source}
 use Rattle.runs.specs.declared.Source.the-variants.{Electric, Wet}
 use Rattle.delivery.specs.declared.DemandTask.{DemandTask}
-use Rattle.delivery.specs.declared.Run.{Run}
 use Rattle.runs.specs.declared.Ended.{Ended}
-use Rattle.runs.specs.Runs.{endRefusal, reynoldBetween, timeAvailable}
+use Rattle.runs.specs.Runs.{timeAvailable}
 use Rattle.delivery.specs.Demand.{demandRun, demandEnded}
 use Rattle.runs.specs.Charge.{chargeBattery, batteryHeatLoss, chargeEnergyDemand}
-
--- '23 .. or a reported number or total isn't' finite: the refusal line with the battery b as before
-unfoldable pub checked : Battery → Answer → Answer
-checked b a = cond (answerFinite a) a (refusedWith 23 b)
-
--- an answer of a run, unless it ended in 22, 23 or 24
-unfoldable pub unlessRefused : Battery → Ended → Answer → Answer
-unlessRefused b r a = cond (eqb (endRefusal (r .end)) 0) (checked b a) (refusedWith (endRefusal (r .end)) b)
-
--- 'type (u8: 0 combi, 1 regular, 2 space, 3 direct)'
-unfoldable pub serviceClass : Card → ℕ → ServiceClass
-serviceClass c service = cond (eqb service 1) Regular (cond (eqb service 2) Space (cond (eqb service 3) Direct Combi))
-
--- the Rust has no running time for a combi
-unfoldable pub unserved : ServiceClass → Bool
-unserved Combi = true
-unserved Regular = false
-unserved Space = false
-unserved Direct = false
-
-unfoldable pub pumpAfter : ServiceClass → Float → Float → Float
-pumpAfter Combi pump hours = pump
-pumpAfter Regular pump hours = pump ⊕ hours
-pumpAfter Space pump hours = pump ⊕ hours
-pumpAfter Direct pump hours = pump
-
-unfoldable pub directAfter : ServiceClass → Float → Float → Float
-directAfter Combi direct hours = direct
-directAfter Regular direct hours = direct
-directAfter Space direct hours = direct
-directAfter Direct direct hours = direct ⊕ hours
+use Rattle.replies.specs.Replies.{checked, unlessRefused, serviceClass, unserved, unitsOf, demandStart, demandAnswer, chargedBattery, cooledBattery, runAnswer, closedBattery}
 
 -- '`electric_charge`: the card's power where the call's control flag is 1, else 0', where the card charges during a demand
 unfoldable pub demandPower : Card → Bool → Float
 demandPower c control = cond (eqb (c .simultaneous) 1 && control) (c .power) zero
-
-abbrev pub unitsOf : Card → Float
-unitsOf c = ofInt binary64 (pos (c .units))
 
 unfoldable pub demandTask : Battery → Demand → Float → DemandTask
 demandTask b d feed =
@@ -81,49 +44,6 @@ demandTask b d feed =
       power = demandPower (b .card) (d .control);
       demand = kwh (d .required ⊘ unitsOf (b .card));
       seconds = timeAvailable b (d .start) ⊗ hour;
-    }
-
--- 'the first substep is 1 s, even with no time left'
-unfoldable pub demandStart : Battery → Run
-demandStart b =
-    record {
-      zones = b .zones;
-      step = one;
-      running = zero;
-      delivered = kwh zero;
-      electric = kwh (b .electric);
-      outlet = zero;
-      reynold = reynoldBetween (b .card .inlet) (b .card .outlet) (b .card .velocity) (derived (b .card) .diameter);
-    }
-
--- a committed demand's battery: zones, running hours by class, charged electric
-unfoldable pub served : Battery → ServiceClass → Ended → Battery
-served b class r =
-    record {
-      card = b .card;
-      zones = r .zones;
-      count = b .count;
-      total = b .total ⊕ r .time ⊘ hour;
-      pump = pumpAfter class (b .pump) (r .time ⊘ hour);
-      direct = directAfter class (b .direct) (r .time ⊘ hour);
-      charged = b .charged;
-      electric = r .electric .0;
-    }
-
--- 'A trial .. changes nothing'
-unfoldable pub demandKept : Battery → Demand → Ended → Battery
-demandKept b d r = cond (d .commit) (served b (serviceClass (b .card) (d .service)) r) b
-
-unfoldable pub demandAnswer : Battery → Demand → Ended → Answer
-demandAnswer b d r =
-    record {
-      refusal = 0;
-      energy = r .energy .0 ⊗ unitsOf (b .card);
-      mark = 1;
-      outlet = r .outlet;
-      time = r .time;
-      substeps = r .substeps;
-      battery = demandKept b d r;
     }
 
 -- what a demand's substeps hand out, and the answer
@@ -146,20 +66,6 @@ demandGiven b d (Value feed) = demandFrom b d feed
 unfoldable pub demandEnergy : Battery → Demand → Answer
 demandEnergy b d = cond (le (d .required) tolerance) (checked b (plainAnswer zero b)) (demandGiven b d (d .feed))
 
--- 'An answered charge line adds its energy, as written, to the charged total in one f64 addition'
-unfoldable pub chargedBattery : Battery → Ended → Battery
-chargedBattery b r =
-    record { card = b .card; zones = r .zones; count = b .count; total = b .total; pump = b .pump; direct = b .direct; charged = b .charged ⊕ r .energy .0; electric = r .electric .0 }
-
-unfoldable pub cooledBattery : Battery → Ended → Battery
-cooledBattery b r =
-    record { card = b .card; zones = r .zones; count = b .count; total = b .total; pump = b .pump; direct = b .direct; charged = b .charged; electric = b .electric }
-
--- a line of kinds 2 to 4: no outlet, no time
-unfoldable pub runAnswer : Ended → Battery → Answer
-runAnswer r b =
-    record { refusal = 0; energy = r .energy .0; mark = 0; outlet = zero; time = zero; substeps = r .substeps; battery = b }
-
 unfoldable pub charge : Battery → Source → Float → Answer
 charge b source target =
     let r = chargeBattery b source target in
@@ -171,9 +77,8 @@ heatLoss b =
     unlessRefused b r (runAnswer r (cooledBattery b r))
 
 -- kind 5: 'the three running times become 0'
-unfoldable pub closedBattery : Battery → Battery
-closedBattery b =
-    record { card = b .card; zones = b .zones; count = b .count; total = zero; pump = zero; direct = zero; charged = b .charged; electric = b .electric }
+abbrev pub closed : Battery → Answer
+closed b = checked b (plainAnswer zero (closedBattery b))
 
 unfoldable pub level : Battery → StateOfCharge
 level b = stateOfCharge (derived (b .card) .salt) (b .card .reference) (derived (b .card) .stored) (b .zones) (b .card .layers)
@@ -200,7 +105,7 @@ stepOf version b (DemandEnergy d) = demandEnergy b d
 stepOf version b (ChargeElectric power target) = charge b (Electric power) target
 stepOf version b (ChargeHydronic h) = charge b (wetSource h) (h .target)
 stepOf version b HeatLoss = heatLoss b
-stepOf version b CloseTimestep = checked b (plainAnswer zero (closedBattery b))
+stepOf version b CloseTimestep = closed b
 stepOf version b ReadStateOfCharge = readLevel b (level b)
 stepOf version b (ChargeEnergyDemand most target) = demandToLevel b most target (level b)
 

@@ -1,10 +1,18 @@
 // The engine: document 01's steps. `advance` takes a battery and a call by value and gives the answer with the new battery.
 pub mod steps;
 
-// The class of a service type.
-pub enum ServiceClass {
-    Combi,
-    Regular,
-    Space,
-    Direct,
+use battery::Demand;
+use battery::Given;
+use runs::Source;
+
+// What a call asks: its kind, the charges by their source.
+pub enum Asked {
+    DemandEnergy(Demand),
+    // source, target
+    Charge(Source, f64),
+    HeatLoss,
+    CloseTimestep,
+    ReadStateOfCharge,
+    // flow maximum, target
+    ChargeEnergyDemand(Given, f64),
 }

@@ -1,6 +1,6 @@
 // Document 01's steps: what each kind of call answers, and the battery that it leaves. The zones stay where they lie; a refused call may leave
 // any there, and its answer shows the battery as it was.
-use crate::ServiceClass;
+use crate::Asked;
 use battery::Answer;
 use battery::Battery;
 use battery::Call;
@@ -9,11 +9,8 @@ use battery::Given;
 use battery::Hydronic;
 use battery::Ledger;
 use battery::Reply;
-use battery::Totals;
 use card::Card;
 use delivery::DemandTask;
-use delivery::Pace;
-use runs::End;
 use runs::Exchanger;
 use runs::Source;
 use runs::Stopped;
@@ -24,83 +21,10 @@ ghost use mathlib.Core.Bool.{true, false};
 ghost use mathlib.Core.List.{List};
 ghost use Prim.Native.Nat.{_≤_};
 ghost use lib.Ieee.{Float};
-ghost use Rattle.battery.specs.Ledger.{whole, answerWith, settled};
-ghost use Rattle.runs.specs.declared.Ended.{Ended};
-ghost use Rattle.delivery.specs.Apart.{runWith};
+ghost use Rattle.battery.specs.Ledger.{whole, settled};
 ghost use Rattle.runs.specs.Apart.{EndedLies};
-ghost use Rattle.engine.specs.Apart.{demandReply, runReply, servedTotals, chargedTotals, closedTotals};
-ghost use Rattle.engine.specs.Steps.{checked as checkedOf, unlessRefused, serviceClass, unserved as unservedOf, pumpAfter, directAfter, demandPower, demandTask, demandStart, demandRan, demandAnswered, demandFrom, demandGiven, demandEnergy, charge as chargeOf, heatLoss, level as levelOf, readLevel, demandToLevel, wetSource, stepOf, advanceOf};
-
-// 23 where a reported number or total is not finite.
-fn checked(l: Ledger, a: Reply, zones: &[f64; 64]) -> Reply
-    requires { ⌜ (l .card .layers ≤ 64) × (a .refusal ≡ 0) ⌝ }
-    ensures { λ r. ⌜ ((before : List Float) → settled l before r (now (zones .entry)) ≡ checkedOf (whole l before) (answerWith l a (now (zones .entry)))) ⌝ }
-{
-    if battery::reply_finite(l, a, zones) {
-        return a;
-    }
-    battery::refused_reply(23)
-}
-
-// The answer of a run, unless it ended in 22, 23 or 24.
-fn unless_refused(l: Ledger, end: End, a: Reply, zones: &[f64; 64]) -> Reply
-    requires { ⌜ (l .card .layers ≤ 64) × (a .refusal ≡ 0) ⌝ }
-    ensures { λ r. ⌜ ((before : List Float) (e : Ended) → e .end ≡ end → settled l before r (now (zones .entry)) ≡ unlessRefused (whole l before) e (answerWith l a (now (zones .entry)))) ⌝ }
-{
-    let refusal = runs::end_refusal(end);
-    if refusal == 0 {
-        return checked(l, a, zones);
-    }
-    battery::refused_reply(refusal)
-}
-
-fn service_class(card: Card, service: u8) -> ServiceClass
-    ensures { λ r. ⌜ r ≡ serviceClass card service ⌝ }
-{
-    if service == 1 {
-        return ServiceClass::Regular;
-    }
-    if service == 2 {
-        return ServiceClass::Space;
-    }
-    if service == 3 {
-        return ServiceClass::Direct;
-    }
-    ServiceClass::Combi
-}
-
-fn unserved(class: ServiceClass) -> bool
-    ensures { λ r. ⌜ r ≡ unservedOf class ⌝ }
-{
-    match class {
-        ServiceClass::Combi => true,
-        ServiceClass::Regular => false,
-        ServiceClass::Space => false,
-        ServiceClass::Direct => false,
-    }
-}
-
-fn pump_after(class: ServiceClass, pump: f64, hours: f64) -> f64
-    ensures { λ r. ⌜ r ≡ pumpAfter class pump hours ⌝ }
-{
-    match class {
-        ServiceClass::Combi => pump,
-        ServiceClass::Regular => pump + hours,
-        ServiceClass::Space => pump + hours,
-        ServiceClass::Direct => pump,
-    }
-}
-
-fn direct_after(class: ServiceClass, direct: f64, hours: f64) -> f64
-    ensures { λ r. ⌜ r ≡ directAfter class direct hours ⌝ }
-{
-    match class {
-        ServiceClass::Combi => direct,
-        ServiceClass::Regular => direct,
-        ServiceClass::Space => direct,
-        ServiceClass::Direct => direct + hours,
-    }
-}
+ghost use Rattle.engine.specs.Asked.{askedOf, askedStep};
+ghost use Rattle.engine.specs.Steps.{demandPower, demandTask, demandRan, demandAnswered, demandFrom, demandGiven, demandEnergy, charge as chargeOf, heatLoss, closed, level as levelOf, readLevel, demandToLevel, wetSource, advanceOf};
 
 // The Rust's electric_charge, where the card charges during a demand.
 fn demand_power(card: Card, control: bool) -> f64
@@ -130,22 +54,6 @@ fn demand_task(l: Ledger, d: Demand, feed: f64) -> DemandTask
     }
 }
 
-fn demand_start(l: Ledger) -> Pace
-    ensures { λ r. ⌜ ((zones : List Float) → runWith r zones ≡ demandStart (whole l zones)) ⌝ }
-{
-    let card = l.card;
-    let pcm = card::derived(card);
-    let reynold = runs::reynold_between(card.inlet, card.outlet, card.velocity, pcm.diameter);
-    Pace {
-        step: 1.0,
-        running: 0.0,
-        delivered: KilowattHours(0.0),
-        electric: KilowattHours(l.totals.electric),
-        outlet: 0.0,
-        reynold,
-    }
-}
-
 // The substeps of a demand.
 fn demand_stopped(l: Ledger, d: Demand, feed: f64, zones: &mut [f64; 64]) -> Stopped
     requires { ⌜ l .card .layers ≤ 64 ⌝ }
@@ -153,41 +61,9 @@ fn demand_stopped(l: Ledger, d: Demand, feed: f64, zones: &mut [f64; 64]) -> Sto
 {
     let card = l.card;
     let task = demand_task(l, d, feed);
-    let start = demand_start(l);
+    let start = replies::demand_start(l);
     let e = delivery::demand_run(task, card.budget, start, zones);
     delivery::demand_ended(e)
-}
-
-// Running hours by class, and charged electric.
-fn served_totals(l: Ledger, class: ServiceClass, s: Stopped) -> Totals
-    ensures { λ r. ⌜ r ≡ servedTotals l class s ⌝ }
-{
-    let hours = s.time / floats::SECONDS_PER_HOUR;
-    let pump = pump_after(class, l.totals.pump, hours);
-    let direct = direct_after(class, l.totals.direct, hours);
-    Totals {
-        total: l.totals.total + hours,
-        pump,
-        direct,
-        charged: l.totals.charged,
-        electric: s.electric.0,
-    }
-}
-
-fn demand_reply(l: Ledger, s: Stopped, totals: Totals) -> Reply
-    ensures { λ r. ⌜ r ≡ demandReply l s totals ⌝ }
-{
-    let units = l.card.units as f64;
-    let energy = s.energy.0 * units;
-    Reply {
-        refusal: 0,
-        energy,
-        mark: 1,
-        outlet: s.outlet,
-        time: s.time,
-        substeps: s.substeps,
-        totals,
-    }
 }
 
 // On the battery's own zones.
@@ -197,11 +73,11 @@ fn committed(l: Ledger, d: Demand, feed: f64, zones: &mut [f64; 64]) -> Reply
 {
     let s = demand_stopped(l, d, feed, zones);
     let card = l.card;
-    let class = service_class(card, d.service);
-    let totals = served_totals(l, class, s);
-    let a = demand_reply(l, s, totals);
+    let class = replies::service_class(card, d.service);
+    let totals = replies::served_totals(l, class, s);
+    let a = replies::demand_reply(l, s, totals);
     let end = s.end;
-    unless_refused(l, end, a, zones)
+    replies::unless_refused(l, end, a, zones)
 }
 
 // On a copy of the zones.
@@ -212,9 +88,9 @@ fn trial(l: Ledger, d: Demand, feed: f64, zones: &[f64; 64]) -> Reply
     let mut own = *zones;
     let s = demand_stopped(l, d, feed, &mut own);
     let totals = l.totals;
-    let a = demand_reply(l, s, totals);
+    let a = replies::demand_reply(l, s, totals);
     let end = s.end;
-    unless_refused(l, end, a, zones)
+    replies::unless_refused(l, end, a, zones)
 }
 
 fn demand_from(l: Ledger, d: Demand, feed: f64, zones: &mut [f64; 64]) -> Reply
@@ -222,8 +98,8 @@ fn demand_from(l: Ledger, d: Demand, feed: f64, zones: &mut [f64; 64]) -> Reply
     ensures { λ r. ⌜ settled l (now (zones .entry)) r (now (zones .exit)) ≡ demandFrom (whole l (now (zones .entry))) d feed ⌝ }
 {
     let card = l.card;
-    let class = service_class(card, d.service);
-    if floats::both(d.commit, unserved(class)) {
+    let class = replies::service_class(card, d.service);
+    if floats::both(d.commit, replies::unserved(class)) {
         return battery::refused_reply(21);
     }
     if d.commit {
@@ -249,37 +125,10 @@ fn demand_energy(l: Ledger, d: Demand, zones: &mut [f64; 64]) -> Reply
     if d.required <= floats::TOLERANCE {
         let totals = l.totals;
         let a = battery::plain_reply(0.0, totals);
-        return checked(l, a, zones);
+        return replies::checked(l, a, zones);
     }
     let given = d.feed;
     demand_given(l, d, given, zones)
-}
-
-// A line of kinds 2 to 4: no outlet, no time.
-fn run_reply(s: Stopped, totals: Totals) -> Reply
-    ensures { λ r. ⌜ r ≡ runReply s totals ⌝ }
-{
-    Reply {
-        refusal: 0,
-        energy: s.energy.0,
-        mark: 0,
-        outlet: 0.0,
-        time: 0.0,
-        substeps: s.substeps,
-        totals,
-    }
-}
-
-fn charged_totals(l: Ledger, s: Stopped) -> Totals
-    ensures { λ r. ⌜ r ≡ chargedTotals l s ⌝ }
-{
-    Totals {
-        total: l.totals.total,
-        pump: l.totals.pump,
-        direct: l.totals.direct,
-        charged: l.totals.charged + s.energy.0,
-        electric: s.electric.0,
-    }
 }
 
 fn charge(l: Ledger, source: Source, target: f64, zones: &mut [f64; 64]) -> Reply
@@ -287,10 +136,10 @@ fn charge(l: Ledger, source: Source, target: f64, zones: &mut [f64; 64]) -> Repl
     ensures { λ r. ⌜ settled l (now (zones .entry)) r (now (zones .exit)) ≡ chargeOf (whole l (now (zones .entry))) source target ⌝ }
 {
     let s = runs::charge::charge_battery(l, source, target, zones);
-    let totals = charged_totals(l, s);
-    let a = run_reply(s, totals);
+    let totals = replies::charged_totals(l, s);
+    let a = replies::run_reply(s, totals);
     let end = s.end;
-    unless_refused(l, end, a, zones)
+    replies::unless_refused(l, end, a, zones)
 }
 
 fn heat_loss(l: Ledger, zones: &mut [f64; 64]) -> Reply
@@ -299,19 +148,9 @@ fn heat_loss(l: Ledger, zones: &mut [f64; 64]) -> Reply
 {
     let s = runs::charge::battery_heat_loss(l, zones);
     let totals = l.totals;
-    let a = run_reply(s, totals);
+    let a = replies::run_reply(s, totals);
     let end = s.end;
-    unless_refused(l, end, a, zones)
-}
-
-fn closed_totals(l: Ledger) -> Totals
-    ensures { λ r. ⌜ r ≡ closedTotals l ⌝ }
-{
-    let mut next = l.totals;
-    next.total = 0.0;
-    next.pump = 0.0;
-    next.direct = 0.0;
-    next
+    replies::unless_refused(l, end, a, zones)
 }
 
 fn level(l: Ledger, zones: &[f64; 64]) -> StateOfCharge
@@ -336,7 +175,7 @@ fn read_level(l: Ledger, level: StateOfCharge, zones: &[f64; 64]) -> Reply
         StateOfCharge::Level(soc) => {
             let totals = l.totals;
             let a = battery::plain_reply(soc, totals);
-            checked(l, a, zones)
+            replies::checked(l, a, zones)
         }
     }
 }
@@ -357,7 +196,7 @@ fn demand_to_level(
             let energy = runs::charge::calculate_charge_energy_demand(l, most, target, soc);
             let totals = l.totals;
             let a = battery::plain_reply(energy.0, totals);
-            checked(l, a, zones)
+            replies::checked(l, a, zones)
         }
     }
 }
@@ -378,31 +217,61 @@ fn wet_source(h: Hydronic) -> Source
     Source::Wet(wet)
 }
 
-fn step(version: u8, l: Ledger, call: Call, zones: &mut [f64; 64]) -> Reply
-    requires { ⌜ l .card .layers ≤ 64 ⌝ }
-    ensures { λ r. ⌜ settled l (now (zones .entry)) r (now (zones .exit)) ≡ stepOf version (whole l (now (zones .entry))) call ⌝ }
+// What the call asks.
+fn asked(call: Call) -> Asked
+    ensures { λ r. ⌜ r ≡ askedOf call ⌝ }
 {
     match call {
-        Call::DemandEnergy(d) => demand_energy(l, d, zones),
-        Call::ChargeElectric(power, target) => charge(l, Source::Electric(power), target, zones),
+        Call::DemandEnergy(d) => Asked::DemandEnergy(d),
+        Call::ChargeElectric(power, target) => Asked::Charge(Source::Electric(power), target),
         Call::ChargeHydronic(h) => {
             let source = wet_source(h);
-            charge(l, source, h.target, zones)
+            Asked::Charge(source, h.target)
         }
-        Call::HeatLoss => heat_loss(l, zones),
-        Call::CloseTimestep => {
-            let totals = closed_totals(l);
-            let a = battery::plain_reply(0.0, totals);
-            checked(l, a, zones)
-        }
-        Call::ReadStateOfCharge => {
-            let soc = level(l, zones);
-            read_level(l, soc, zones)
-        }
-        Call::ChargeEnergyDemand(most, target) => {
-            let soc = level(l, zones);
-            demand_to_level(l, most, target, soc, zones)
-        }
+        Call::HeatLoss => Asked::HeatLoss,
+        Call::CloseTimestep => Asked::CloseTimestep,
+        Call::ReadStateOfCharge => Asked::ReadStateOfCharge,
+        Call::ChargeEnergyDemand(most, target) => Asked::ChargeEnergyDemand(most, target),
+    }
+}
+
+fn close_timestep(l: Ledger, zones: &[f64; 64]) -> Reply
+    requires { ⌜ l .card .layers ≤ 64 ⌝ }
+    ensures { λ r. ⌜ settled l (now (zones .entry)) r (now (zones .entry)) ≡ closed (whole l (now (zones .entry))) ⌝ }
+{
+    let totals = replies::closed_totals(l);
+    let a = battery::plain_reply(0.0, totals);
+    replies::checked(l, a, zones)
+}
+
+fn state_of_charge(l: Ledger, zones: &[f64; 64]) -> Reply
+    requires { ⌜ l .card .layers ≤ 64 ⌝ }
+    ensures { λ r. ⌜ settled l (now (zones .entry)) r (now (zones .entry)) ≡ readLevel (whole l (now (zones .entry))) (levelOf (whole l (now (zones .entry)))) ⌝ }
+{
+    let soc = level(l, zones);
+    read_level(l, soc, zones)
+}
+
+fn charge_energy_demand(l: Ledger, most: Given, target: f64, zones: &[f64; 64]) -> Reply
+    requires { ⌜ l .card .layers ≤ 64 ⌝ }
+    ensures { λ r. ⌜ settled l (now (zones .entry)) r (now (zones .entry)) ≡ demandToLevel (whole l (now (zones .entry))) most target (levelOf (whole l (now (zones .entry)))) ⌝ }
+{
+    let soc = level(l, zones);
+    demand_to_level(l, most, target, soc, zones)
+}
+
+// The electric and the wet charge are one call of `charge`, so that one copy of it is compiled, in place.
+fn step(l: Ledger, what: Asked, zones: &mut [f64; 64]) -> Reply
+    requires { ⌜ l .card .layers ≤ 64 ⌝ }
+    ensures { λ r. ⌜ settled l (now (zones .entry)) r (now (zones .exit)) ≡ askedStep (whole l (now (zones .entry))) what ⌝ }
+{
+    match what {
+        Asked::DemandEnergy(d) => demand_energy(l, d, zones),
+        Asked::Charge(source, target) => charge(l, source, target, zones),
+        Asked::HeatLoss => heat_loss(l, zones),
+        Asked::CloseTimestep => close_timestep(l, zones),
+        Asked::ReadStateOfCharge => state_of_charge(l, zones),
+        Asked::ChargeEnergyDemand(most, target) => charge_energy_demand(l, most, target, zones),
     }
 }
 
@@ -415,7 +284,8 @@ pub fn advance_in_place(version: u8, l: Ledger, call: Call, zones: &mut [f64; 64
         battery::is_accepted(version, l, zones),
         battery::call_in_range(version, card, call),
     ) {
-        return step(version, l, call, zones);
+        let what = asked(call);
+        return step(l, what, zones);
     }
     battery::refused_reply(10)
 }

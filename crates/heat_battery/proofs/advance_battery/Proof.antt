@@ -1,5 +1,5 @@
 use Rattle.battery.specs.Answer.{refusedWith}
-use Rattle.engine.proofs.Settled.{by-value-answer, by-value-refused}
+use Rattle.engine.proofs.ByValue.{by-value-answer, by-value-refused}
 use Rattle.heat_battery.specs.Record.{shownOf, advancedBy, advancedRead, advancedOf}
 use mathlib.Core.Path.{ap}
 use borrow.Author.Needs.{needs}

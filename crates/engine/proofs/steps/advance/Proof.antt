@@ -1,4 +1,4 @@
-use Rattle.engine.proofs.Settled.{by-value-answer, by-value-refused}
+use Rattle.engine.proofs.ByValue.{by-value-answer, by-value-refused}
 use mathlib.Core.Path.{_∙_}
 use borrow.Author.Needs.{needs}
 use Rattle.engine.proofs.steps.advance.Statement.{statement}

@@ -2,8 +2,9 @@ use Rattle.floats.proofs.Branch.{via-true, via-false}
 use Rattle.battery.specs.Ledger.{whole}
 use Rattle.engine.specs.Steps.{advanceOf}
 use Rattle.engine.proofs.Accepted.{accepted-few}
-use Rattle.engine.proofs.Settled.{settled-refusal}
-use mathlib.Core.Path.{refl}
+use Rattle.replies.proofs.Settled.{settled-refusal}
+use Rattle.engine.proofs.ByKind.{stepped}
+use mathlib.Core.Path.{refl, _∙_}
 use borrow.Author.Needs.{needs}
 use Rattle.engine.proofs.steps.advance_in_place.Statement.{statement}
 use Rattle.engine.proofs.steps.advance_in_place.Tie as tie
@@ -17,15 +18,18 @@ call-in-range-requires c κs = search needs
 both-requires : tie.Need-both-requires
 both-requires c κs = search needs
 
+asked-requires : tie.Need-asked-requires
+asked-requires c κs = search needs
+
 step-requires : tie.Need-step-requires
 step-requires c κs =
-    let a = c .before .before .before .before .before .before .before .args in
-    accepted-few (a .version) (whole (a .l) (a .zones .now)) (c .before .before .before .call-in-range .result)
-    (rw (← (c .before .before .before .before .is-accepted .ensures), ← (c .before .before .both .ensures)) (c .before .if1 .taken))
+    let a = c .before .before .before .before .before .before .before .before .args in
+    accepted-few (a .version) (whole (a .l) (a .zones .now)) (c .before .before .before .before .call-in-range .result)
+    (rw (← (c .before .before .before .before .before .is-accepted .ensures), ← (c .before .before .before .both .ensures)) (c .before .before .if1 .taken))
 
 returns : tie.Need-returns
 unfolding advanceOf
-returns c = rw (← (c .before .before .before .before .before .is-accepted .ensures), ← (c .before .before .before .before .call-in-range .ensures), ← (c .before .before .before .both .ensures)) (via-true _ _ (c .before .before .if1 .taken) (c .step .ensures))
+returns c = rw (← (c .before .before .before .before .before .before .is-accepted .ensures), ← (c .before .before .before .before .before .call-in-range .ensures), ← (c .before .before .before .before .both .ensures)) (via-true _ _ (c .before .before .before .if1 .taken) (c .step .ensures ∙ stepped _ _ _ _ (c .before .before .asked .ensures)))
 
 refused-reply-requires : tie.Need-refused-reply-requires
 refused-reply-requires c κs = search needs
@@ -41,6 +45,7 @@ advance-in-place-spec =
     is-accepted-requires
     call-in-range-requires
     both-requires
+    asked-requires
     step-requires
     returns
     refused-reply-requires

@@ -1,7 +1,7 @@
-use Rattle.engine.proofs.Settled.{run-end}
+use Rattle.replies.proofs.Settled.{run-end}
 use Rattle.battery.specs.declared.Reply.{Reply}
 use Rattle.engine.specs.Steps.{charge}
-use Rattle.engine.proofs.Settled.{charged-with}
+use Rattle.replies.proofs.Settled.{charged-with}
 use mathlib.Core.Path.{_∙_, ap}
 use borrow.Author.Needs.{needs}
 use Rattle.engine.proofs.steps.charge.Statement.{statement}

@@ -1,6 +1,6 @@
-use Rattle.engine.proofs.Settled.{run-end}
+use Rattle.replies.proofs.Settled.{run-end}
 use Rattle.battery.specs.declared.Reply.{Reply}
-use Rattle.engine.proofs.Settled.{committed-with}
+use Rattle.replies.proofs.Settled.{committed-with}
 use mathlib.Core.Path.{_∙_, ap}
 use borrow.Author.Needs.{needs}
 use Rattle.engine.proofs.steps.committed.Statement.{statement}

@@ -1,7 +1,8 @@
 use mathlib.Core.List.{[]}
 use Rattle.floats.proofs.Branch.{via-true, via-false}
-use Rattle.engine.specs.Steps.{checked, demandEnergy}
-use Rattle.engine.proofs.Settled.{plain-refusal, plain-with}
+use Rattle.replies.specs.Replies.{checked}
+use Rattle.engine.specs.Steps.{demandEnergy}
+use Rattle.replies.proofs.Settled.{plain-refusal, plain-with}
 use mathlib.Core.Path.{_∙_, ap}
 use borrow.Author.Needs.{needs}
 use Rattle.engine.proofs.steps.demand_energy.Statement.{statement}

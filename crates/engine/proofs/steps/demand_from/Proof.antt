@@ -1,6 +1,6 @@
 use Rattle.floats.proofs.Branch.{via-true, via-false}
 use Rattle.engine.specs.Steps.{demandFrom}
-use Rattle.engine.proofs.Settled.{settled-refusal}
+use Rattle.replies.proofs.Settled.{settled-refusal}
 use mathlib.Core.Path.{refl}
 use borrow.Author.Needs.{needs}
 use Rattle.engine.proofs.steps.demand_from.Statement.{statement}

@@ -1,7 +1,7 @@
-use Rattle.engine.proofs.Settled.{run-end}
+use Rattle.replies.proofs.Settled.{run-end}
 use Rattle.battery.specs.declared.Reply.{Reply}
-use Rattle.engine.specs.Steps.{unlessRefused}
-use Rattle.engine.proofs.Settled.{trial-with}
+use Rattle.replies.specs.Replies.{unlessRefused}
+use Rattle.replies.proofs.Settled.{trial-with}
 use mathlib.Core.Path.{_∙_, ap}
 use borrow.Author.Needs.{needs}
 use Rattle.engine.proofs.steps.trial.Statement.{statement}

@@ -1,0 +1,116 @@
+-- Document 01: what the steps answer behind a run, and the battery that it leaves.
+use Prim.Native.Nat.{ℕ}
+use mathlib.Core.Bool.{Bool, true, false, cond}
+use lib.Dec.{eqb}
+use lib.IntN.{pos}
+use lib.Ieee.{Float, binary64, ofInt}
+use Rattle.floats.specs.F64.{_⊕_, _⊗_, _⊘_}
+use Rattle.floats.specs.Constants.{zero, one, hour}
+use Rattle.zone.specs.Heat.{kwh}
+use Rattle.card.specs.Derived.{derived}
+use Rattle.card.specs.declared.Card.{Card}
+use Rattle.battery.specs.Answer.{refusedWith, answerFinite}
+use Rattle.battery.specs.declared.Battery.{Battery}
+use Rattle.battery.specs.declared.Demand.{Demand}
+use Rattle.battery.specs.declared.Answer.{Answer}
+use Rattle.replies.specs.declared.ServiceClass.{ServiceClass}
+use Rattle.replies.specs.declared.ServiceClass.the-variants.{Combi, Regular, Space, Direct}
+use Rattle.delivery.specs.declared.Run.{Run}
+use Rattle.runs.specs.declared.Ended.{Ended}
+use Rattle.runs.specs.Runs.{endRefusal, reynoldBetween}
+
+-- '23 .. or a reported number or total isn't' finite: the refusal line with the battery b as before
+unfoldable pub checked : Battery → Answer → Answer
+checked b a = cond (answerFinite a) a (refusedWith 23 b)
+
+-- an answer of a run, unless it ended in 22, 23 or 24
+unfoldable pub unlessRefused : Battery → Ended → Answer → Answer
+unlessRefused b r a = cond (eqb (endRefusal (r .end)) 0) (checked b a) (refusedWith (endRefusal (r .end)) b)
+
+-- 'type (u8: 0 combi, 1 regular, 2 space, 3 direct)'
+unfoldable pub serviceClass : Card → ℕ → ServiceClass
+serviceClass c service = cond (eqb service 1) Regular (cond (eqb service 2) Space (cond (eqb service 3) Direct Combi))
+
+-- the Rust has no running time for a combi
+unfoldable pub unserved : ServiceClass → Bool
+unserved Combi = true
+unserved Regular = false
+unserved Space = false
+unserved Direct = false
+
+unfoldable pub pumpAfter : ServiceClass → Float → Float → Float
+pumpAfter Combi pump hours = pump
+pumpAfter Regular pump hours = pump ⊕ hours
+pumpAfter Space pump hours = pump ⊕ hours
+pumpAfter Direct pump hours = pump
+
+unfoldable pub directAfter : ServiceClass → Float → Float → Float
+directAfter Combi direct hours = direct
+directAfter Regular direct hours = direct
+directAfter Space direct hours = direct
+directAfter Direct direct hours = direct ⊕ hours
+
+abbrev pub unitsOf : Card → Float
+unitsOf c = ofInt binary64 (pos (c .units))
+
+-- 'the first substep is 1 s, even with no time left'
+unfoldable pub demandStart : Battery → Run
+demandStart b =
+    record {
+      zones = b .zones;
+      step = one;
+      running = zero;
+      delivered = kwh zero;
+      electric = kwh (b .electric);
+      outlet = zero;
+      reynold = reynoldBetween (b .card .inlet) (b .card .outlet) (b .card .velocity) (derived (b .card) .diameter);
+    }
+
+-- a committed demand's battery: zones, running hours by class, charged electric
+unfoldable pub served : Battery → ServiceClass → Ended → Battery
+served b class r =
+    record {
+      card = b .card;
+      zones = r .zones;
+      count = b .count;
+      total = b .total ⊕ r .time ⊘ hour;
+      pump = pumpAfter class (b .pump) (r .time ⊘ hour);
+      direct = directAfter class (b .direct) (r .time ⊘ hour);
+      charged = b .charged;
+      electric = r .electric .0;
+    }
+
+-- 'A trial .. changes nothing'
+unfoldable pub demandKept : Battery → Demand → Ended → Battery
+demandKept b d r = cond (d .commit) (served b (serviceClass (b .card) (d .service)) r) b
+
+unfoldable pub demandAnswer : Battery → Demand → Ended → Answer
+demandAnswer b d r =
+    record {
+      refusal = 0;
+      energy = r .energy .0 ⊗ unitsOf (b .card);
+      mark = 1;
+      outlet = r .outlet;
+      time = r .time;
+      substeps = r .substeps;
+      battery = demandKept b d r;
+    }
+
+-- 'An answered charge line adds its energy, as written, to the charged total in one f64 addition'
+unfoldable pub chargedBattery : Battery → Ended → Battery
+chargedBattery b r =
+    record { card = b .card; zones = r .zones; count = b .count; total = b .total; pump = b .pump; direct = b .direct; charged = b .charged ⊕ r .energy .0; electric = r .electric .0 }
+
+unfoldable pub cooledBattery : Battery → Ended → Battery
+cooledBattery b r =
+    record { card = b .card; zones = r .zones; count = b .count; total = b .total; pump = b .pump; direct = b .direct; charged = b .charged; electric = b .electric }
+
+-- a line of kinds 2 to 4: no outlet, no time
+unfoldable pub runAnswer : Ended → Battery → Answer
+runAnswer r b =
+    record { refusal = 0; energy = r .energy .0; mark = 0; outlet = zero; time = zero; substeps = r .substeps; battery = b }
+
+-- kind 5: 'the three running times become 0'
+unfoldable pub closedBattery : Battery → Battery
+closedBattery b =
+    record { card = b .card; zones = b .zones; count = b .count; total = zero; pump = zero; direct = zero; charged = b .charged; electric = b .electric }
