@@ -184,7 +184,7 @@ pub fn is_accepted(version: u8, l: Ledger, zones: &[f64; 64]) -> bool
 {
     let c = l.card;
     let totals = l.totals;
-    if card::refusal(version, c) == 0 {
+    if card::is_accepted(version, c) {
         if l.count == c.layers {
             let n = c.layers as usize;
             return floats::both(zones_finite(zones, n), totals_finite(totals));

@@ -2,3 +2,4 @@ pub mod Tests
 pub mod Accepted
 pub mod Salt
 pub mod Within
+pub mod OneTest

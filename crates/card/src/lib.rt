@@ -2,6 +2,7 @@
 use zone::Kilojoules;
 use zone::Salt;
 ghost use mathlib.Core.Path.{_≡_};
+ghost use lib.Dec.{eqb};
 ghost use mathlib.Core.Bool.{_&&_};
 ghost use Rattle.card.specs.Card.{countsInRange, timesInRange, temperaturesInRange, capacitiesInRange, exchangerInRange, powersInRange, cardInRange, cardVerdict, cardRefusal};
 ghost use Rattle.card.specs.Derived.{saltOf, energyAt, derived as derivedOf};
@@ -204,6 +205,36 @@ pub fn refusal(version: u8, card: Card) -> u8
         CardVerdict::MaxTooLow => 3,
         CardVerdict::NothingToStore => 4,
     }
+}
+
+// Whether 1 to 4 accept the card, as one test: it stands on the path of every call, and is compiled in place there as `refusal` is not.
+pub fn is_accepted(version: u8, card: Card) -> bool
+    ensures { λ r. ⌜ r ≡ eqb (cardRefusal version card) 0 ⌝ }
+{
+    let ranges = floats::both(
+        counts_in_range(card),
+        floats::both(
+            times_in_range(card),
+            floats::both(
+                temperatures_in_range(card),
+                floats::both(
+                    capacities_in_range(card),
+                    floats::both(exchanger_in_range(card), powers_in_range(card)),
+                ),
+            ),
+        ),
+    );
+    let nothing = floats::nearly_equal(
+        card.max,
+        card.reference,
+        floats::TOLERANCE,
+        floats::MAX_RELATIVE,
+    );
+    let stores = floats::both(
+        !(card.max <= floats::TEMP_AMBIENT_RATED_LOSSES_C),
+        floats::both(!(card.max < card.reference), !nothing),
+    );
+    floats::both(ranges, floats::both(card.lower <= card.upper, stores))
 }
 
 // The salt of a layer: its capacities are the card's divided by the layers.

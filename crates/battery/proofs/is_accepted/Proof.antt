@@ -1,21 +1,21 @@
 use mathlib.Core.Path.{refl, sym, _∙_}
 use Rattle.card.proofs.Accepted.{accepted-layers}
 use Rattle.floats.proofs.Branch.{via-true, via-false}
-use borrow.Author.Tests.{eq-eqb, ne-eqb}
+use borrow.Author.Tests.{eq-eqb, ne-eqb, eqb-true}
 use Rattle.battery.specs.Battery.{batteryAccepted, totalsFinite}
 use Rattle.battery.specs.Ledger.{finiteTotals}
 use borrow.Author.Needs.{needs}
 use Rattle.battery.proofs.is_accepted.Statement.{statement}
 use Rattle.battery.proofs.is_accepted.Tie as tie
 
-refusal-requires : tie.Need-refusal-requires
-refusal-requires c κs = search needs
+is-accepted-requires : tie.Need-is-accepted-requires
+is-accepted-requires c κs = search needs
 
 cast-n : tie.Need-cast-n
 cast-n c = search needs
 
 zones-finite-requires : tie.Need-zones-finite-requires
-zones-finite-requires c κs = accepted-layers _ _ (sym (c .before .before .before .before .before .refusal .ensures) ∙ c .before .before .before .before .if1 .taken) .1
+zones-finite-requires c κs = accepted-layers _ _ (eqb-true _ _ (sym (c .before .before .before .before .before .is-accepted .ensures) ∙ c .before .before .before .before .if1 .taken)) .1
 
 totals-finite-requires : tie.Need-totals-finite-requires
 totals-finite-requires c κs = search needs
@@ -25,21 +25,21 @@ both-requires c κs = search needs
 
 returns : tie.Need-returns
 unfolding batteryAccepted totalsFinite finiteTotals
-returns c = rw (← (c .before .before .before .before .before .before .before .before .refusal .ensures), ← (c .before .before .zones-finite .ensures), ← (c .before .totals-finite .ensures), ← (c .both .ensures)) (via-true _ _ (eq-eqb _ _ (c .before .before .before .before .before .before .before .if1 .taken)) (via-true _ _ (eq-eqb _ _ (c .before .before .before .before .if2 .taken)) refl))
+returns c = rw (← (c .before .before .before .before .before .before .before .before .is-accepted .ensures), ← (c .before .before .zones-finite .ensures), ← (c .before .totals-finite .ensures), ← (c .both .ensures)) (via-true _ _ (c .before .before .before .before .before .before .before .if1 .taken) (via-true _ _ (eq-eqb _ _ (c .before .before .before .before .if2 .taken)) refl))
 
 returns-2 : tie.Need-returns-2
 unfolding batteryAccepted totalsFinite finiteTotals
-returns-2 c = rw (← (c .before .before .before .before .refusal .ensures)) (via-true _ _ (eq-eqb _ _ (c .before .before .before .if1 .taken)) (via-false _ _ (ne-eqb _ _ (c .if2 .left)) refl))
+returns-2 c = rw (← (c .before .before .before .before .is-accepted .ensures)) (via-true _ _ (c .before .before .before .if1 .taken) (via-false _ _ (ne-eqb _ _ (c .if2 .left)) refl))
 
 returns-3 : tie.Need-returns-3
 unfolding batteryAccepted totalsFinite finiteTotals
-returns-3 c = rw (← (c .before .refusal .ensures)) (via-false _ _ (ne-eqb _ _ (c .if1 .left)) refl)
+returns-3 c = rw (← (c .before .is-accepted .ensures)) (via-false _ _ (c .if1 .left) refl)
 
 pub is-accepted-spec : {M : Type 1} → statement M
 is-accepted-spec =
     tie.close
     (tie.spec
-    refusal-requires
+    is-accepted-requires
     cast-n
     zones-finite-requires
     totals-finite-requires

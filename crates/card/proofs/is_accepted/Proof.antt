@@ -1,0 +1,80 @@
+use mathlib.Core.Path.{sym}
+use Rattle.card.specs.Card.{cardInRange}
+use Rattle.card.proofs.OneTest.{accepted-is}
+use borrow.Author.Needs.{needs}
+use Rattle.card.proofs.is_accepted.Statement.{statement}
+use Rattle.card.proofs.is_accepted.Tie as tie
+
+counts-in-range-requires : tie.Need-counts-in-range-requires
+counts-in-range-requires c κs = search needs
+
+times-in-range-requires : tie.Need-times-in-range-requires
+times-in-range-requires c κs = search needs
+
+temperatures-in-range-requires : tie.Need-temperatures-in-range-requires
+temperatures-in-range-requires c κs = search needs
+
+capacities-in-range-requires : tie.Need-capacities-in-range-requires
+capacities-in-range-requires c κs = search needs
+
+exchanger-in-range-requires : tie.Need-exchanger-in-range-requires
+exchanger-in-range-requires c κs = search needs
+
+powers-in-range-requires : tie.Need-powers-in-range-requires
+powers-in-range-requires c κs = search needs
+
+both-requires : tie.Need-both-requires
+both-requires c κs = search needs
+
+both-requires-2 : tie.Need-both-requires-2
+both-requires-2 c κs = search needs
+
+both-requires-3 : tie.Need-both-requires-3
+both-requires-3 c κs = search needs
+
+both-requires-4 : tie.Need-both-requires-4
+both-requires-4 c κs = search needs
+
+both-requires-5 : tie.Need-both-requires-5
+both-requires-5 c κs = search needs
+
+nearly-equal-requires : tie.Need-nearly-equal-requires
+nearly-equal-requires c κs = search needs
+
+both-requires-6 : tie.Need-both-requires-6
+both-requires-6 c κs = search needs
+
+both-requires-7 : tie.Need-both-requires-7
+both-requires-7 c κs = search needs
+
+both-requires-8 : tie.Need-both-requires-8
+both-requires-8 c κs = search needs
+
+both-requires-9 : tie.Need-both-requires-9
+both-requires-9 c κs = search needs
+
+returns : tie.Need-returns
+unfolding cardInRange
+returns c = rw (c .both9 .ensures, c .before .both8 .ensures, c .before .before .before .both7 .ensures, c .before .before .before .before .both6 .ensures, c .before .before .before .before .before .before .before .nearly-equal .ensures, c .before .before .before .before .before .before .before .before .both5 .ensures, c .before .before .before .before .before .before .before .before .before .both4 .ensures, c .before .before .before .before .before .before .before .before .before .before .both3 .ensures, c .before .before .before .before .before .before .before .before .before .before .before .both2 .ensures, c .before .before .before .before .before .before .before .before .before .before .before .before .both .ensures, c .before .before .before .before .before .before .before .before .before .before .before .before .before .powers-in-range .ensures, c .before .before .before .before .before .before .before .before .before .before .before .before .before .before .exchanger-in-range .ensures, c .before .before .before .before .before .before .before .before .before .before .before .before .before .before .before .capacities-in-range .ensures, c .before .before .before .before .before .before .before .before .before .before .before .before .before .before .before .before .temperatures-in-range .ensures, c .before .before .before .before .before .before .before .before .before .before .before .before .before .before .before .before .before .times-in-range .ensures, c .before .before .before .before .before .before .before .before .before .before .before .before .before .before .before .before .before .before .counts-in-range .ensures) (sym (accepted-is _ _))
+
+pub is-accepted-spec : {M : Type 1} → statement M
+is-accepted-spec =
+    tie.close
+    (tie.spec
+    counts-in-range-requires
+    times-in-range-requires
+    temperatures-in-range-requires
+    capacities-in-range-requires
+    exchanger-in-range-requires
+    powers-in-range-requires
+    both-requires
+    both-requires-2
+    both-requires-3
+    both-requires-4
+    both-requires-5
+    nearly-equal-requires
+    both-requires-6
+    both-requires-7
+    both-requires-8
+    both-requires-9
+    returns)
