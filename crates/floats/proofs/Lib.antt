@@ -17,6 +17,7 @@ pub mod Finite
 pub mod Pattern
 pub mod Unique
 pub mod Identity
+pub mod Spread
 pub mod Integer
 pub mod Strict
 pub mod StrictBelow

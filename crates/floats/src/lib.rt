@@ -3,7 +3,8 @@ ghost use mathlib.Core.Path.{_≡_};
 ghost use mathlib.Core.Bool.{not, _&&_};
 ghost use Prim.Native.Nat.{_≤_};
 ghost use lib.Dec.{T};
-ghost use lib.Ieee.{isNan};
+ghost use lib.Ieee.{eq, isNan};
+ghost use Rattle.floats.specs.Constants.{zero};
 ghost use Rattle.floats.specs.Standins.{finite64, magnitude as magnitudeOf, larger as largerOf, nearlyEqual, maxZero, min as minOf, square as squareOf, truncate as truncateOf};
 ghost use Rattle.floats.specs.Sum2.{sum2Step, sum2};
 ghost use Rattle.floats.specs.Ln.{mantissa as mantissaOf, exponent as exponentOf, series as seriesOf, lnAt, lnNormal, ln as lnOf};
@@ -52,6 +53,13 @@ pub fn is_finite(x: f64) -> bool
     ensures { λ r. ⌜ r ≡ finite64 x ⌝ }
 {
     x - x == 0.0
+}
+
+// One number more to a running test, in two operations and with no branch: from 0.0 on it equals 0 as long as each number is finite.
+pub fn finite_step(spread: f64, x: f64) -> f64
+    ensures { λ r. ⌜ eq r zero ≡ (eq spread zero && finite64 x) ⌝ }
+{
+    spread + (x - x)
 }
 
 pub fn magnitude(p: f64) -> f64

@@ -8,12 +8,13 @@ use native.Mathlib.Omega.{arith}
 use native.Mathlib.Numerals.{add-one}
 use lib.ListN.{length, getD, set, replicate, getD-replicate, length-replicate}
 use lib.Seq.{set-getD}
-use lib.Ieee.{Float, nan, ofBits, add}
+use lib.Ieee.{Float, nan, ofBits, add, eq}
 use Rattle.floats.specs.F64.{_⊕_}
 use Rattle.floats.specs.Constants as Constants
 use Rattle.floats.specs.Standins.{finite64}
 use Rattle.floats.specs.Sum2.{sum2Step, sum2After, sum2}
 use Rattle.floats.specs.declared.Sum2.{Sum2}
+use Rattle.floats.proofs.Spread.{spread-start}
 use Rattle.zone.specs.Heat.{kj, kwh}
 use Rattle.zone.specs.Layer.{zoneSalt}
 use Rattle.water.specs.Water.{zoneProperties}
@@ -50,13 +51,13 @@ abbrev pub tested : Course → ℕ → ℕ → Pass → Bool
 tested x n k p = inOrder (x .mode) n andFinite true (zonesAfter x n k p .zones) k
 
 -- what the loop has behind the first k of n zones
-pub record Underway (x : Course) (n k : ℕ) (p : Pass) (zones : List Float) (outlet : Float) (left : Kilojoules) (charged : KilowattHours) (sum : Sum2) (finite : Bool) : Type 0 where
+pub record Underway (x : Course) (n k : ℕ) (p : Pass) (zones : List Float) (outlet : Float) (left : Kilojoules) (charged : KilowattHours) (sum : Sum2) (spread : Float) : Type 0 where
   pub same-zones : zones ≡ zonesAfter x n k p .zones
   pub same-outlet : outlet ≡ zonesAfter x n k p .outlet
   pub same-left : left ≡ zonesAfter x n k p .left
   pub same-charged : charged ≡ zonesAfter x n k p .charged
   pub same-sum : sum ≡ summed x n k p
-  pub same-test : finite ≡ tested x n k p
+  pub same-test : eq spread Constants.zero ≡ tested x n k p
 
 -- a zero more at a zero
 store-zero : (l : List Float) (j : ℕ) (e : Float) → getD l j nan ≡ Constants.zero → e ≡ Constants.zero → set l j (getD l j nan ⊕ e) ≡ l
@@ -99,17 +100,16 @@ module _ (x : Course) (n : ℕ) (p : Pass) (none : p .energies ≡ replicate 64 
 
     -- one zone more
     pub underway-more :
-        (zones : List Float) (outlet : Float) (left : Kilojoules) (charged : KilowattHours) (sum more : Sum2) (finite test both : Bool) (j : ℕ) (s : Salt) (z : ZoneStep) →
-        Underway x n k p zones outlet left charged sum finite →
+        (zones : List Float) (outlet : Float) (left : Kilojoules) (charged : KilowattHours) (sum more : Sum2) (spread next : Float) (j : ℕ) (s : Salt) (z : ZoneStep) →
+        Underway x n k p zones outlet left charged sum spread →
         j ≡ zoneIndex (x .mode) n k →
         s ≡ zoneSalt (x .salt) j →
         z ≡ zoneStep x s (getD zones j nan) outlet left charged →
         more ≡ sum2Step sum (Constants.zero ⊕ z .energy .0) →
-        test ≡ finite64 (getD (set zones j (z .temperature)) j nan) →
-        both ≡ (finite && test) →
-        Underway x n (k + 1) p (set zones j (z .temperature)) (z .outlet) (z .left) (z .charged) more both
+        eq next Constants.zero ≡ (eq spread Constants.zero && finite64 (getD (set zones j (z .temperature)) j nan)) →
+        Underway x n (k + 1) p (set zones j (z .temperature)) (z .outlet) (z .left) (z .charged) more next
     unfolding zonesAfter zoneAt
-    underway-more zones outlet left charged sum more finite test both j s z u d r e a t b =
+    underway-more zones outlet left charged sum more spread next j s z u d r e a t =
         let g : z ≡ stepped x n k p = rw (e, r, d, u .same-zones, u .same-outlet, u .same-left, u .same-charged) in
         record {
           same-zones = rw (add-one, g, d, u .same-zones);
@@ -117,7 +117,7 @@ module _ (x : Course) (n : ℕ) (p : Pass) (none : p .energies ≡ replicate 64 
           same-left = rw (add-one, g);
           same-charged = rw (add-one, g);
           same-sum = rw (add-one, a, g, u .same-sum) sum-more;
-          same-test = rw (add-one, b, t, g, d, u .same-zones, u .same-test) tests-more;
+          same-test = rw (add-one, t, g, d, u .same-zones, u .same-test) tests-more;
         }
 
 -- the loop's start from the zones alone, with no energies yet
@@ -126,9 +126,9 @@ startOf zones outlet left charged = record { zones = zones; energies = replicate
 
 pub underway-start :
     (x : Course) (n : ℕ) (zones : List Float) (outlet : Float) (left : Kilojoules) (charged : KilowattHours) →
-    Underway x n 0 (startOf zones outlet left charged) zones outlet left charged noSum true
+    Underway x n 0 (startOf zones outlet left charged) zones outlet left charged noSum Constants.zero
 unfolding zonesAfter inOrder
-underway-start x n zones outlet left charged = record { same-zones = refl; same-outlet = refl; same-left = refl; same-charged = refl; same-sum = refl; same-test = refl }
+underway-start x n zones outlet left charged = record { same-zones = refl; same-outlet = refl; same-left = refl; same-charged = refl; same-sum = refl; same-test = spread-start }
 
 -- behind the last zone: the zones, and what a substep hands out besides
 module _ (c : Card) (x : Course) (k : ℕ) (d : Drive) (start : List Float) (few : c .layers ≤ 64) where
@@ -145,20 +145,20 @@ module _ (c : Card) (x : Course) (k : ℕ) (d : Drive) (start : List Float) (few
   unfolding end
   tests-end = tests-all (x .mode) (c .layers) (end .zones)
 
-  module _ (zones : List Float) (outlet : Float) (left heat : Kilojoules) (charged : KilowattHours) (sum : Sum2) (finite : Bool) (f : Fault) where
+  module _ (zones : List Float) (outlet : Float) (left heat : Kilojoules) (charged : KilowattHours) (sum : Sum2) (spread : Float) (f : Fault) where
     behind-all :
         heat ≡ chargerHeat d →
         k ≡ c .layers →
-        Underway x (c .layers) k (startOf start (d .inlet) heat (kwh Constants.zero)) zones outlet left charged sum finite →
-        Underway x (c .layers) (c .layers) (passFrom d start) zones outlet left charged sum finite
+        Underway x (c .layers) k (startOf start (d .inlet) heat (kwh Constants.zero)) zones outlet left charged sum spread →
+        Underway x (c .layers) (c .layers) (passFrom d start) zones outlet left charged sum spread
     unfolding passFrom
     behind-all h e u =
-        subst (λ (i : ℕ). Underway x (c .layers) i (passFrom d start) zones outlet left charged sum finite) e
-        (subst (λ (q : Kilojoules). Underway x (c .layers) k (startOf start (d .inlet) q (kwh Constants.zero)) zones outlet left charged sum finite) h u)
+        subst (λ (i : ℕ). Underway x (c .layers) i (passFrom d start) zones outlet left charged sum spread) e
+        (subst (λ (q : Kilojoules). Underway x (c .layers) k (startOf start (d .inlet) q (kwh Constants.zero)) zones outlet left charged sum spread) h u)
 
     handed-out :
-        Underway x (c .layers) (c .layers) (passFrom d start) zones outlet left charged sum finite →
-        f ≡ cond (finite && (finite64 outlet && (finite64 (sum .s ⊕ sum .c) && finite64 (charged .0)))) Nothing NotFinite →
+        Underway x (c .layers) (c .layers) (passFrom d start) zones outlet left charged sum spread →
+        f ≡ cond (eq spread Constants.zero && (finite64 outlet && (finite64 (sum .s ⊕ sum .c) && finite64 (charged .0)))) Nothing NotFinite →
         (zones ≡ end .zones) × (_≡_ {A = Outcome} (record { outlet = outlet; delivered = kj (sum .s ⊕ sum .c); charged = charged; fault = f }) (outcomeOf (substepFrom c end)))
     unfolding end outcomeOf substepFrom passFault passFinite sum2
     handed-out u g = (u .same-zones, rw (g, u .same-test, tests-end, u .same-sum, sum-end, u .same-outlet, u .same-charged))
@@ -167,8 +167,8 @@ module _ (c : Card) (x : Course) (k : ℕ) (d : Drive) (start : List Float) (few
         heat ≡ chargerHeat d →
         k ≤ c .layers →
         c .layers ≤ k →
-        Underway x (c .layers) k (startOf start (d .inlet) heat (kwh Constants.zero)) zones outlet left charged sum finite →
-        f ≡ cond (finite && (finite64 outlet && (finite64 (sum .s ⊕ sum .c) && finite64 (charged .0)))) Nothing NotFinite →
+        Underway x (c .layers) k (startOf start (d .inlet) heat (kwh Constants.zero)) zones outlet left charged sum spread →
+        f ≡ cond (eq spread Constants.zero && (finite64 outlet && (finite64 (sum .s ⊕ sum .c) && finite64 (charged .0)))) Nothing NotFinite →
         (zones ≡ zonesAfter x (c .layers) (c .layers) (passFrom d start) .zones) ×
         (_≡_ {A = Outcome} (record { outlet = outlet; delivered = kj (sum .s ⊕ sum .c); charged = charged; fault = f })
         (outcomeOf (substepFrom c (zonesAfter x (c .layers) (c .layers) (passFrom d start)))))

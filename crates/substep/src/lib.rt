@@ -244,20 +244,20 @@ fn pass_in_place(card: Card, course: Course, d: Drive, zones: &mut [f64; 64]) ->
     let mut left = charger_heat(d);
     let mut charged = KilowattHours(0.0);
     let mut sum = Sum2 { s: 0.0, c: 0.0 };
-    let mut finite = true;
+    let mut spread = 0.0;
     for k in 0..n {
         let j = zone_index(mode, n, k);
         let salt = zone::layer::zone_salt(own, j);
         let z = zone_step(course, salt, zones[j], outlet, left, charged);
         zones[j] = z.temperature;
-        finite = floats::both(finite, floats::is_finite(zones[j]));
+        spread = floats::finite_step(spread, zones[j]);
         sum = floats::sum2_step(sum, 0.0 + z.energy.0);
         outlet = z.outlet;
         left = z.left;
         charged = z.charged;
     }
     let delivered = sum.s + sum.c;
-    let fault = pass_fault(finite, outlet, delivered, charged);
+    let fault = pass_fault(spread == 0.0, outlet, delivered, charged);
     Outcome {
         outlet,
         delivered: Kilojoules(delivered),

@@ -7,11 +7,11 @@ use Rattle.substep.proofs.pass_in_place.Statement.{statement}
 use Rattle.substep.proofs.pass_in_place.Tie as tie
 
 abbrev Inv-loop : tie.InvT-loop
-Inv-loop course zones₀ n mode own outlet₀ left₀ charged₀ sum₀ finite₀ k₀ zones outlet left charged sum finite k =
-    (k ≤ n) × Underway course n k (startOf zones₀ outlet₀ left₀ charged₀) zones outlet left charged sum finite
+Inv-loop course zones₀ n mode own outlet₀ left₀ charged₀ sum₀ spread₀ k₀ zones outlet left charged sum spread k =
+    (k ≤ n) × Underway course n k (startOf zones₀ outlet₀ left₀ charged₀) zones outlet left charged sum spread
 
 abbrev μ-loop : tie.MeasureT-loop
-μ-loop course zones₀ n mode own outlet₀ left₀ charged₀ sum₀ finite₀ k₀ zones outlet left charged sum finite k = n - k
+μ-loop course zones₀ n mode own outlet₀ left₀ charged₀ sum₀ spread₀ k₀ zones outlet left charged sum spread k = n - k
 
 cast-n : tie.Need-cast-n Inv-loop μ-loop
 cast-n c = search needs
@@ -43,17 +43,14 @@ mul-zones c = search needs
 element-write-zones : tie.Need-element-write-zones Inv-loop μ-loop
 element-write-zones c = search needs
 
-mul-is-finite : tie.Need-mul-is-finite Inv-loop μ-loop
-mul-is-finite c = search needs
+mul-finite-step : tie.Need-mul-finite-step Inv-loop μ-loop
+mul-finite-step c = search needs
 
-element-copy-out-is-finite : tie.Need-element-copy-out-is-finite Inv-loop μ-loop
-element-copy-out-is-finite c = search needs
+element-copy-out-finite-step : tie.Need-element-copy-out-finite-step Inv-loop μ-loop
+element-copy-out-finite-step c = search needs
 
-is-finite-requires : tie.Need-is-finite-requires Inv-loop μ-loop
-is-finite-requires c κs = search needs
-
-both-requires : tie.Need-both-requires Inv-loop μ-loop
-both-requires c κs = search needs
+finite-step-requires : tie.Need-finite-step-requires Inv-loop μ-loop
+finite-step-requires c κs = search needs
 
 sum2-step-requires : tie.Need-sum2-step-requires Inv-loop μ-loop
 sum2-step-requires c κs = search needs
@@ -67,7 +64,7 @@ loop-less c = search needs
 loop-again : tie.Need-loop-again Inv-loop μ-loop
 loop-again c = (
   omega arith,
-  underway-more _ _ _ refl (c .before .before .before .before .before .before .before .before .before .before .before .before .before .before .before .before .pre) _ (c .before .before .before .before .before .before .before .before .before .before .before .loop-test .taken) _ _ _ _ _ _ _ _ _ _ _ _ (c .before .before .before .before .before .before .before .before .before .before .before .before .loop .inv .1) (c .before .before .before .before .before .before .before .before .before .before .zone-index .ensures .0) (c .before .before .before .before .before .before .before .before .before .zone-salt .ensures) (c .before .before .before .before .before .before .before .zone-step .ensures) (c .before .before .sum2-step .ensures) (c .before .before .before .before .before .is-finite .ensures) (c .before .before .before .before .both .ensures),
+  underway-more _ _ _ refl (c .before .before .before .before .before .before .before .before .before .before .before .before .before .before .before .pre) _ (c .before .before .before .before .before .before .before .before .before .before .loop-test .taken) _ _ _ _ _ _ _ _ _ _ _ (c .before .before .before .before .before .before .before .before .before .before .before .loop .inv .1) (c .before .before .before .before .before .before .before .before .before .zone-index .ensures .0) (c .before .before .before .before .before .before .before .before .zone-salt .ensures) (c .before .before .before .before .before .before .zone-step .ensures) (c .before .before .sum2-step .ensures) (c .before .before .before .before .finite-step .ensures),
 )
 
 pass-fault-requires : tie.Need-pass-fault-requires Inv-loop μ-loop
@@ -94,10 +91,9 @@ pass-in-place-spec =
     zone-step-requires
     mul-zones
     element-write-zones
-    mul-is-finite
-    element-copy-out-is-finite
-    is-finite-requires
-    both-requires
+    mul-finite-step
+    element-copy-out-finite-step
+    finite-step-requires
     sum2-step-requires
     add-k
     loop-less
