@@ -1,17 +1,25 @@
 -- Document 01, module 9: 'One more entry takes the caller's own battery record and advances it by a call.' There is no sheet, so no 11.
 use Prim.Native.Nat.{ℕ}
 use mathlib.Core.List.{List}
+use lib.Ieee.{Float}
 use Rattle.floats.specs.Constants.{zero}
 use Rattle.battery.specs.Answer.{refusedWith}
+use Rattle.battery.specs.Ledger.{whole}
 use Rattle.battery.specs.declared.Battery.{Battery}
 use Rattle.battery.specs.declared.Answer.{Answer}
 use Rattle.battery.specs.declared.Reply.{Reply}
+use Rattle.battery.specs.declared.Ledger.{Ledger}
 use Rattle.engine.specs.Steps.{advanceOf}
 use Rattle.calls.specs.Calls.{callOf}
 use Rattle.calls.specs.declared.ReadCall.{ReadCall}
 use Rattle.calls.specs.declared.ReadCall.the-variants.{Good, Bad}
 use Rattle.heat_battery.specs.declared.Shown.{Shown}
-use Rattle.heat_battery.specs.declared.Advanced.{Advanced}
+use Rattle.heat_battery.specs.declared.Renewed.{Renewed}
+
+-- a battery after a call, and what the call answers
+pub record Advanced : Type 0 where
+  pub battery : Battery
+  pub shown : Shown
 
 -- an answer without its battery, as a line shows it
 unfoldable pub shownOf : Answer → Shown
@@ -25,6 +33,11 @@ replyShown a =
 
 abbrev pub refusedShown : ℕ → Shown
 refusedShown n = record { refusal = n; mark = 0; substeps = 0; energy = zero; outlet = zero; time = zero }
+
+-- a battery whose zones lie apart, with its totals renewed and these zones: its card and count stay
+abbrev pub renewedWith : Ledger → Renewed → List Float → Advanced
+renewedWith l r zones =
+    record { battery = whole (record { card = l .card; count = l .count; totals = r .totals }) zones; shown = r .shown }
 
 -- the record afterwards, and what the call answers
 unfoldable pub advancedBy : Answer → Advanced

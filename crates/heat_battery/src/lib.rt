@@ -2,13 +2,16 @@
 // include/heat_battery.h says what a caller must know.
 use battery::Answer;
 use battery::Battery;
+use battery::Ledger;
 use battery::Reply;
+use battery::Totals;
 use calls::ReadCall;
 ghost use mathlib.Core.Path.{_≡_};
 ghost use mathlib.Core.Bool.{true};
 ghost use Rattle.calls.specs.Calls.{callOf};
 ghost use Rattle.auditor.specs.Audit.{verdictWord, limitedAuditOf};
-ghost use Rattle.heat_battery.specs.Record.{replyShown, refusedShown, advancedOf};
+ghost use Rattle.battery.specs.Ledger.{whole};
+ghost use Rattle.heat_battery.specs.Record.{replyShown, refusedShown, renewedWith, advancedOf};
 ghost use Rattle.entry.specs.Entry.{WasAfter, openOf, recordLaid};
 ghost use Rattle.heat_battery.specs.Entries.{entryRead, entryOf};
 
@@ -74,8 +77,9 @@ pub struct Shown {
     pub time: f64,
 }
 
-pub struct Advanced {
-    pub battery: Battery,
+// What a call leaves of a battery besides its zones, and what it shows.
+pub struct Renewed {
+    pub totals: Totals,
     pub shown: Shown,
 }
 
@@ -107,44 +111,44 @@ fn refused_shown(refusal: u8) -> Shown
     }
 }
 
-// The battery by value, and a call's bytes.
-pub fn advance_battery(b: Battery, call: &[u8]) -> Advanced
-    ensures { λ r. ⌜ r ≡ advancedOf 1 b (now (call .entry)) ⌝ }
+// A call's bytes on a battery whose zones lie apart. Refused, its zones and totals are as they were.
+pub fn advance_apart(l: Ledger, call: &[u8], zones: &mut [f64; 64]) -> Renewed
+    ensures { λ r. ⌜ renewedWith l r (now (zones .exit)) ≡ advancedOf 1 (whole l (now (zones .entry))) (now (call .entry)) ⌝ }
 {
     let read = calls::read_call(VERSION, call);
     match read {
-        ReadCall::Bad => Advanced {
-            battery: b,
-            shown: refused_shown(10),
-        },
+        ReadCall::Bad => {
+            let totals = l.totals;
+            let shown = refused_shown(10);
+            Renewed { totals, shown }
+        }
         ReadCall::Good(c) => {
-            let l = battery::ledger_of(b);
-            let mut after = b;
-            let a = engine::steps::advance_in_place(VERSION, l, c, &mut after.zones);
+            let before = *zones;
+            let a = engine::steps::advance_in_place(VERSION, l, c, zones);
             if a.refusal == 0 {
-                after.total = a.totals.total;
-                after.pump = a.totals.pump;
-                after.direct = a.totals.direct;
-                after.charged = a.totals.charged;
-                after.electric = a.totals.electric;
+                let totals = a.totals;
                 let shown = reply_shown(a);
-                return Advanced {
-                    battery: after,
-                    shown,
-                };
+                return Renewed { totals, shown };
             }
+            *zones = before;
+            let totals = l.totals;
             let shown = refused_shown(a.refusal);
-            Advanced { battery: b, shown }
+            Renewed { totals, shown }
         }
     }
 }
 
-// Advances the caller's own battery by a call: 10, or the steps. A refused battery is as it was.
+// Advances the caller's own battery where it lies by a call: 10, or the steps. A refused battery is as it was.
 #[no_mangle]
 pub extern "C" fn heat_battery_advance(b: &mut Battery, call: &[u8]) -> Shown
     ensures { λ r. ⌜ (r ≡ advancedOf 1 (now (b .entry)) (now (call .entry)) .shown) × (now (b .exit) ≡ advancedOf 1 (now (b .entry)) (now (call .entry)) .battery) ⌝ }
 {
-    let out = advance_battery(*b, call);
-    *b = out.battery;
+    let l = battery::ledger_of(*b);
+    let out = advance_apart(l, call, &mut b.zones);
+    b.total = out.totals.total;
+    b.pump = out.totals.pump;
+    b.direct = out.totals.direct;
+    b.charged = out.totals.charged;
+    b.electric = out.totals.electric;
     out.shown
 }

@@ -1,0 +1,55 @@
+use Rattle.battery.specs.Answer.{refusedWith}
+use Rattle.replies.proofs.Settled.{settled-answer, settled-other}
+use Rattle.heat_battery.specs.Record.{shownOf, advancedBy, advancedRead, advancedOf}
+use mathlib.Core.Path.{sym, _∙_, ap}
+use borrow.Author.Needs.{needs}
+use Rattle.heat_battery.proofs.advance_apart.Statement.{statement}
+use Rattle.heat_battery.proofs.advance_apart.Tie as tie
+
+read-call-requires : tie.Need-read-call-requires
+read-call-requires c κs = search needs
+
+enum-told : tie.Need-enum-told
+enum-told c = search needs
+
+refused-shown-requires : tie.Need-refused-shown-requires
+refused-shown-requires c κs = search needs
+
+enum-known-read : tie.Need-enum-known-read
+enum-known-read c = search needs
+
+advance-in-place-requires : tie.Need-advance-in-place-requires
+advance-in-place-requires c κs = search needs
+
+reply-shown-requires : tie.Need-reply-shown-requires
+reply-shown-requires c κs = search needs
+
+returns : tie.Need-returns
+unfolding advancedOf advancedRead advancedBy shownOf
+returns c = rw (← (c .before .before .before .before .before .before .before .before .before .before .read-call .ensures), c .before .before .before .before .before .before .before .before .read .given .1, c .reply-shown .ensures) (ap advancedBy (sym (settled-answer _ _ _ _ (c .before .before .if1 .taken)) ∙ c .before .before .before .before .advance-in-place .ensures))
+
+refused-shown-requires-2 : tie.Need-refused-shown-requires-2
+refused-shown-requires-2 c κs = search needs
+
+returns-2 : tie.Need-returns-2
+unfolding advancedOf advancedRead advancedBy shownOf refusedWith
+returns-2 c = rw (← (c .before .before .before .before .read-call .ensures), c .before .before .enum-told .given .1, c .refused-shown .ensures)
+
+returns-3 : tie.Need-returns-3
+unfolding advancedOf advancedRead advancedBy shownOf refusedWith
+returns-3 c = rw (← (c .before .before .before .before .before .before .before .before .before .before .read-call .ensures), c .before .before .before .before .before .before .before .before .read .given .1, c .refused-shown2 .ensures) (ap advancedBy (sym (settled-other _ _ _ _ (c .before .before .if1 .left)) ∙ c .before .before .before .before .advance-in-place .ensures))
+
+pub advance-apart-spec : {M : Type 1} → statement M
+advance-apart-spec =
+    tie.close
+    (tie.spec
+    read-call-requires
+    enum-told
+    refused-shown-requires
+    enum-known-read
+    advance-in-place-requires
+    reply-shown-requires
+    returns
+    refused-shown-requires-2
+    returns-2
+    returns-3)
