@@ -15,7 +15,7 @@ use mir.Val.{Val, Vals as Valˢ, vptr, vfloat, vstruct, ofList, WT, hasTy}
 use mir.Fields.{setV}
 use mir.Raw.{raw as rawTy}
 use base.Logic.{SProp, ent, sep, wand, all, emp, via, fst∗, id⊢, allE, apply∗}
-use base.Fml.{GName, Lft, Share, Fml, ftrue, fsep, fat, flft, flent, fres, fobs, fbor}
+use base.Fml.{GName, Lft, Share, ftrue, fsep, fat, flft, flent, fobs, fbor}
 use prog.Memory.{Memory}
 use prog.Routine.{Routine}
 use prog.Wp.{Heap, Calls, Loops, WpFn, Tables}
@@ -23,7 +23,7 @@ use ghost.Atoms.{Atoms, sem}
 use contract.Monad.{Fun, fact}
 use contract.Running.{givenOf, tables, tablesOf}
 use types.Kit.{Given, Item, Go, mean, ‵, raw, _⊛_, ⋆, some, given, later, _$_, _∵_, !, qed, by, move, keep, group, drop, use0, use1, use2, use3, split, join, pick, learn, check, rewrite, fsplit, fsplit3, fjoin, fjoin3, fpick, fpack, feqI, suffices, frame, await, done}
-use types.Run.{look, look-raw, init, store-raw, forget, stop, hop, fld, from, load, addr, of-opd, and-then, no-more, assigns, land, returns, enter, alloc1, alloc0, params1, pass1, pass0, free1, free0}
+use types.Run.{look, look-raw, init, forget, stop, hop, fld, from, load, addr, of-opd, and-then, no-more, assigns, land, returns, enter, alloc1, alloc0, params1, pass1, pass0, free1, free0}
 use types.Part.{Part, whole, sub, look-in, store-in}
 use types.Tokens.{lft-new, lft-end}
 use types.SemTy.{Body}
@@ -31,7 +31,7 @@ use sound.WpLaws.{FmC, fmOf, WpFn-mono}
 use denote.RattleType.{RattleType, owns, flat}
 use denote.Laws.{Is, shows, valss}
 use denote.Shadow.{makes-shadow}
-use denote.Memory.{cellAt, cellRaw, mem, partOf}
+use denote.Memory.{cellAt, mem, partOf}
 use denote.Array.{Array}
 use denote.Builtin.{u8, f64}
 use denote.Floats.{float-lawful}
@@ -57,6 +57,7 @@ use Rattle.battery.specs.declared.Battery.{Battery}
 use Rattle.battery.specs.declared.Ledger.{Ledger}
 use Rattle.heat_battery.specs.Record.{Advanced, renewedWith, advancedOf}
 use Rattle.heat_battery.specs.declared.Renewed.{Renewed}
+use Rattle.heat_battery.specs.declared.Shown.{Shown}
 use Rattle.battery.proofs.Battery as T
 use Rattle.battery.proofs.Battery.Laws as T′
 use Rattle.battery.proofs.Ledger as L
@@ -84,7 +85,7 @@ use Rattle.heat_battery.proofs.heat_battery_advance.Code as code
 abbrev stayed : Stays (f.ended .signature .params) (f.ended .kept)
 stayed = (stay-ref (0 ∷ []) tt (plain (λ _. T.the-row)), (stay-dropped (shrSliceOf (1 ∷ []) tt (plain (λ _. u8))) yes, tt))
 
--- the machine values of the structs
+-- the machine values of the structs: of a battery's fields, and of each whole
 abbrev inner : Battery → Valˢ
 inner h = ofList (flat (fields T.the-type) (valss (fields T.the-type) (LL.spells (T.the-type .parts) T′.the-laws) (T.the-type .to h)))
 
@@ -94,8 +95,8 @@ vals = LL.vals T.the-type T′.the-laws
 abbrev ledger-vals : Ledger → List Val
 ledger-vals = LL.vals L.the-type L′.the-laws
 
-abbrev renewed-vals : Renewed → List Val
-renewed-vals = LL.vals S.the-type S′.the-laws
+abbrev shown-vals : Shown → List Val
+shown-vals = LL.vals P·Shown.the-type P·Shown′.the-laws
 
 -- the zones: their type, their list as a field has it, and their machine value
 abbrev Zones : RattleType
@@ -110,6 +111,13 @@ spread zs = map (λ (x : Float). x) zs
 abbrev zones-val : List Float → Val
 zones-val zs = T′.the-laws .1 .0 .val (spread zs)
 
+-- what `advance_apart` binds at exit, and the zones in it
+abbrev Lasts : Type 0
+Lasts = Unit {0} × (Unit {0} × (List Float × Unit {0}))
+
+abbrev last : Lasts → List Float
+last ws = ws .1 .1 .0
+
 -- the battery with its totals renewed and these zones
 abbrev after : Battery → Renewed → List Float → Battery
 after h r zs = renewedWith (ledgerOf h) r zs .battery
@@ -118,7 +126,7 @@ after h r zs = renewedWith (ledgerOf h) r zs .battery
 totals-are : (r : Renewed) (vs : List Val) → Is S.the-row r vs → AreAll (fields P·Totals.the-type) (P·Totals.the-type .to (r .totals)) (valss (fields P·Totals.the-type) (LL.spells (P·Totals.the-type .parts) P·Totals′.the-laws) (P·Totals.the-type .to (r .totals)))
 totals-are r vs is = LL.owed P·Totals.the-type P·Totals′.the-laws (r .totals) (LL.vals P·Totals.the-type P·Totals′.the-laws (r .totals)) (LL.owed S.the-type S′.the-laws r vs is .0)
 
-shown-is : (r : Renewed) (vs : List Val) → Is S.the-row r vs → Is P·Shown.the-row (r .shown) (LL.vals P·Shown.the-type P·Shown′.the-laws (r .shown))
+shown-is : (r : Renewed) (vs : List Val) → Is S.the-row r vs → Is P·Shown.the-row (r .shown) (shown-vals (r .shown))
 shown-is r vs is = LL.owed S.the-type S′.the-laws r vs is .1 .0
 
 zones-are : (h : Battery) → Is T.the-row h (vals h) → Is Zones (spread (h .zones)) (zones-val (h .zones) ∷ [])
@@ -182,15 +190,16 @@ module _ {M : Type 1} (𝓤 : URA M) (H : Heap 𝓤) (A : Atoms 𝓤) (W : Given
   abbrev Post : Val → SProp 𝓤
   Post = walkOf 𝓤 H A f.ended stayed (f.clauses 𝓤 H A at-mem run) .post (((κ₀, (κ₁, tt)), (q₀, (q₁, tt)), tt, a, vss), tt)
 
+  -- what is stored at a total is a float
+  f64-typed : (x : Float) → Is f64 x (vfloat binary64 x ∷ []) → Holds (hasTy (tyFloat binary64) (vfloat binary64 x)) × WT (vfloat binary64 x)
+  f64-typed x is = float-lawful 𝓤 H A W binary64 .typed x _ is .0
+
   -- what `ledger_of`'s triple binds outside, and what it asks: plain data owns only facts
   abbrev to-ledger : K 𝓤 H A at-mem run .Ghost
   to-ledger = ((tt, tt, tt, (h, tt), (vals h, tt)), tt)
 
   ledger-asked : Is T.the-row h (vals h) → ent 𝓤 (emp 𝓤) (K 𝓤 H A at-mem run .pre to-ledger)
   ledger-asked was = qed W [] ∵ nothing ! $ owned ! T.the-row (Is T.the-row) (LL.makes T.the-type T′.the-plain 𝓤 H A) h _ was $ fjoin ! $ nothing ! $ join ! $ frame ! $ done !
-
-  f64-typed : (x : Float) → Is f64 x (vfloat binary64 x ∷ []) → Holds (hasTy (tyFloat binary64) (vfloat binary64 x)) × WT (vfloat binary64 x)
-  f64-typed x is = float-lawful 𝓤 H A W binary64 .typed x _ is .0
 
   -- the same of `advance_apart`, which is lent the zones for α: the tokens, the slice and the reference are handed over
   module _ (l : Ledger) (α : ℕ) (γ′ : GName) where
@@ -206,22 +215,25 @@ module _ {M : Type 1} (𝓤 : URA M) (H : Heap 𝓤) (A : Atoms 𝓤) (W : Given
     abbrev to-apart : G 𝓤 H A at-mem run .Ghost
     to-apart = ((κs′, (q₁, (fullShare, tt)), tt, a′, (ledger-vals l, (slice-vals call, (vptr b (o + 160) ∷ [], tt)))), tt)
 
-    apart-asked : Is L.the-row l (ledger-vals l)
-        → ent 𝓤 (⋆ 𝓤 H A ((‵ (flft κ₁ q₁) ⊛ ‵ ftrue) ∷ ‵ (flft (α ∷ []) fullShare) ∷ ‵ (ShrSlice (named 1) κ₁ u8 .own call (slice-vals call)) ∷ ‵ (MutRef (named 1) (α ∷ []) Zones .own lent (vptr b (o + 160) ∷ [])) ∷ [])) (G 𝓤 H A at-mem run .pre to-apart)
+    abbrev handed : List (Item 𝓤)
+    handed = (‵ (flft κ₁ q₁) ⊛ ‵ ftrue) ∷ ‵ (flft (α ∷ []) fullShare) ∷ ‵ (ShrSlice (named 1) κ₁ u8 .own call (slice-vals call)) ∷ ‵ (MutRef (named 1) (α ∷ []) Zones .own lent (vptr b (o + 160) ∷ [])) ∷ []
+
+    apart-asked : Is L.the-row l (ledger-vals l) → ent 𝓤 (⋆ 𝓤 H A handed) (G 𝓤 H A at-mem run .pre to-apart)
     apart-asked is =
-        qed W ((‵ (flft κ₁ q₁) ⊛ ‵ ftrue) ∷ ‵ (flft (α ∷ []) fullShare) ∷ ‵ (ShrSlice (named 1) κ₁ u8 .own call (slice-vals call)) ∷ ‵ (MutRef (named 1) (α ∷ []) Zones .own lent (vptr b (o + 160) ∷ [])) ∷ []) ∵
-        split ! $ move ! (4 ∷ 1 ∷ []) $ fjoin ! $ move ! (3 ∷ 0 ∷ []) $ fjoin ! $
+        qed W handed ∵ split ! $ move ! (4 ∷ 1 ∷ []) $ fjoin ! $ move ! (3 ∷ 0 ∷ []) $ fjoin ! $
         owned ! L.the-row (Is L.the-row) (LL.makes L.the-type L′.the-plain 𝓤 H A) l _ is $ fjoin ! $ nothing ! $ move ! (3 ∷ 0 ∷ []) $ join ! $ move ! (2 ∷ 0 ∷ []) $ join ! $ join ! $ frame ! $ done !
 
     -- what it ensures
     abbrev Said : Renewed → List Float → Type 0
     Said r zs = renewedWith l r zs ≡ advancedOf 1 (wholeOf l (spread (h .zones))) (call .now)
 
-  exits : (r : Renewed) (zs : List Float) → renewedWith (ledgerOf h) r zs ≡ advancedOf 1 h (call .now) → Is P·Shown.the-row (r .shown) (LL.vals P·Shown.the-type P·Shown′.the-laws (r .shown))
-      → ent 𝓤 (⋆ 𝓤 H A (‵ (fobs γ (T.the-row .coded .code (after h r zs))) ∷ ‵ (fbor κ₀ (Body (mem T.the-row) b o γ)) ∷ ‵ (flft κ₀ q₀) ∷ (‵ (flft κ₁ q₁) ⊛ ‵ ftrue) ∷ [])) (Post (only (LL.vals P·Shown.the-type P·Shown′.the-laws (r .shown))))
+  abbrev at-end : Battery → List (Item 𝓤)
+  at-end now = ‵ (fobs γ (T.the-row .coded .code now)) ∷ ‵ (fbor κ₀ (Body (mem T.the-row) b o γ)) ∷ ‵ (flft κ₀ q₀) ∷ (‵ (flft κ₁ q₁) ⊛ ‵ ftrue) ∷ []
+
+  exits : (r : Renewed) (zs : List Float) → renewedWith (ledgerOf h) r zs ≡ advancedOf 1 h (call .now) → Is P·Shown.the-row (r .shown) (shown-vals (r .shown)) → ent 𝓤 (⋆ 𝓤 H A (at-end (after h r zs))) (Post (only (shown-vals (r .shown))))
   exits r zs e s-is =
-      qed W (‵ (fobs γ (T.the-row .coded .code (after h r zs))) ∷ ‵ (fbor κ₀ (Body (mem T.the-row) b o γ)) ∷ ‵ (flft κ₀ q₀) ∷ (‵ (flft κ₁ q₁) ⊛ ‵ ftrue) ∷ []) ∵
-      suffices ! _ (ends-at 𝓤 H A f.ended stayed (f.clauses 𝓤 H A at-mem run) W (((κ₀, (κ₁, tt)), (q₀, (q₁, tt)), tt, a, vss), tt) (only (LL.vals P·Shown.the-type P·Shown′.the-laws (r .shown))) (r .shown) (after h r zs, (tt, tt)) (tt, (tt, tt))) $
+      qed W (at-end (after h r zs)) ∵
+      suffices ! _ (ends-at 𝓤 H A f.ended stayed (f.clauses 𝓤 H A at-mem run) W (((κ₀, (κ₁, tt)), (q₀, (q₁, tt)), tt, a, vss), tt) (only (shown-vals (r .shown))) (r .shown) (after h r zs, (tt, tt)) (tt, (tt, tt))) $
       says ! (ap (λ (x : Advanced). x .shown) e, ap (λ (x : Advanced). x .battery) e) $
       move ! (2 ∷ 3 ∷ []) $ join ! $ frame ! $ feqI ! (List Val) (vptr b o ∷ []) (vptr b o ∷ []) refl $ fjoin3 ! $ nothing ! $ nothing ! $ fjoin ! $ move ! (1 ∷ 0 ∷ []) $ fjoin ! $
       owned ! P·Shown.the-row (Is P·Shown.the-row) (LL.makes P·Shown.the-type P·Shown′.the-plain 𝓤 H A) (r .shown) _ s-is $ move ! (1 ∷ 0 ∷ []) $ done !
@@ -253,11 +265,11 @@ module _ {M : Type 1} (𝓤 : URA M) (H : Heap 𝓤) (A : Atoms 𝓤) (W : Given
         move ! (7 ∷ 2 ∷ 8 ∷ 0 ∷ []) $ group ! 4 $ use1 W (raw (G 𝓤 H A at-mem run .pre (to-apart l α γ′))) (apart-asked l α γ′ (subst (Is L.the-row l) (LL.tells L.the-type L′.the-laws l (u ∷ []) l-is) l-is)) $
         calls-at ! fm (G 𝓤 H A at-mem run) known (to-apart l α γ′) (and-then ! (load ! (from ! (stop !)) (look ! 13 refl)) (and-then ! (load ! (from ! (stop !)) (look ! 15 refl)) (and-then ! (load ! (from ! (stop !)) (look ! 7 refl)) (no-more !)))) (λ v.
         use1 W (later (some (λ (r : Renewed). ((‵ (flft κ₁ q₁) ⊛ ‵ (flft (α ∷ []) fullShare) ⊛ ‵ ftrue) ⊛ ‵ (S.the-row .own r (v ∷ []))) ⊛ raw (ensured 𝓤 H A g.ended (g.clauses 𝓤 H A at-mem run) (κs′ l α γ′) (a′ l α γ′) tt r)))) (id⊢ 𝓤 _) $ await ! tt $ pick ! (λ r.
-        split ! $ move ! (1 ∷ []) $ use1 W (some (λ (ws : Unit {0} × (Unit {0} × (List Float × Unit {0}))). ‵ (lasts g.ended (κs′ l α γ′) (a′ l α γ′) ws) ⊛ raw (fact 𝓤 (Said l α γ′ r (ws .1 .1 .0))))) (id⊢ 𝓤 _) $ pick ! (λ ws.
-        split ! $ fsplit ! $ drop ! $ fsplit ! $ drop ! $ fsplit ! $ move ! (2 ∷ []) $ heard ! (Said l α γ′ r (ws .1 .1 .0)) (λ said. move ! (2 ∷ []) $ split ! $ split ! $ move ! (1 ∷ []) $ split ! $ lft-end ! tt $
+        split ! $ move ! (1 ∷ []) $ use1 W (some (λ (ws : Lasts). ‵ (lasts g.ended (κs′ l α γ′) (a′ l α γ′) ws) ⊛ raw (fact 𝓤 (Said l α γ′ r (last ws))))) (id⊢ 𝓤 _) $ pick ! (λ ws.
+        split ! $ fsplit ! $ drop ! $ fsplit ! $ drop ! $ fsplit ! $ move ! (2 ∷ []) $ heard ! (Said l α γ′ r (last ws)) (λ said. move ! (2 ∷ []) $ split ! $ split ! $ move ! (1 ∷ []) $ split ! $ lft-end ! tt $
         -- [dead α; …; tok; out; last zones; …; lent; way back; open; obs; auth; rest; _6; …]
-        move ! (0 ∷ 6 ∷ 4 ∷ []) $ use3 W (later (‵ (mem Zones .lies (ws .1 .1 .0) b (o + 160)))) (ref-back 𝓤 H A W Zones (α ∷ []) γ′ (ws .1 .1 .0) b (o + 160)) $ await ! tt $
-        move ! (0 ∷ 5 ∷ []) $ use2 W (given (Is Zones (spread (ws .1 .1 .0)) (zones-val (ws .1 .1 .0) ∷ [])) (put-back 𝓤 H A W h b o (zones-val (ws .1 .1 .0)))) (put-in 𝓤 H A W h b o (ws .1 .1 .0)) $ learn ! (λ are.
+        move ! (0 ∷ 6 ∷ 4 ∷ []) $ use3 W (later (‵ (mem Zones .lies (last ws) b (o + 160)))) (ref-back 𝓤 H A W Zones (α ∷ []) γ′ (last ws) b (o + 160)) $ await ! tt $
+        move ! (0 ∷ 5 ∷ []) $ use2 W (given (Is Zones (spread (last ws)) (zones-val (last ws) ∷ [])) (put-back 𝓤 H A W h b o (zones-val (last ws)))) (put-in 𝓤 H A W h b o (last ws)) $ learn ! (λ are.
         move ! (3 ∷ []) $ peeks ! S.the-row (Is S.the-row) (shows 𝓤 H A S.the-row) r (v ∷ []) (λ is. drop ! $
         -- [cell; …; tok; …; open; obs; auth; rest; _6; …; _5; …; _4; …; _3; …; _2; …; _1; …; _0; …]
         land ! (from ! (stop !)) (init ! 12 refl (LL.lawful S.the-type S′.the-laws 𝓤 H A W .typed r _ is .0)) $
@@ -268,12 +280,12 @@ module _ {M : Type 1} (𝓤 : URA M) (H : Heap 𝓤) (A : Atoms 𝓤) (W : Given
         assigns ! (of-opd ! (load ! (from ! (fld ! refl (fld ! refl (stop !)))) (look-in ! 12 (sub ! 3 refl (sub ! 0 refl (whole !)))))) (from ! (hop ! (look ! 18 refl) (fld ! refl (stop !)))) (store-in ! 0 (sub ! 6 refl (whole !)) (f64-typed _ (totals-are r _ is .1 .1 .1 .0))) $
         assigns ! (of-opd ! (load ! (from ! (fld ! refl (fld ! refl (stop !)))) (look-in ! 12 (sub ! 4 refl (sub ! 0 refl (whole !)))))) (from ! (hop ! (look ! 18 refl) (fld ! refl (stop !)))) (store-in ! 0 (sub ! 7 refl (whole !)) (f64-typed _ (totals-are r _ is .1 .1 .1 .1 .0))) $
         assigns ! (of-opd ! (load ! (from ! (fld ! refl (stop !))) (look-in ! 12 (sub ! 1 refl (whole !))))) (from ! (stop !)) (init ! 20 refl (LL.lawful P·Shown.the-type P·Shown′.the-laws 𝓤 H A W .typed (r .shown) _ (shown-is r _ is) .0)) $
-        move ! (0 ∷ 4 ∷ 5 ∷ 6 ∷ []) $ owned ! T.the-row (Is T.the-row) (LL.makes T.the-type T′.the-plain 𝓤 H A) (after h r (ws .1 .1 .0)) _ (after-is h r (ws .1 .1 .0) _ was is are) $ move ! (1 ∷ 0 ∷ []) $
-        closes ! tt T.the-row (after h r (ws .1 .1 .0)) (vals (after h r (ws .1 .1 .0))) b o $
+        move ! (0 ∷ 4 ∷ 5 ∷ 6 ∷ []) $ owned ! T.the-row (Is T.the-row) (LL.makes T.the-type T′.the-plain 𝓤 H A) (after h r (last ws)) _ (after-is h r (last ws) _ was is are) $ move ! (1 ∷ 0 ∷ []) $
+        closes ! tt T.the-row (after h r (last ws)) (vals (after h r (last ws))) b o $
         -- [obs; bor; lft; …; tok; …; rest; _6; …; _5; …; _4; …; _3; …; _2; …; _1; …; _0; …]
         returns ! (look ! 19 refl) $ forget ! 7 refl $ forget ! 9 refl $ forget ! 11 refl $ forget ! 13 refl $ forget ! 15 refl $ forget ! 17 refl $ forget ! 19 refl $
         move ! (19 ∷ 20 ∷ []) $ free1 ! $ move ! (17 ∷ 18 ∷ []) $ free1 ! $ move ! (15 ∷ 16 ∷ []) $ free1 ! $ move ! (13 ∷ 14 ∷ []) $ free1 ! $ move ! (11 ∷ 12 ∷ []) $ free1 ! $ move ! (9 ∷ 10 ∷ []) $ free1 ! $ move ! (7 ∷ 8 ∷ []) $ free1 ! $ free0 ! $
-        move ! (4 ∷ 3 ∷ []) $ join ! $ keep ! (1 ∷ 2 ∷ 3 ∷ 0 ∷ []) $ by ! (exits r (ws .1 .1 .0) (told h l r (ws .1 .1 .0) (call .now) ledger said) (shown-is r _ is))))))))))))))))))))))))
+        move ! (4 ∷ 3 ∷ []) $ join ! $ keep ! (1 ∷ 2 ∷ 3 ∷ 0 ∷ []) $ by ! (exits r (last ws) (told h l r (last ws) (call .now) ledger said) (shown-is r _ is))))))))))))))))))))))))
 
 module _ {M : Type 1} (𝓤 : URA M) (H : Heap 𝓤) (A : Atoms 𝓤) (W : Given 𝓤 H A) (at-mem : Memory → SProp 𝓤) (run : Routine → Fun 𝓤) where
   walks : (C : Calls 𝓤 H) (Λ : Loops 𝓤 H) → FmC 𝓤 H (W .laws) C → Triple 𝓤 (C #k) (K 𝓤 H A at-mem run) → Triple 𝓤 (C #g) (G 𝓤 H A at-mem run) → Walks 𝓤 H A f.ended stayed (WpFn 𝓤 H C Λ code.function) (f.clauses 𝓤 H A at-mem run)
