@@ -55,7 +55,7 @@ pub fn is_finite(x: f64) -> bool
     x - x == 0.0
 }
 
-// One number more to a running test, in two operations and with no branch: from 0.0 on it equals 0 as long as each number is finite.
+// One number more in a running test: from 0.0 on, it equals 0 as long as each number is finite. Two operations, no branch.
 pub fn finite_step(spread: f64, x: f64) -> f64
     ensures { λ r. ⌜ eq r zero ≡ (eq spread zero && finite64 x) ⌝ }
 {

@@ -244,6 +244,7 @@ fn pass_in_place(card: Card, course: Course, d: Drive, zones: &mut [f64; 64]) ->
     let mut left = charger_heat(d);
     let mut charged = KilowattHours(0.0);
     let mut sum = Sum2 { s: 0.0, c: 0.0 };
+    // equals 0 as long as each zone is finite
     let mut spread = 0.0;
     for k in 0..n {
         let j = zone_index(mode, n, k);

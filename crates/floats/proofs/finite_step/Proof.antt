@@ -1,7 +1,6 @@
 -- The running test is 0 where each number so far is finite, and a parameter fits its format.
 use mathlib.Core.Path.{_≡_}
 use mathlib.Core.Bool.{true, _&&_}
-use lib.Dec.{T}
 use lib.Ieee.{Float, binary64, fits, eq}
 use Rattle.floats.specs.F64.{_⊕_, _⊖_}
 use Rattle.floats.specs.Constants.{zero}
