@@ -135,7 +135,7 @@ fn charge(l: Ledger, source: Source, target: f64, zones: &mut [f64; 64]) -> Repl
     requires { ⌜ l .card .layers ≤ 64 ⌝ }
     ensures { λ r. ⌜ settled l (now (zones .entry)) r (now (zones .exit)) ≡ chargeOf (whole l (now (zones .entry))) source target ⌝ }
 {
-    let s = runs::charge::charge_battery(l, source, target, zones);
+    let s = charges::charge_battery(l, source, target, zones);
     let totals = replies::charged_totals(l, s);
     let a = replies::run_reply(s, totals);
     let end = s.end;
@@ -146,7 +146,7 @@ fn heat_loss(l: Ledger, zones: &mut [f64; 64]) -> Reply
     requires { ⌜ l .card .layers ≤ 64 ⌝ }
     ensures { λ r. ⌜ settled l (now (zones .entry)) r (now (zones .exit)) ≡ heatLoss (whole l (now (zones .entry))) ⌝ }
 {
-    let s = runs::charge::battery_heat_loss(l, zones);
+    let s = charges::battery_heat_loss(l, zones);
     let totals = l.totals;
     let a = replies::run_reply(s, totals);
     let end = s.end;
@@ -193,7 +193,7 @@ fn demand_to_level(
     match level {
         StateOfCharge::Above => battery::refused_reply(25),
         StateOfCharge::Level(soc) => {
-            let energy = runs::charge::calculate_charge_energy_demand(l, most, target, soc);
+            let energy = charges::calculate_charge_energy_demand(l, most, target, soc);
             let totals = l.totals;
             let a = battery::plain_reply(energy.0, totals);
             replies::checked(l, a, zones)

@@ -1,7 +1,4 @@
 // The runs of substeps that charge or lose heat: document 01, module 6; and what every run has.
-pub mod charge;
-pub mod hydronic;
-
 use card::Card;
 use card::HeatBatteryPcm;
 use zone::Kilojoules;

@@ -1,0 +1,29 @@
+use Rattle.runs.proofs.InPlace.{loss-run, ended-lies}
+use borrow.Author.Needs.{needs}
+use Rattle.charges.proofs.battery_heat_loss.Statement.{statement}
+use Rattle.charges.proofs.battery_heat_loss.Tie as tie
+
+derived-requires : tie.Need-derived-requires
+derived-requires c κs = search needs
+
+loss-drive-requires : tie.Need-loss-drive-requires
+loss-drive-requires c κs = search needs
+
+process-in-place-requires : tie.Need-process-in-place-requires
+process-in-place-requires c κs = search needs
+
+loss-ended-requires : tie.Need-loss-ended-requires
+loss-ended-requires c κs = search needs
+
+returns : tie.Need-returns
+returns c = ended-lies _ _ _ (loss-run _ _ _ _ _ _ _ (c .before .before .before .before .derived .ensures) (c .before .before .before .loss-drive .ensures _) (c .before .process-in-place .ensures) (λ energies. c .loss-ended .ensures _ _ energies))
+
+pub battery-heat-loss-spec : {M : Type 1} → statement M
+battery-heat-loss-spec =
+    tie.close
+    (tie.spec
+    derived-requires
+    loss-drive-requires
+    process-in-place-requires
+    loss-ended-requires
+    returns)

@@ -1,0 +1,29 @@
+use Rattle.runs.proofs.InPlace.{electric-run, ended-lies}
+use borrow.Author.Needs.{needs}
+use Rattle.charges.proofs.charge_battery_electric.Statement.{statement}
+use Rattle.charges.proofs.charge_battery_electric.Tie as tie
+
+derived-requires : tie.Need-derived-requires
+derived-requires c κs = search needs
+
+electric-drive-requires : tie.Need-electric-drive-requires
+electric-drive-requires c κs = search needs
+
+process-in-place-requires : tie.Need-process-in-place-requires
+process-in-place-requires c κs = search needs
+
+electric-ended-requires : tie.Need-electric-ended-requires
+electric-ended-requires c κs = search needs
+
+returns : tie.Need-returns
+returns c = ended-lies _ _ _ (electric-run _ _ _ _ _ _ _ _ _ (c .before .before .before .before .derived .ensures) (c .before .before .before .electric-drive .ensures _) (c .before .process-in-place .ensures) (λ energies. c .electric-ended .ensures _ _ energies))
+
+pub charge-battery-electric-spec : {M : Type 1} → statement M
+charge-battery-electric-spec =
+    tie.close
+    (tie.spec
+    derived-requires
+    electric-drive-requires
+    process-in-place-requires
+    electric-ended-requires
+    returns)

@@ -1,0 +1,207 @@
+// Document 01, module 6: charges, losses, and the energy to a level.
+use battery::Given;
+use battery::Ledger;
+use card::Card;
+use runs::Exchanger;
+use runs::HydronicTask;
+use runs::Source;
+use runs::Stopped;
+use runs::WetPace;
+use substep::Drive;
+use substep::Outcome;
+use water::Mode;
+use zone::Kilojoules;
+use zone::KilowattHours;
+ghost use mathlib.Core.Path.{_≡_};
+ghost use mathlib.Core.List.{List};
+ghost use Prim.Native.Nat.{_≤_};
+ghost use lib.Ieee.{Float};
+ghost use Rattle.battery.specs.Ledger.{whole};
+ghost use Rattle.substep.specs.Substep.{substepWith};
+ghost use Rattle.runs.specs.Apart.{endedWith, wetWith, EndedLies};
+ghost use Rattle.runs.specs.Charge.{electricDrive, electricEnded, chargeElectric, hydronicTask, hydronicStart, chargeHydronic, chargeBattery, lossDrive, lossEnded, batteryHeatLoss, energyDeficit, chargeEnergyDemand};
+
+// The call's power over the time left.
+fn electric_drive(l: Ledger, power: f64, target: f64) -> Drive
+    ensures { λ r. ⌜ ((zones : List Float) → r ≡ electricDrive (whole l zones) power target) ⌝ }
+{
+    let card = l.card;
+    let left = floats::max_zero(runs::time_available(l, 0.0));
+    Drive {
+        mode: Mode::OnlyCharging,
+        inlet: 0.0,
+        seconds: left * floats::SECONDS_PER_HOUR,
+        reynold: 0.0,
+        flow: card.flow,
+        power,
+        target,
+        a: card.a,
+        b: card.b,
+    }
+}
+
+fn electric_ended(l: Ledger, u: Outcome) -> Stopped
+    ensures { λ r. ⌜ ((before zones energies : List Float) → endedWith r zones ≡ electricEnded (whole l before) (substepWith u zones energies)) ⌝ }
+{
+    let energy = u.charged;
+    let fault = u.fault;
+    let end = runs::fault_end(fault);
+    Stopped {
+        energy,
+        electric: KilowattHours(l.totals.electric + energy.0),
+        outlet: 0.0,
+        time: 0.0,
+        end,
+        substeps: 1,
+    }
+}
+
+pub fn charge_battery_electric(l: Ledger, power: f64, target: f64, zones: &mut [f64; 64]) -> Stopped
+    requires { ⌜ l .card .layers ≤ 64 ⌝ }
+    ensures { λ r. ⌜ EndedLies r (now (zones .exit)) (chargeElectric (whole l (now (zones .entry))) power target) ⌝ }
+{
+    let card = l.card;
+    let pcm = card::derived(card);
+    let drive = electric_drive(l, power, target);
+    let u = substep::process_in_place(card, pcm, drive, zones);
+    electric_ended(l, u)
+}
+
+fn hydronic_task(l: Ledger, wet: Exchanger, target: f64) -> HydronicTask
+    ensures { λ r. ⌜ ((zones : List Float) → r ≡ hydronicTask (whole l zones) wet target) ⌝ }
+{
+    let card = l.card;
+    let pcm = card::derived(card);
+    let limit = KilowattHours(wet.limit).kilojoules();
+    HydronicTask {
+        card,
+        pcm,
+        wet,
+        target,
+        limit,
+    }
+}
+
+fn hydronic_start(l: Ledger, wet: Exchanger) -> WetPace
+    ensures { λ r. ⌜ ((zones : List Float) → wetWith r zones ≡ hydronicStart (whole l zones) wet) ⌝ }
+{
+    let card = l.card;
+    let reynold = runs::reynold_between(card.inlet, card.outlet, wet.velocity, wet.diameter);
+    WetPace {
+        absorbed: Kilojoules(0.0),
+        reynold,
+        time: 0.0,
+    }
+}
+
+pub fn charge_battery_hydronic(
+    l: Ledger,
+    wet: Exchanger,
+    target: f64,
+    zones: &mut [f64; 64],
+) -> Stopped
+    requires { ⌜ l .card .layers ≤ 64 ⌝ }
+    ensures { λ r. ⌜ EndedLies r (now (zones .exit)) (chargeHydronic (whole l (now (zones .entry))) wet target) ⌝ }
+{
+    let task = hydronic_task(l, wet, target);
+    let steps = hydronic::whole_substeps(task);
+    let start = hydronic_start(l, wet);
+    let e = hydronic::hydronic_run(task, steps, start, zones);
+    hydronic::hydronic_ended(KilowattHours(l.totals.electric), e)
+}
+
+// The charge step: by the source.
+pub fn charge_battery(l: Ledger, source: Source, target: f64, zones: &mut [f64; 64]) -> Stopped
+    requires { ⌜ l .card .layers ≤ 64 ⌝ }
+    ensures { λ r. ⌜ EndedLies r (now (zones .exit)) (chargeBattery (whole l (now (zones .entry))) source target) ⌝ }
+{
+    match source {
+        Source::Electric(power) => charge_battery_electric(l, power, target, zones),
+        Source::Wet(wet) => charge_battery_hydronic(l, wet, target, zones),
+    }
+}
+
+// The rated losses over the whole timestep.
+fn loss_drive(l: Ledger) -> Drive
+    ensures { λ r. ⌜ ((zones : List Float) → r ≡ lossDrive (whole l zones)) ⌝ }
+{
+    let card = l.card;
+    Drive {
+        mode: Mode::Losses,
+        inlet: floats::DEFAULT_AMBIENT_TEMPERATURE,
+        seconds: card.timestep * floats::SECONDS_PER_HOUR,
+        reynold: 0.0,
+        flow: 0.0,
+        power: -card.losses,
+        target: 0.0,
+        a: card.a,
+        b: card.b,
+    }
+}
+
+fn loss_ended(l: Ledger, u: Outcome) -> Stopped
+    ensures { λ r. ⌜ ((before zones energies : List Float) → endedWith r zones ≡ lossEnded (whole l before) (substepWith u zones energies)) ⌝ }
+{
+    let delivered = u.delivered;
+    let energy = delivered.kilowatt_hours();
+    let fault = u.fault;
+    let end = runs::fault_end(fault);
+    Stopped {
+        energy,
+        electric: KilowattHours(l.totals.electric),
+        outlet: 0.0,
+        time: 0.0,
+        end,
+        substeps: 1,
+    }
+}
+
+pub fn battery_heat_loss(l: Ledger, zones: &mut [f64; 64]) -> Stopped
+    requires { ⌜ l .card .layers ≤ 64 ⌝ }
+    ensures { λ r. ⌜ EndedLies r (now (zones .exit)) (batteryHeatLoss (whole l (now (zones .entry)))) ⌝ }
+{
+    let card = l.card;
+    let pcm = card::derived(card);
+    let drive = loss_drive(l);
+    let u = substep::process_in_place(card, pcm, drive, zones);
+    loss_ended(l, u)
+}
+
+// The energy to the target, or to the flow maximum where that is less.
+fn energy_deficit(card: Card, most: Given, current: Kilojoules, wanted: Kilojoules) -> Kilojoules
+    ensures { λ r. ⌜ r ≡ energyDeficit card most current wanted ⌝ }
+{
+    match most {
+        Given::Absent => Kilojoules(wanted.0 - current.0),
+        Given::Value(t) => {
+            let hottest = card::energy_at(card, t);
+            let flow = floats::max_zero(hottest.0 - current.0);
+            let least = floats::min(wanted.0 - current.0, flow);
+            Kilojoules(least)
+        }
+    }
+}
+
+// `soc` is the battery's state of charge.
+pub fn calculate_charge_energy_demand(
+    l: Ledger,
+    most: Given,
+    target: f64,
+    soc: f64,
+) -> KilowattHours
+    ensures { λ r. ⌜ ((zones : List Float) → r ≡ chargeEnergyDemand (whole l zones) most target soc) ⌝ }
+{
+    let card = l.card;
+    let pcm = card::derived(card);
+    let stored = pcm.stored;
+    if soc > target {
+        return KilowattHours(0.0);
+    }
+    if floats::nearly_equal(soc, target, floats::TOLERANCE, floats::MAX_RELATIVE) {
+        return KilowattHours(0.0);
+    }
+    let current = Kilojoules(stored.0 * soc);
+    let wanted = Kilojoules(stored.0 * target);
+    let deficit = energy_deficit(card, most, current, wanted);
+    deficit.kilowatt_hours()
+}

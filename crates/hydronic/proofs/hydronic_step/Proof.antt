@@ -1,0 +1,65 @@
+use mathlib.Core.Path.{subst}
+use Rattle.runs.specs.Apart.{WetTurnLies}
+use Rattle.runs.proofs.InPlace.{hydronic-turn, wet-fault, log-refused, finite-refused}
+use Rattle.substep.specs.Substep.{substepWith}
+use Rattle.runs.specs.Hydronic.{hydronicBy}
+use mathlib.Core.Path.{sym, ap}
+use borrow.Author.Needs.{needs}
+use Rattle.hydronic.proofs.hydronic_step.Statement.{statement}
+use Rattle.hydronic.proofs.hydronic_step.Tie as tie
+
+wet-drive-requires : tie.Need-wet-drive-requires
+wet-drive-requires c κs = search needs
+
+process-in-place-requires : tie.Need-process-in-place-requires
+process-in-place-requires c κs = search needs
+
+enum-told : tie.Need-enum-told
+enum-told c = search needs
+
+add-hydronic-whole : tie.Need-add-hydronic-whole
+add-hydronic-whole c = search needs
+
+hydronic-whole-requires : tie.Need-hydronic-whole-requires
+hydronic-whole-requires c κs = search needs
+
+enum-told-2 : tie.Need-enum-told-2
+enum-told-2 c = search needs
+
+add-t17 : tie.Need-add-t17
+add-t17 c = search needs
+
+enum-told-3 : tie.Need-enum-told-3
+enum-told-3 c = search needs
+
+add-t20 : tie.Need-add-t20
+add-t20 c = search needs
+
+returns : tie.Need-returns
+unfolding hydronicBy
+returns c = hydronic-turn _ _ _ _ _ _ _ _ _ (c .before .before .before .before .before .before .before .before .wet-drive .ensures) (c .before .before .before .before .process-in-place .ensures) (λ energies. subst (WetTurnLies _ _) (sym (ap (hydronicBy _ _ _ _) (c .before .before .enum-told .given .1))) (c .hydronic-whole .ensures energies))
+
+returns-2 : tie.Need-returns-2
+unfolding hydronicBy substepWith
+returns-2 c = hydronic-turn _ _ _ _ _ _ _ _ _ (c .before .before .before .before .before .before .wet-drive .ensures) (c .before .before .process-in-place .ensures) (λ energies. wet-fault _ _ _ _ _ _ log-refused (sym (ap (hydronicBy _ _ _ _) (c .enum-told2 .given .1))))
+
+returns-3 : tie.Need-returns-3
+unfolding hydronicBy substepWith
+returns-3 c = hydronic-turn _ _ _ _ _ _ _ _ _ (c .before .before .before .before .before .before .wet-drive .ensures) (c .before .before .process-in-place .ensures) (λ energies. wet-fault _ _ _ _ _ _ finite-refused (sym (ap (hydronicBy _ _ _ _) (c .enum-told3 .given .1))))
+
+pub hydronic-step-spec : {M : Type 1} → statement M
+hydronic-step-spec =
+    tie.close
+    (tie.spec
+    wet-drive-requires
+    process-in-place-requires
+    enum-told
+    add-hydronic-whole
+    hydronic-whole-requires
+    enum-told-2
+    add-t17
+    enum-told-3
+    add-t20
+    returns
+    returns-2
+    returns-3)

@@ -1,0 +1,43 @@
+use Rattle.runs.proofs.InPlace.{wet-turn-lies, at-false, replay-turn}
+use Rattle.floats.proofs.Branch.{via-true}
+use borrow.Author.Tests.{eq-eqb, ne-eqb}
+use Rattle.runs.specs.Hydronic.{replayed}
+use mathlib.Core.Path.{refl}
+use borrow.Author.Needs.{needs}
+use Rattle.hydronic.proofs.replayed.Statement.{statement}
+use Rattle.hydronic.proofs.replayed.Tie as tie
+
+cast-if1 : tie.Need-cast-if1
+cast-if1 c = search needs
+
+returns : tie.Need-returns
+unfolding replayed
+returns c = wet-turn-lies _ _ _ (via-true _ _ (eq-eqb _ _ (c .if1 .taken)) refl)
+
+wet-drive-requires : tie.Need-wet-drive-requires
+wet-drive-requires c κs = search needs
+
+process-in-place-requires : tie.Need-process-in-place-requires
+process-in-place-requires c κs = search needs
+
+add-replay-by : tie.Need-add-replay-by
+add-replay-by c = search needs
+
+replay-by-requires : tie.Need-replay-by-requires
+replay-by-requires c κs = search needs
+
+returns-2 : tie.Need-returns-2
+unfolding replayed
+returns-2 c = at-false _ _ _ _ _ (ne-eqb _ _ (c .before .before .before .before .before .if1 .left)) (replay-turn _ _ _ _ _ _ _ _ _ _ (c .before .before .before .before .wet-drive .ensures) (c .before .process-in-place .ensures) (λ energies. c .replay-by .ensures _ _ energies))
+
+pub replayed-spec : {M : Type 1} → statement M
+replayed-spec =
+    tie.close
+    (tie.spec
+    cast-if1
+    returns
+    wet-drive-requires
+    process-in-place-requires
+    add-replay-by
+    replay-by-requires
+    returns-2)

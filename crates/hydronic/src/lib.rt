@@ -1,0 +1,264 @@
+// Document 01, module 6: the substeps of a hydronic charge.
+use runs::End;
+use runs::HydronicTask;
+use runs::Next;
+use runs::Stopped;
+use runs::WetEnd;
+use runs::WetPace;
+use runs::WetTurn;
+use substep::Drive;
+use substep::Fault;
+use substep::Outcome;
+use water::Mode;
+use zone::Kilojoules;
+use zone::KilowattHours;
+ghost use mathlib.Core.Path.{_≡_};
+ghost use mathlib.Core.Bool.{not};
+ghost use mathlib.Core.List.{List};
+ghost use lib.Ieee.{Float};
+ghost use Rattle.substep.specs.Substep.{substepWith};
+ghost use Rattle.runs.specs.Apart.{endedWith, wetWith, wetEndWith, WetTurnLies, WetEndLies};
+ghost use Prim.Native.Nat.{_+_, _≤_, _<_};
+ghost use Rattle.runs.specs.Hydronic.{wetDrive, clearlyBelow, limitReached, replayBy, replayed as replayedOf, fractionSeconds, hydronicWhole, hydronicStep, hydronicRun, hydronicEnded, wholeSubsteps};
+
+fn wet_drive(x: HydronicTask, seconds: f64, reynold: f64) -> Drive
+    ensures { λ r. ⌜ r ≡ wetDrive x seconds reynold ⌝ }
+{
+    let wet = x.wet;
+    Drive {
+        mode: Mode::Normal,
+        inlet: wet.inlet,
+        seconds,
+        reynold,
+        flow: wet.flow,
+        power: 0.0,
+        target: x.target,
+        a: wet.a,
+        b: wet.b,
+    }
+}
+
+// Below, and not nearly equal.
+fn clearly_below(outlet: f64, inlet: f64) -> bool
+    ensures { λ r. ⌜ r ≡ clearlyBelow outlet inlet ⌝ }
+{
+    let near = floats::nearly_equal(outlet, inlet, floats::TOLERANCE, floats::MAX_RELATIVE);
+    floats::both(outlet < inlet, !near)
+}
+
+fn limit_reached(absorbed: Kilojoules, limit: Kilojoules) -> bool
+    ensures { λ r. ⌜ r ≡ limitReached absorbed limit ⌝ }
+{
+    if absorbed.0 > limit.0 {
+        return true;
+    }
+    floats::nearly_equal(absorbed.0, limit.0, floats::TOLERANCE, floats::MAX_RELATIVE)
+}
+
+// What the fractional substep u leaves.
+fn replay_by(
+    x: HydronicTask,
+    n: u32,
+    s: WetPace,
+    seconds: f64,
+    reynold: f64,
+    u: Outcome,
+    fault: Fault,
+) -> WetTurn
+    ensures { λ r. ⌜ ((before zones energies : List Float) → WetTurnLies r zones (replayBy x n (wetWith s before) seconds reynold (substepWith u zones energies) fault)) ⌝ }
+{
+    match fault {
+        Fault::Nothing => {
+            let absorbed = x.limit;
+            let pace = WetPace {
+                absorbed,
+                reynold,
+                time: s.time + seconds,
+            };
+            WetTurn {
+                pace,
+                next: Next::Stop(End::Limit),
+                substeps: n,
+            }
+        }
+        Fault::Logarithm => WetTurn {
+            pace: s,
+            next: Next::Stop(End::NoLogarithm),
+            substeps: n,
+        },
+        Fault::NotFinite => WetTurn {
+            pace: s,
+            next: Next::Stop(End::NotFiniteRun),
+            substeps: n,
+        },
+    }
+}
+
+// The fractional substep, from the zones before the whole one and with the Reynolds number behind it.
+fn replayed(
+    x: HydronicTask,
+    n: u32,
+    s: WetPace,
+    seconds: f64,
+    reynold: f64,
+    zones: &mut [f64; 64],
+) -> WetTurn
+    requires { ⌜ (x .card .layers ≤ 64) × (n ≤ 65535) ⌝ }
+    ensures { λ r. ⌜ WetTurnLies r (now (zones .exit)) (replayedOf x n (wetWith s (now (zones .entry))) seconds reynold) ⌝ }
+{
+    let card = x.card;
+    if n == card.budget as u32 {
+        return WetTurn {
+            pace: s,
+            next: Next::Stop(End::OverBudget),
+            substeps: n,
+        };
+    }
+    let drive = wet_drive(x, seconds, reynold);
+    let pcm = x.pcm;
+    let u = substep::process_in_place(card, pcm, drive, zones);
+    let fault = u.fault;
+    replay_by(x, n + 1, s, seconds, reynold, u, fault)
+}
+
+fn fraction_seconds(x: HydronicTask, absorbed: Kilojoules, this: Kilojoules) -> f64
+    ensures { λ r. ⌜ r ≡ fractionSeconds x absorbed this ⌝ }
+{
+    let allowed = x.limit.0 - (absorbed.0 - this.0);
+    x.card.substep * (allowed / this.0)
+}
+
+// What the whole substep u leads to. `before` are the zones that it began with.
+fn hydronic_whole(
+    x: HydronicTask,
+    n: u32,
+    s: WetPace,
+    u: Outcome,
+    before: [f64; 64],
+    zones: &mut [f64; 64],
+) -> WetTurn
+    requires { ⌜ (x .card .layers ≤ 64) × (n ≤ 65535) ⌝ }
+    ensures { λ r. ⌜ ((energies : List Float) → WetTurnLies r (now (zones .exit)) (hydronicWhole x n (wetWith s before) (substepWith u (now (zones .entry)) energies))) ⌝ }
+{
+    let wet = x.wet;
+    let limit = x.limit;
+    let reynold = runs::reynold_between(wet.inlet, u.outlet, wet.velocity, wet.diameter);
+    let this = Kilojoules(-u.delivered.0);
+    let absorbed = Kilojoules(s.absorbed.0 + this.0);
+    let time = s.time + x.card.substep;
+    if clearly_below(u.outlet, wet.inlet) {
+        let pace = WetPace {
+            absorbed,
+            reynold,
+            time,
+        };
+        if limit_reached(absorbed, limit) {
+            if this.0 > 0.0 {
+                let seconds = fraction_seconds(x, absorbed, this);
+                *zones = before;
+                return replayed(x, n, s, seconds, reynold, zones);
+            }
+            return WetTurn {
+                pace,
+                next: Next::Stop(End::Limit),
+                substeps: n,
+            };
+        }
+        return WetTurn {
+            pace,
+            next: Next::On,
+            substeps: n,
+        };
+    }
+    let absorbed_before = s.absorbed;
+    let pace = WetPace {
+        absorbed: absorbed_before,
+        reynold,
+        time,
+    };
+    WetTurn {
+        pace,
+        next: Next::Stop(End::Level),
+        substeps: n,
+    }
+}
+
+// One turn behind n substeps.
+fn hydronic_step(x: HydronicTask, n: u32, s: WetPace, zones: &mut [f64; 64]) -> WetTurn
+    requires { ⌜ (x .card .layers ≤ 64) × (n < 65535) ⌝ }
+    ensures { λ r. ⌜ WetTurnLies r (now (zones .exit)) (hydronicStep x n (wetWith s (now (zones .entry)))) ⌝ }
+{
+    let card = x.card;
+    let drive = wet_drive(x, card.substep, s.reynold);
+    let pcm = x.pcm;
+    let before = *zones;
+    let u = substep::process_in_place(card, pcm, drive, zones);
+    let fault = u.fault;
+    match fault {
+        Fault::Nothing => hydronic_whole(x, n + 1, s, u, before, zones),
+        Fault::Logarithm => WetTurn {
+            pace: s,
+            next: Next::Stop(End::NoLogarithm),
+            substeps: n + 1,
+        },
+        Fault::NotFinite => WetTurn {
+            pace: s,
+            next: Next::Stop(End::NotFiniteRun),
+            substeps: n + 1,
+        },
+    }
+}
+
+pub fn whole_substeps(x: HydronicTask) -> u64
+    ensures { λ r. ⌜ r ≡ wholeSubsteps x ⌝ }
+{
+    floats::truncate(x.wet.hours * floats::SECONDS_PER_HOUR / x.card.substep)
+}
+
+// At most `steps` whole substeps from `start` on.
+pub fn hydronic_run(x: HydronicTask, steps: u64, start: WetPace, zones: &mut [f64; 64]) -> WetEnd
+    requires { ⌜ x .card .layers ≤ 64 ⌝ }
+    ensures { λ r. ⌜ WetEndLies r (now (zones .exit)) (hydronicRun x steps 0 (wetWith start (now (zones .entry)))) ⌝ }
+{
+    let card = x.card;
+    let budget = card.budget as u32;
+    let mut pace = start;
+    let mut substeps: u32 = 0;
+    let end = loop {
+        if substeps as u64 == steps {
+            break End::Time;
+        }
+        if substeps == budget {
+            break End::OverBudget;
+        }
+        let turn = hydronic_step(x, substeps, pace, zones);
+        substeps = turn.substeps;
+        pace = turn.pace;
+        let next = turn.next;
+        if let Next::Stop(e) = next {
+            break e;
+        }
+    };
+    WetEnd {
+        pace,
+        end,
+        substeps,
+    }
+}
+
+pub fn hydronic_ended(electric: KilowattHours, e: WetEnd) -> Stopped
+    ensures { λ r. ⌜ ((zones : List Float) → endedWith r zones ≡ hydronicEnded electric (wetEndWith e zones)) ⌝ }
+{
+    let pace = e.pace;
+    let absorbed = pace.absorbed;
+    let energy = absorbed.kilowatt_hours();
+    let end = e.end;
+    Stopped {
+        energy,
+        electric,
+        outlet: 0.0,
+        time: pace.time,
+        end,
+        substeps: e.substeps,
+    }
+}
