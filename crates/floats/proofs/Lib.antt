@@ -29,6 +29,7 @@ pub mod Standins
 pub mod Rulesets
 pub mod Branch
 pub mod Negligible
+pub mod Doubling
 pub mod Constants
 pub mod Sum2Laws
 pub mod LnLaws

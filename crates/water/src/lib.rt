@@ -76,7 +76,8 @@ pub fn calculate_outlet_temp_c(transfer: f64, zone: f64, inlet: f64, mass: f64) 
     ensures { λ r. ⌜ r ≡ outletTemp transfer zone inlet mass ⌝ }
 {
     let capacity = SPECIFIC_HEAT_CAPACITY / JOULES_PER_KILOWATT_HOUR;
-    (2.0 * transfer * zone - transfer * inlet
+    // The doubling by addition is the same to the bit; with it the compiler does not pair the two products, on which each zone waits.
+    ((transfer + transfer) * zone - transfer * inlet
         + 2.0 * mass * capacity * floats::KILOJOULES_PER_KILOWATT_HOUR * inlet)
         / (2.0 * mass * capacity * floats::KILOJOULES_PER_KILOWATT_HOUR + transfer)
 }
