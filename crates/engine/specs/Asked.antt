@@ -8,6 +8,7 @@ use Rattle.engine.specs.declared.Asked.{Asked}
 use Rattle.engine.specs.declared.Asked.the-variants.{DemandEnergy, Charge, HeatLoss, CloseTimestep, ReadStateOfCharge, ChargeEnergyDemand}
 use Rattle.engine.specs.Steps.{demandEnergy, charge, heatLoss, closed, level, readLevel, demandToLevel, wetSource}
 
+-- the call, its power or its exchanger as a source
 unfoldable pub askedOf : Call → Asked
 askedOf (Call.DemandEnergy d) = DemandEnergy d
 askedOf (Call.ChargeElectric power target) = Charge (Electric power) target
@@ -17,6 +18,7 @@ askedOf Call.CloseTimestep = CloseTimestep
 askedOf Call.ReadStateOfCharge = ReadStateOfCharge
 askedOf (Call.ChargeEnergyDemand most target) = ChargeEnergyDemand most target
 
+-- the steps by what is asked: `stepOf`, by crates/engine/proofs/ByKind.antt
 unfoldable pub askedStep : Battery → Asked → Answer
 askedStep b (DemandEnergy d) = demandEnergy b d
 askedStep b (Charge source target) = charge b source target

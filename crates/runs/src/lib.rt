@@ -1,4 +1,4 @@
-// The runs of substeps that charge or lose heat: document 01, module 6; and what every run has.
+// What every run of substeps has, and the structs of document 01's module 6. Its functions are in `hydronic` and `charges`.
 use card::Card;
 use card::HeatBatteryPcm;
 use zone::Kilojoules;
