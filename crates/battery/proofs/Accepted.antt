@@ -9,7 +9,7 @@ use Rattle.card.specs.Card.{cardRefusal}
 use Rattle.card.proofs.Tests.{and-true, true-and, no-both}
 use Rattle.battery.specs.Battery.{zonesFinite, totalsFinite, batteryAccepted, GoodBattery}
 use Rattle.battery.specs.declared.Battery.{Battery}
-use Rattle.battery.proofs.Zones.{SameAbove}
+use Rattle.battery.specs.Places.{SameAbove}
 
 pub record AcceptedBattery (version : ℕ) (b : Battery) : Type 0 where
   pub card : cardRefusal version (b .card) ≡ 0

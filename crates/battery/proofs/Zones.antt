@@ -10,6 +10,7 @@ use lib.Ieee.{Float, nan}
 use Rattle.floats.specs.Standins.{finite64}
 use Rattle.card.proofs.Tests.{and-true, true-and}
 use Rattle.battery.specs.Battery.{zonesFinite}
+use Rattle.battery.specs.Places.{SameAbove}
 
 pub zones-finite-of : (zones : List Float) (n : ℕ) → ((i : ℕ) → i < n → finite64 (getD zones i nan) ≡ true) → zonesFinite zones n ≡ true
 unfolding zonesFinite
@@ -27,11 +28,6 @@ zones-finite-at zones (suc n) h i l = on (λ g m. zones-finite-at zones n g i m)
     on : (zonesFinite zones n ≡ true → i < n → finite64 (getD zones i nan) ≡ true) → Dec (i ≡ n) → finite64 (getD zones i nan) ≡ true
     on below (yes e) = rw e (a .1)
     on below (no ne) = below (a .0) (omega arith)
-
--- as many places, and the same in all from n on
-pub record SameAbove (n : ℕ) (before after : List Float) : Type 0 where
-  pub places : length after ≡ length before
-  pub above : (j : ℕ) → n ≤ j → getD after j nan ≡ getD before j nan
 
 pub same-above : (n : ℕ) (zones : List Float) → SameAbove n zones zones
 same-above n zones = record { places = refl; above = λ j h. refl }

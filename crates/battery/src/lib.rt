@@ -160,10 +160,35 @@ fn totals_finite(t: Totals) -> bool
     )
 }
 
+// The card field by field: the compiler then copies it in place and calls no copying routine.
 pub fn ledger_of(b: Battery) -> Ledger
     ensures { λ r. ⌜ r ≡ ledgerOf b ⌝ }
 {
-    let card = b.card;
+    let card = Card {
+        layers: b.card.layers,
+        units: b.card.units,
+        simultaneous: b.card.simultaneous,
+        budget: b.card.budget,
+        substep: b.card.substep,
+        timestep: b.card.timestep,
+        inlet: b.card.inlet,
+        outlet: b.card.outlet,
+        max: b.card.max,
+        reference: b.card.reference,
+        lower: b.card.lower,
+        upper: b.card.upper,
+        below: b.card.below,
+        during: b.card.during,
+        above: b.card.above,
+        velocity: b.card.velocity,
+        diameter: b.card.diameter,
+        a: b.card.a,
+        b: b.card.b,
+        flow: b.card.flow,
+        losses: b.card.losses,
+        start: b.card.start,
+        power: b.card.power,
+    };
     let totals = Totals {
         total: b.total,
         pump: b.pump,

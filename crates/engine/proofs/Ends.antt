@@ -4,7 +4,8 @@ use mathlib.Core.Path.{_≡_, refl, _∙_, ap}
 use mathlib.Core.Logic.{inl, inr}
 use Prim.Native.Nat.{ℕ, suc, _≤_, _+_}
 use native.Mathlib.Omega.{arith}
-use Rattle.battery.proofs.Zones.{SameAbove, same-above, then-above}
+use Rattle.battery.specs.Places.{SameAbove}
+use Rattle.battery.proofs.Zones.{same-above, then-above}
 use Rattle.engine.specs.Budget.{DemandOver, HydronicOver}
 use Rattle.delivery.specs.declared.DemandTask.{DemandTask}
 use Rattle.delivery.specs.declared.Run.{Run}

@@ -15,7 +15,8 @@ use Rattle.card.proofs.Tests.{no-both}
 use Rattle.battery.specs.Answer.{refusedWith, plainAnswer, answerFinite}
 use Rattle.battery.specs.declared.Battery.{Battery}
 use Rattle.battery.specs.declared.Answer.{Answer}
-use Rattle.battery.proofs.Zones.{SameAbove, same-above}
+use Rattle.battery.specs.Places.{SameAbove}
+use Rattle.battery.proofs.Zones.{same-above}
 use Rattle.runs.specs.Runs.{endRefusal}
 use Rattle.replies.specs.Replies.{checked, unlessRefused, runAnswer, chargedBattery, cooledBattery, closedBattery}
 use Rattle.runs.specs.declared.End.{End}

@@ -20,7 +20,7 @@ use Rattle.battery.specs.declared.Demand.{Demand}
 use Rattle.battery.specs.declared.Call.{Call}
 use Rattle.battery.specs.declared.Call.the-variants.{DemandEnergy, ChargeElectric, ChargeHydronic, HeatLoss, CloseTimestep, ReadStateOfCharge, ChargeEnergyDemand}
 use Rattle.battery.specs.declared.Answer.{Answer}
-use Rattle.battery.proofs.Zones.{SameAbove}
+use Rattle.battery.specs.Places.{SameAbove}
 use Rattle.substep.proofs.Above.{substep-above}
 use Rattle.runs.specs.declared.Ended.{Ended}
 use Rattle.runs.specs.declared.Exchanger.{Exchanger}

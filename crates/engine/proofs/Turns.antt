@@ -9,7 +9,8 @@ use Rattle.floats.specs.F64.{_⊕_}
 use Rattle.floats.specs.Constants as Constants
 use Rattle.floats.proofs.Cases.{by-test}
 use Rattle.zone.specs.Heat.{kj, kwh, kilowattHours}
-use Rattle.battery.proofs.Zones.{SameAbove, same-above}
+use Rattle.battery.specs.Places.{SameAbove}
+use Rattle.battery.proofs.Zones.{same-above}
 use Rattle.substep.specs.Substep.{processHeatBatteryZones}
 use Rattle.substep.specs.declared.Substep.{Substep}
 use Rattle.substep.specs.declared.Fault.{Fault}

@@ -9,7 +9,8 @@ use Rattle.floats.specs.declared.Log.{Log}
 use Rattle.floats.specs.declared.Log.the-variants.{Value, Refused}
 use Rattle.card.specs.declared.Card.{Card}
 use Rattle.card.specs.declared.HeatBatteryPcm.{HeatBatteryPcm}
-use Rattle.battery.proofs.Zones.{SameAbove, same-above}
+use Rattle.battery.specs.Places.{SameAbove}
+use Rattle.battery.proofs.Zones.{same-above}
 use Rattle.substep.specs.Substep.{zoneAt, zonesAfter, zoneTransfer, courseOf, passFrom, withoutLogarithm, substepFrom, withTransfer, processHeatBatteryZones}
 use Rattle.substep.specs.declared.Course.{Course}
 use Rattle.substep.specs.declared.Drive.{Drive}
