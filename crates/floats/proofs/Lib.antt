@@ -30,6 +30,7 @@ pub mod Rulesets
 pub mod Branch
 pub mod Negligible
 pub mod Doubling
+pub mod Unchanged
 pub mod Constants
 pub mod Sum2Laws
 pub mod LnLaws

@@ -1,3 +1,4 @@
 pub mod Falls
+pub mod Lowering
 pub mod Directions
 pub mod Points

@@ -1,6 +1,6 @@
 -- Document 01, module 2: `calculate_new_zone_temperature`.
 use mathlib.Core.Bool.{cond}
-use lib.Ieee.{Float, lt, le}
+use lib.Ieee.{Float, lt, le, neg}
 use Rattle.floats.specs.F64.{_⊕_, _⊖_, _⊗_, _⊘_}
 use Rattle.floats.specs.Constants.{zero, negligibleEnergy, maxRelative}
 use Rattle.floats.specs.Standins.{nearlyEqual}
@@ -73,3 +73,12 @@ newZoneTemperature s t e =
     (cond (lt (e .0) zero)
     (lowered t (retrieving s t (e .0)))
     (record { temperature = t })))
+
+-- its falls by two comparisons, none where the zone stays: what the code lowers it by
+unfoldable pub zoneFalls : Salt → Float → Float → Deltas
+zoneFalls s t e =
+    cond (lt negligibleEnergy e)
+    (delivering s t e)
+    (cond (lt e (neg negligibleEnergy))
+    (retrieving s t e)
+    (deltas zero zero zero))

@@ -2,7 +2,7 @@
 use zone::Kilojoules;
 use zone::Salt;
 ghost use mathlib.Core.Path.{_≡_};
-ghost use Rattle.update.specs.Update.{deliveringFromAbove, delivering as deliveringOf, retrievingFromBelow, retrieving as retrievingOf, lowered as loweredOf, newZoneTemperature};
+ghost use Rattle.update.specs.Update.{deliveringFromAbove, delivering as deliveringOf, retrievingFromBelow, retrieving as retrievingOf, zoneFalls, lowered as loweredOf, newZoneTemperature};
 
 // Falls of a zone's temperature above, within and below the melting range.
 pub struct Deltas {
@@ -136,18 +136,28 @@ fn lowered(zone: f64, d: Deltas) -> ZoneUpdate
     }
 }
 
+// The falls of a zone that gives up the energy e. Nearly equal to 0 is a magnitude of at most NEGLIGIBLE_ENERGY_KJ, and two comparisons cost
+// less; a NaN leaves the zone.
+fn zone_falls(salt: Salt, zone: f64, e: f64) -> Deltas
+    ensures { λ r. ⌜ r ≡ zoneFalls salt zone e ⌝ }
+{
+    if e > floats::NEGLIGIBLE_ENERGY_KJ {
+        return delivering(salt, zone, e);
+    }
+    if e < -floats::NEGLIGIBLE_ENERGY_KJ {
+        return retrieving(salt, zone, e);
+    }
+    Deltas {
+        above: 0.0,
+        during: 0.0,
+        below: 0.0,
+    }
+}
+
+// A zone is lowered in one place, by falls of 0 where it stays: so short, it is compiled in place in the loop of every mode.
 pub fn calculate_new_zone_temperature(salt: Salt, zone: f64, energy: Kilojoules) -> ZoneUpdate
     ensures { λ r. ⌜ r ≡ newZoneTemperature salt zone energy ⌝ }
 {
-    let e = energy.0;
-    // Nearly equal to 0 is a magnitude of at most NEGLIGIBLE_ENERGY_KJ, and two comparisons cost less; a NaN leaves the zone.
-    if e > floats::NEGLIGIBLE_ENERGY_KJ {
-        let d = delivering(salt, zone, e);
-        return lowered(zone, d);
-    }
-    if e < -floats::NEGLIGIBLE_ENERGY_KJ {
-        let d = retrieving(salt, zone, e);
-        return lowered(zone, d);
-    }
-    ZoneUpdate { temperature: zone }
+    let d = zone_falls(salt, zone, energy.0);
+    lowered(zone, d)
 }
