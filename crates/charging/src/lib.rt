@@ -3,6 +3,8 @@ use zone::Kilojoules;
 use zone::KilowattHours;
 use zone::Salt;
 ghost use mathlib.Core.Path.{_≡_};
+ghost use Rattle.floats.specs.Constants.{zero};
+ghost use Rattle.zone.specs.Heat.{kj};
 ghost use Rattle.charging.specs.Charging.{counted as countedOf, chargingWithdrawn, chargingAdded, chargingFull, zoneSimultaneousCharging};
 
 // A zone's part of a charge: the charger's heat left (negative), the energy charged so far, the heat that the zone gives up.
@@ -132,4 +134,21 @@ pub fn process_zone_simultaneous_charging(
         return charging_added(required, left, e, charged);
     }
     charging_full(left, e, charged)
+}
+
+// The same in charging alone, where no water runs: short enough to be compiled in place in a loop of its own.
+pub fn charge_zone_alone(
+    salt: Salt,
+    zone: f64,
+    target: f64,
+    left: Kilojoules,
+    charged: KilowattHours,
+) -> Charged
+    ensures { λ r. ⌜ r ≡ zoneSimultaneousCharging salt zone target left (kj zero) charged ⌝ }
+{
+    if zone < target {
+        let required = zone::layer::calculate_zone_energy_required(salt, zone, target);
+        return charging_withdrawn(required, left, Kilojoules(0.0), charged);
+    }
+    charging_full(left, Kilojoules(0.0), charged)
 }

@@ -65,7 +65,7 @@ unfolding ofBits add
 store-zero l j e h g = rw (h, g) (ap (set l j) (sym h) ∙ set-getD l j nan)
 
 -- charging alone gives no heat to the water
-no-energy : (x : Course) (s : Salt) (t inlet : Float) (q : Kilojoules) (e : KilowattHours) → x .mode ≡ OnlyCharging → zoneStep x s t inlet q e .energy .0 ≡ Constants.zero
+pub no-energy : (x : Course) (s : Salt) (t inlet : Float) (q : Kilojoules) (e : KilowattHours) → x .mode ≡ OnlyCharging → zoneStep x s t inlet q e .energy .0 ≡ Constants.zero
 unfolding zoneStep zoneProperties
 no-energy x s t inlet q e m = rw m
 

@@ -32,6 +32,7 @@ use Rattle.substep.specs.Substep.{zoneCharge, zoneStep, zonesAfter, zone
 use Rattle.substep.specs.declared.Course.{Course}
 use Rattle.substep.specs.declared.Drive.{Drive}
 use Rattle.substep.proofs.EachZone.{each-zone}
+use Rattle.substep.proofs.WithoutWater.{without-logarithm-loss, without-logarithm-charge}
 use Rattle.substep.proofs.Charger.{charger-nonpositive, charger-not-negative}
 
 not-warmer : (t : Float) → T (finite64 t) → T (le t t)
@@ -65,15 +66,6 @@ module _ (x : Course) (g : GoodSalt (x .salt)) (j : ℕ) (t inlet : Float) (q : 
         (by-test (λ (c : Charged). T (number (c .left .0)) → T (le (c .left .0) zero)) (lt (q .0) zero) _ _
         (λ l. charging-left-nonpositive (x .salt) g t F (x .target) q (le-of-lt (q .0) zero l) k)
         (λ l. h))
-
--- neither mode takes a logarithm
-without-logarithm-loss : (c : Card) (d : Drive) → d .mode ≡ Losses → zoneTransfer (d .mode) c d ≡ Value zero
-unfolding zoneTransfer
-without-logarithm-loss c d m = rw m
-
-without-logarithm-charge : (c : Card) (d : Drive) → d .mode ≡ OnlyCharging → zoneTransfer (d .mode) c d ≡ Value zero
-unfolding zoneTransfer
-without-logarithm-charge c d m = rw m
 
 module _ (c : Card) (pcm : HeatBatteryPcm) (d : Drive) (zones : List Float) (g : GoodSalt (pcm .salt)) (S : T (le zero (d .seconds)))
     (places : c .layers ≤ length zones) (finite : (i : ℕ) → i < c .layers → T (finite64 (getD zones i nan))) where

@@ -1,4 +1,6 @@
 // One substep over the zones: document 01, module 5.
+pub mod without_water;
+
 use card::Card;
 use card::HeatBatteryPcm;
 use charging::Charged;

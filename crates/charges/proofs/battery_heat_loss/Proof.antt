@@ -1,3 +1,7 @@
+use mathlib.Core.Path.{ap}
+use mathlib.Core.List.{[]}
+use Rattle.substep.specs.declared.Drive.{Drive}
+use Rattle.runs.specs.Charge.{lossDrive}
 use Rattle.runs.proofs.InPlace.{loss-run, ended-lies}
 use borrow.Author.Needs.{needs}
 use Rattle.charges.proofs.battery_heat_loss.Statement.{statement}
@@ -9,14 +13,15 @@ derived-requires c κs = search needs
 loss-drive-requires : tie.Need-loss-drive-requires
 loss-drive-requires c κs = search needs
 
-process-in-place-requires : tie.Need-process-in-place-requires
-process-in-place-requires c κs = search needs
+lose-in-place-requires : tie.Need-lose-in-place-requires
+unfolding lossDrive
+lose-in-place-requires c κs = (c .before .before .before .before .pre, ap (λ (d : Drive). d .mode) (c .before .loss-drive .ensures []))
 
 loss-ended-requires : tie.Need-loss-ended-requires
 loss-ended-requires c κs = search needs
 
 returns : tie.Need-returns
-returns c = ended-lies _ _ _ (loss-run _ _ _ _ _ _ _ (c .before .before .before .before .derived .ensures) (c .before .before .before .loss-drive .ensures _) (c .before .process-in-place .ensures) (λ energies. c .loss-ended .ensures _ _ energies))
+returns c = ended-lies _ _ _ (loss-run _ _ _ _ _ _ _ (c .before .before .before .before .derived .ensures) (c .before .before .before .loss-drive .ensures _) (c .before .lose-in-place .ensures) (λ energies. c .loss-ended .ensures _ _ energies))
 
 pub battery-heat-loss-spec : {M : Type 1} → statement M
 battery-heat-loss-spec =
@@ -24,6 +29,6 @@ battery-heat-loss-spec =
     (tie.spec
     derived-requires
     loss-drive-requires
-    process-in-place-requires
+    lose-in-place-requires
     loss-ended-requires
     returns)

@@ -1,3 +1,7 @@
+use mathlib.Core.Path.{ap}
+use mathlib.Core.List.{[]}
+use Rattle.substep.specs.declared.Drive.{Drive}
+use Rattle.runs.specs.Charge.{electricDrive}
 use Rattle.runs.proofs.InPlace.{electric-run, ended-lies}
 use borrow.Author.Needs.{needs}
 use Rattle.charges.proofs.charge_battery_electric.Statement.{statement}
@@ -9,14 +13,15 @@ derived-requires c κs = search needs
 electric-drive-requires : tie.Need-electric-drive-requires
 electric-drive-requires c κs = search needs
 
-process-in-place-requires : tie.Need-process-in-place-requires
-process-in-place-requires c κs = search needs
+charge-in-place-requires : tie.Need-charge-in-place-requires
+unfolding electricDrive
+charge-in-place-requires c κs = (c .before .before .before .before .pre, ap (λ (d : Drive). d .mode) (c .before .electric-drive .ensures []))
 
 electric-ended-requires : tie.Need-electric-ended-requires
 electric-ended-requires c κs = search needs
 
 returns : tie.Need-returns
-returns c = ended-lies _ _ _ (electric-run _ _ _ _ _ _ _ _ _ (c .before .before .before .before .derived .ensures) (c .before .before .before .electric-drive .ensures _) (c .before .process-in-place .ensures) (λ energies. c .electric-ended .ensures _ _ energies))
+returns c = ended-lies _ _ _ (electric-run _ _ _ _ _ _ _ _ _ (c .before .before .before .before .derived .ensures) (c .before .before .before .electric-drive .ensures _) (c .before .charge-in-place .ensures) (λ energies. c .electric-ended .ensures _ _ energies))
 
 pub charge-battery-electric-spec : {M : Type 1} → statement M
 charge-battery-electric-spec =
@@ -24,6 +29,6 @@ charge-battery-electric-spec =
     (tie.spec
     derived-requires
     electric-drive-requires
-    process-in-place-requires
+    charge-in-place-requires
     electric-ended-requires
     returns)

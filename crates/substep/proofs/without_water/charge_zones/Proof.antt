@@ -1,0 +1,105 @@
+use lib.Ieee.{ofBits, add}
+use Rattle.substep.proofs.OneLoop.{Underway, startOf, underway-start, underway-end}
+use Rattle.substep.proofs.Ordered.{noSum}
+use Rattle.substep.proofs.WithoutWater.{charging-more}
+use mathlib.Core.Path.{refl}
+use Prim.Native.Nat.{_≤_, _-_}
+use native.Mathlib.Omega.{arith}
+use borrow.Author.Needs.{needs}
+use Rattle.substep.proofs.without_water.charge_zones.Statement.{statement}
+use Rattle.substep.proofs.without_water.charge_zones.Tie as tie
+
+abbrev Inv-loop : tie.InvT-loop
+Inv-loop course zones₀ n mode own outlet₀ left₀ charged₀ spread₀ k₀ zones outlet left charged spread k =
+    (k ≤ n) × Underway course n k (startOf zones₀ outlet₀ left₀ charged₀) zones outlet left charged noSum spread
+
+abbrev μ-loop : tie.MeasureT-loop
+μ-loop course zones₀ n mode own outlet₀ left₀ charged₀ spread₀ k₀ zones outlet left charged spread k = n - k
+
+cast-n : tie.Need-cast-n Inv-loop μ-loop
+cast-n c = search needs
+
+charger-heat-requires : tie.Need-charger-heat-requires Inv-loop μ-loop
+charger-heat-requires c κs = search needs
+
+loop-holds : tie.Need-loop-holds Inv-loop μ-loop
+loop-holds c = (omega arith, underway-start _ _ _ _ _ _)
+
+zone-index-requires : tie.Need-zone-index-requires Inv-loop μ-loop
+zone-index-requires c κs = search needs
+
+zone-salt-requires : tie.Need-zone-salt-requires Inv-loop μ-loop
+zone-salt-requires c κs = search needs
+
+mul-charging-step : tie.Need-mul-charging-step Inv-loop μ-loop
+mul-charging-step c = search needs
+
+element-copy-out-charging-step : tie.Need-element-copy-out-charging-step Inv-loop μ-loop
+element-copy-out-charging-step c = search needs
+
+charging-step-requires : tie.Need-charging-step-requires Inv-loop μ-loop
+charging-step-requires c κs = search needs
+
+mul-zones : tie.Need-mul-zones Inv-loop μ-loop
+mul-zones c = search needs
+
+element-write-zones : tie.Need-element-write-zones Inv-loop μ-loop
+element-write-zones c = search needs
+
+mul-finite-step : tie.Need-mul-finite-step Inv-loop μ-loop
+mul-finite-step c = search needs
+
+element-copy-out-finite-step : tie.Need-element-copy-out-finite-step Inv-loop μ-loop
+element-copy-out-finite-step c = search needs
+
+finite-step-requires : tie.Need-finite-step-requires Inv-loop μ-loop
+finite-step-requires c κs = search needs
+
+add-k : tie.Need-add-k Inv-loop μ-loop
+add-k c = search needs
+
+loop-less : tie.Need-loop-less Inv-loop μ-loop
+loop-less c = search needs
+
+loop-again : tie.Need-loop-again Inv-loop μ-loop
+loop-again c =
+    let i = c .before .before .before .before .before .before .before in
+    let p = i .before .before .before .before .before .before .pre in (
+      omega arith,
+      charging-more _ _ _ refl (p .0) _ (i .before .loop-test .taken) _ _ _ _ _ _ _ _ _ (i .zone-index .ensures .0) (c .before .before .before .before .before .before .zone-salt .ensures) (c .before .before .before .before .charging-step .ensures _) (c .before .before .finite-step .ensures) (p .1) (i .before .before .loop .inv .1),
+    )
+
+pass-fault-requires : tie.Need-pass-fault-requires Inv-loop μ-loop
+pass-fault-requires c κs = search needs
+
+-- the sum of nothing is 0
+returns : tie.Need-returns Inv-loop μ-loop
+unfolding ofBits add
+returns c =
+    let l = c .before .before .loop in
+    underway-end _ _ _ _ _ (c .before .before .before .before .before .before .pre .0) _ _ _ _ _ noSum _ _ (c .before .before .before .charger-heat .ensures) (l .inv .0) (c .before .loop-test .left) (l .inv .1) (c .pass-fault .ensures)
+
+pub charge-zones-spec : {M : Type 1} → statement M
+charge-zones-spec =
+    tie.close
+    (tie.spec
+    Inv-loop
+    μ-loop
+    cast-n
+    charger-heat-requires
+    loop-holds
+    zone-index-requires
+    zone-salt-requires
+    mul-charging-step
+    element-copy-out-charging-step
+    charging-step-requires
+    mul-zones
+    element-write-zones
+    mul-finite-step
+    element-copy-out-finite-step
+    finite-step-requires
+    add-k
+    loop-less
+    loop-again
+    pass-fault-requires
+    returns)

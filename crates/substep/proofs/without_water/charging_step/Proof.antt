@@ -1,0 +1,23 @@
+use Rattle.substep.proofs.WithoutWater.{charging-on, charging-off}
+use borrow.Author.Needs.{needs}
+use Rattle.substep.proofs.without_water.charging_step.Statement.{statement}
+use Rattle.substep.proofs.without_water.charging_step.Tie as tie
+
+charge-zone-alone-requires : tie.Need-charge-zone-alone-requires
+charge-zone-alone-requires c κs = search needs
+
+calculate-new-zone-temperature-requires : tie.Need-calculate-new-zone-temperature-requires
+calculate-new-zone-temperature-requires c κs = search needs
+
+returns : tie.Need-returns
+returns c inlet =
+    let b = c .before .before .before .before in
+    charging-on _ _ _ inlet _ _ (b .before .before .before .pre) _ _ (b .before .if1 .taken) (b .charge-zone-alone .ensures) (c .before .before .calculate-new-zone-temperature .ensures)
+
+returns-2 : tie.Need-returns-2
+returns-2 c inlet = charging-off _ _ _ inlet _ _ (c .before .before .pre) (c .if1 .left)
+
+pub charging-step-spec : {M : Type 1} → statement M
+charging-step-spec =
+    tie.close
+    (tie.spec charge-zone-alone-requires calculate-new-zone-temperature-requires returns returns-2)

@@ -1,0 +1,164 @@
+// Substeps without water, charging alone and losses, each in a loop of its own: what a zone is asked there is less than in the loop of every
+// mode, and the steps of those calls have them compiled in place.
+use crate::Course;
+use crate::Drive;
+use crate::Outcome;
+use crate::ZoneStep;
+use card::Card;
+use card::HeatBatteryPcm;
+use floats::Sum2;
+use water::Mode;
+use zone::Kilojoules;
+use zone::KilowattHours;
+use zone::Salt;
+ghost use mathlib.Core.Path.{_≡_};
+ghost use mathlib.Core.Bool.{false};
+ghost use Prim.Native.Nat.{_≤_};
+ghost use lib.IntN.{pos};
+ghost use lib.Ieee.{Float, binary64, ofInt, lt};
+ghost use Rattle.floats.specs.Constants.{zero};
+ghost use Rattle.floats.specs.F64.{_⊘_};
+ghost use Rattle.substep.specs.Substep.{zoneStep, zonesAfter, passFrom, chargerHeat, outcomeOf, substepFrom, processHeatBatteryZones};
+
+// A zone's part of charging alone: nothing, where the charger's heat is used up.
+fn charging_step(
+    course: Course,
+    salt: Salt,
+    zone: f64,
+    left: Kilojoules,
+    charged: KilowattHours,
+) -> ZoneStep
+    requires { ⌜ course .mode ≡ Mode.OnlyCharging ⌝ }
+    ensures { λ r. ⌜ ((inlet : Float) → r ≡ zoneStep course salt zone inlet left charged) ⌝ }
+{
+    if left.0 < 0.0 {
+        let c = charging::charge_zone_alone(salt, zone, course.target, left, charged);
+        let heat = c.heat;
+        let update = update::calculate_new_zone_temperature(salt, zone, heat);
+        let left = c.left;
+        let charged = c.charged;
+        return ZoneStep {
+            temperature: update.temperature,
+            energy: Kilojoules(0.0),
+            outlet: 0.0,
+            left,
+            charged,
+        };
+    }
+    ZoneStep {
+        temperature: zone,
+        energy: Kilojoules(0.0),
+        outlet: 0.0,
+        left,
+        charged,
+    }
+}
+
+// The zones from the last to the first. No heat goes to the water, so there is nothing to sum.
+fn charge_zones(card: Card, course: Course, d: Drive, zones: &mut [f64; 64]) -> Outcome
+    requires { ⌜ (card .layers ≤ 64) × (course .mode ≡ Mode.OnlyCharging) ⌝ }
+    ensures { λ r. ⌜ (now (zones .exit) ≡ zonesAfter course (card .layers) (card .layers) (passFrom d (now (zones .entry))) .zones) × (r ≡ outcomeOf (substepFrom card (zonesAfter course (card .layers) (card .layers) (passFrom d (now (zones .entry)))))) ⌝ }
+{
+    let n = card.layers as usize;
+    let mode = course.mode;
+    let own = course.salt;
+    let mut outlet = d.inlet;
+    let mut left = crate::charger_heat(d);
+    let mut charged = KilowattHours(0.0);
+    // equals 0 as long as each zone is finite
+    let mut spread = 0.0;
+    for k in 0..n {
+        let j = crate::zone_index(mode, n, k);
+        let salt = zone::layer::zone_salt(own, j);
+        let z = charging_step(course, salt, zones[j], left, charged);
+        zones[j] = z.temperature;
+        spread = floats::finite_step(spread, zones[j]);
+        outlet = z.outlet;
+        left = z.left;
+        charged = z.charged;
+    }
+    let fault = crate::pass_fault(spread == 0.0, outlet, 0.0, charged);
+    Outcome {
+        outlet,
+        delivered: Kilojoules(0.0),
+        charged,
+        fault,
+    }
+}
+
+// `process_in_place` in charging alone.
+pub fn charge_in_place(card: Card, pcm: HeatBatteryPcm, d: Drive, zones: &mut [f64; 64]) -> Outcome
+    requires { ⌜ (card .layers ≤ 64) × (d .mode ≡ Mode.OnlyCharging) ⌝ }
+    ensures { λ r. ⌜ (now (zones .exit) ≡ processHeatBatteryZones card pcm d (now (zones .entry)) .zones) × (r ≡ outcomeOf (processHeatBatteryZones card pcm d (now (zones .entry)))) ⌝ }
+{
+    let course = crate::course_of(card, pcm, d, 0.0);
+    charge_zones(card, course, d, zones)
+}
+
+// A zone's loss. `share` is a layer's part of the heat that is lost at the rated difference.
+fn loss_step(
+    course: Course,
+    salt: Salt,
+    zone: f64,
+    left: Kilojoules,
+    share: f64,
+    charged: KilowattHours,
+) -> ZoneStep
+    requires { ⌜ (course .mode ≡ Mode.Losses) × ((lt (left .0) zero ≡ false) × (share ≡ left .0 ⊘ ofInt binary64 (pos (course .shared .layers)))) ⌝ }
+    ensures { λ r. ⌜ ((inlet : Float) → r ≡ zoneStep course salt zone inlet left charged) ⌝ }
+{
+    let energy = floats::max_zero(share * (zone - course.shared.inlet) / course.shared.rated);
+    let update = update::calculate_new_zone_temperature(salt, zone, Kilojoules(energy));
+    ZoneStep {
+        temperature: update.temperature,
+        energy: Kilojoules(energy),
+        outlet: 0.0,
+        left,
+        charged,
+    }
+}
+
+// The zones upward. The heat at the rated difference stays, and nothing is charged.
+fn lose_zones(card: Card, course: Course, d: Drive, zones: &mut [f64; 64]) -> Outcome
+    requires { ⌜ (card .layers ≤ 64) × ((course .mode ≡ Mode.Losses) × (lt (chargerHeat d .0) zero ≡ false)) ⌝ }
+    ensures { λ r. ⌜ (now (zones .exit) ≡ zonesAfter course (card .layers) (card .layers) (passFrom d (now (zones .entry))) .zones) × (r ≡ outcomeOf (substepFrom card (zonesAfter course (card .layers) (card .layers) (passFrom d (now (zones .entry)))))) ⌝ }
+{
+    let n = card.layers as usize;
+    let own = course.salt;
+    let left = crate::charger_heat(d);
+    let charged = KilowattHours(0.0);
+    let share = left.0 / (course.shared.layers as f64);
+    let mut outlet = d.inlet;
+    let mut sum = Sum2 { s: 0.0, c: 0.0 };
+    // equals 0 as long as each zone is finite
+    let mut spread = 0.0;
+    for k in 0..n {
+        let salt = zone::layer::zone_salt(own, k);
+        let z = loss_step(course, salt, zones[k], left, share, charged);
+        zones[k] = z.temperature;
+        spread = floats::finite_step(spread, zones[k]);
+        sum = floats::sum2_step(sum, 0.0 + z.energy.0);
+        outlet = z.outlet;
+    }
+    let delivered = sum.s + sum.c;
+    let fault = crate::pass_fault(spread == 0.0, outlet, delivered, charged);
+    Outcome {
+        outlet,
+        delivered: Kilojoules(delivered),
+        charged,
+        fault,
+    }
+}
+
+// `process_in_place` in the losses mode; heat of a charger, which no loss has, goes the way of every mode.
+pub fn lose_in_place(card: Card, pcm: HeatBatteryPcm, d: Drive, zones: &mut [f64; 64]) -> Outcome
+    requires { ⌜ (card .layers ≤ 64) × (d .mode ≡ Mode.Losses) ⌝ }
+    ensures { λ r. ⌜ (now (zones .exit) ≡ processHeatBatteryZones card pcm d (now (zones .entry)) .zones) × (r ≡ outcomeOf (processHeatBatteryZones card pcm d (now (zones .entry)))) ⌝ }
+{
+    let heat = crate::charger_heat(d);
+    if heat.0 < 0.0 {
+        return crate::process_in_place(card, pcm, d, zones);
+    }
+    let course = crate::course_of(card, pcm, d, 0.0);
+    lose_zones(card, course, d, zones)
+}
