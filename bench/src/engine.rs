@@ -53,6 +53,7 @@ impl Engine {
 /// The same by the crate's types.
 pub struct Crate {
     start: Record,
+    record: Record,
     calls: Vec<heat_battery::Call>,
 }
 
@@ -61,20 +62,22 @@ impl Crate {
         let bytes = sheet::battery_bytes(battery);
         let start = heat_battery::Battery::from_bytes(&bytes).expect("a good battery");
         let read = |call: &Vec<u8>| heat_battery::Call::from_bytes(call).expect("a call");
-        Crate { start: Record::from(&start), calls: calls_bytes(calls).iter().map(read).collect() }
+        let start = Record::from(&start);
+        let calls = calls_bytes(calls).iter().map(read).collect();
+        Crate { record: start.clone(), start, calls }
     }
 
-    /// The sum of energies, refusals and the first zone.
-    pub fn list(&self) -> f64 {
+    /// The sum of energies, refusals and the first zone, from the record as it was at first.
+    pub fn list(&mut self) -> f64 {
         let mut sum = 0.0;
-        let mut record = self.start.clone();
+        self.record.clone_from(&self.start);
         for call in &self.calls {
-            sum += match record.advance(call) {
+            sum += match self.record.advance(call) {
                 Ok(answer) => answer.energy,
                 Err(refusal) => f64::from(refusal.number()),
             };
         }
-        sum + record.zones()[0]
+        sum + self.record.zones()[0]
     }
 }
 

@@ -98,7 +98,7 @@ fn contenders(row: &Row) -> Vec<(&'static str, Runner<'_>)> {
     let battery = oracle_battery(&row.start);
     let calls = oracle_calls(row);
     let mut engine = Engine::new(&battery, &calls);
-    let wrapped = Crate::new(&battery, &calls);
+    let mut wrapped = Crate::new(&battery, &calls);
     let mut plain_c = PlainC::new(&row.start);
     let plain = move || oracle_list(oracle::plain::step, black_box(&battery), black_box(&calls)).0;
     vec![
@@ -107,7 +107,7 @@ fn contenders(row: &Row) -> Vec<(&'static str, Runner<'_>)> {
         ("plain Rust", rounds_of(plain)),
         ("plain C", rounds_of(move || plain_c.list(black_box(&row.calls)))),
         ("engine", rounds_of(move || black_box(&mut engine).list().0)),
-        ("crate", rounds_of(move || black_box(&wrapped).list())),
+        ("crate", rounds_of(move || black_box(&mut wrapped).list())),
     ]
 }
 

@@ -16,9 +16,9 @@ pub(crate) const OPENING_BYTES: usize = 1 + 2 + Card::BYTES;
 const MOST_RECORD: usize = Card::BYTES + state_bytes(MOST_LAYERS as u8);
 const MOST_LINE: usize = 2 + MOST_BYTES + HEAD_BYTES + state_bytes(MOST_LAYERS as u8);
 
-/// Bytes of a call's line with its length.
-pub(crate) fn line_bytes(call: &[u8], layers: u8) -> usize {
-    2 + call.len() + Answer::bytes(layers)
+/// Bytes of the line of a call of so many bytes, with its length.
+pub(crate) fn line_bytes(call: usize, layers: u8) -> usize {
+    2 + call + Answer::bytes(layers)
 }
 
 /// A battery: its card, zones and totals.
@@ -158,18 +158,17 @@ impl Battery {
     /// Makes a call with its line at the front of a sheet. Refusals 10 and 11; one of 20 to 25
     /// is in the answer.
     pub(crate) fn answer_on(&mut self, call: &Call, sheet: &mut [u8]) -> Result<Answer, Refusal> {
-        let call = call.buffer();
-        let refusal = Refusal::from_number(ffi::call(self.record.as_mut(), &call, sheet));
-        match refusal {
+        let result = call.with_bytes(|bytes| ffi::call(self.record.as_mut(), bytes, sheet));
+        match Refusal::from_number(result) {
             Some(refusal) if !refusal.is_line() => Err(refusal),
-            _ => self.read_answer(&call, sheet).ok_or(Refusal::CallField),
+            _ => self.read_answer(call.kind().bytes(), sheet).ok_or(Refusal::CallField),
         }
     }
 
-    /// The answer on the line at the front of a sheet.
-    fn read_answer(&self, call: &[u8], sheet: &[u8]) -> Option<Answer> {
+    /// The answer on the line at the front of a sheet, behind as many bytes of a call.
+    fn read_answer(&self, call: usize, sheet: &[u8]) -> Option<Answer> {
         let layers = self.card.layers;
-        let answer = sheet.get(2 + call.len()..line_bytes(call, layers))?;
+        let answer = sheet.get(2 + call..line_bytes(call, layers))?;
         Answer::read(layers, &mut Cursor(answer)).ok()
     }
 }

@@ -294,17 +294,19 @@ impl Call {
         words.map(|words| Fault { refusal: Refusal::CallField, words }).collect()
     }
 
+    /// Hands on the kind and the call fields as on the sheet, where they were gathered: a copy
+    /// of them would cost more than they do.
     #[inline]
-    pub(crate) fn buffer(&self) -> Buffer<MOST_BYTES> {
-        let mut bytes = Buffer::new();
+    pub(crate) fn with_bytes<T>(&self, take: impl FnOnce(&[u8]) -> T) -> T {
+        let mut bytes = Buffer::<MOST_BYTES>::new();
         bytes.put([self.kind().number()]);
         self.each(|value| value.write(&mut bytes));
-        bytes
+        take(&bytes)
     }
 
     /// The kind and the call fields as on the sheet.
     pub fn to_bytes(&self) -> Vec<u8> {
-        self.buffer().to_vec()
+        self.with_bytes(<[u8]>::to_vec)
     }
 
     /// A call of any numbers. Refusal 10 for an unknown kind, another length, a type or flag

@@ -89,7 +89,7 @@ impl Lines<'_> {
     fn line(&self, content: &[u8]) -> Result<Line, String> {
         let mut bytes = Cursor(content);
         let call = Call::read(&mut bytes)?;
-        let right = call.buffer().len() + Answer::bytes(self.card.layers);
+        let right = call.kind().bytes() + Answer::bytes(self.card.layers);
         if content.len() != right {
             let kind = call.kind().name();
             return Err(format!("a {kind} line has {right} bytes, this one {}", content.len()));

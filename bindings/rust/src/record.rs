@@ -27,8 +27,29 @@ use std::fmt;
 /// assert_eq!(Battery::from(&record), battery);
 /// # Ok::<(), Refusal>(())
 /// ```
-#[derive(Clone, PartialEq)]
+#[derive(PartialEq)]
 pub struct Record(ffi::Battery);
+
+impl Clone for Record {
+    fn clone(&self) -> Record {
+        Record(self.0)
+    }
+
+    /// Copies no more zones than there are: the quick way back to a kept state.
+    #[inline]
+    fn clone_from(&mut self, source: &Record) {
+        let Record(ffi::Battery { card, zones, count, totals }) = source;
+        self.0.card = *card;
+        self.0.totals = *totals;
+        if self.0.count > *count {
+            self.0.zones = *zones;
+        }
+        self.0.count = *count;
+        for (place, zone) in self.0.zones.iter_mut().zip(zones).take(usize::from(*count)) {
+            *place = *zone;
+        }
+    }
+}
 
 impl Record {
     /// A fresh battery: all zones at the card's start, totals 0. Refusals 1 to 4.
@@ -76,25 +97,35 @@ impl Record {
     /// ```
     #[inline]
     pub fn advance(&mut self, call: &Call) -> Result<Answer, Refusal> {
-        self.answer(call)?.result()
+        let shown = call.with_bytes(|bytes| ffi::advance(&mut self.0, bytes));
+        match Refusal::from_number(shown.refusal) {
+            Some(refusal) => Err(refusal),
+            None => Ok(self.shown(None, &shown)),
+        }
     }
 
     /// Advances the battery by a call and gives what its line would show: one of 20 to 25 is
     /// an answer with its refusal, only 10 is an error.
     #[inline]
     pub fn answer(&mut self, call: &Call) -> Result<Answer, Refusal> {
-        let shown = ffi::advance(&mut self.0, &call.buffer());
+        let shown = call.with_bytes(|bytes| ffi::advance(&mut self.0, bytes));
         match Refusal::from_number(shown.refusal) {
             Some(refusal) if !refusal.is_line() => Err(refusal),
-            refusal => Ok(Answer {
-                refusal,
-                energy: shown.energy,
-                outlet: (shown.mark == 1).then_some(shown.outlet),
-                time: shown.time,
-                substeps: shown.substeps,
-                zones: Zones::new(self.zones()).unwrap_or(Zones::EMPTY),
-                totals: self.totals(),
-            }),
+            refusal => Ok(self.shown(refusal, &shown)),
+        }
+    }
+
+    /// The line's answer, with the battery as it is now.
+    #[inline]
+    fn shown(&self, refusal: Option<Refusal>, shown: &ffi::Shown) -> Answer {
+        Answer {
+            refusal,
+            energy: shown.energy,
+            outlet: (shown.mark == 1).then_some(shown.outlet),
+            time: shown.time,
+            substeps: shown.substeps,
+            zones: Zones::new(self.zones()).unwrap_or(Zones::EMPTY),
+            totals: self.totals(),
         }
     }
 }

@@ -53,7 +53,7 @@ impl Sheet {
     /// refusal, only 10 and 11 are errors.
     pub fn answer(&mut self, call: &Call) -> Result<Answer, Refusal> {
         let used = self.bytes.len();
-        let needed = line_bytes(&call.buffer(), self.battery.card().layers);
+        let needed = line_bytes(call.kind().bytes(), self.battery.card().layers);
         self.bytes.resize(used + needed.min(self.most - used), 0);
         let free = self.bytes.get_mut(used..).unwrap_or_default();
         let answer = self.battery.answer_on(call, free);

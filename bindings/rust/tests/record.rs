@@ -199,6 +199,22 @@ fn a_record_answers_as_a_battery() {
     counts.end("Record and Battery");
 }
 
+/// `clone_from` leaves what `clone` gives, in all 64 places, whatever the layers of either record.
+#[test]
+fn a_record_goes_back() {
+    let mut random = random();
+    let mut draw = || {
+        let card = generate::card(&mut random);
+        Record::from(&battery(&generate::battery(&mut random, &card)))
+    };
+    let mut record = draw();
+    for _ in 0..1000 {
+        let kept = draw();
+        record.clone_from(&kept);
+        assert!(record == kept);
+    }
+}
+
 /// Refusals 1 to 4 as for a battery, and the fresh one.
 #[test]
 fn a_record_opens_as_a_battery() {
