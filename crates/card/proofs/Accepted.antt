@@ -7,6 +7,7 @@ use lib.Dec.{leb}
 use lib.Ieee.{lt, le}
 use Rattle.floats.specs.Constants.{maxRelative, tolerance, ratedAmbient}
 use Rattle.floats.specs.Standins.{nearlyEqual}
+use Rattle.ranges.specs.Ranges.{isTemperature}
 use Rattle.card.specs.Card.{countsInRange, timesInRange, temperaturesInRange, capacitiesInRange, exchangerInRange, powersInRange, cardInRange, cardVerdict, verdictNumber, cardRefusal}
 use Rattle.card.specs.declared.Card.{Card}
 use Rattle.card.specs.declared.CardVerdict.the-variants.{Accepted, OutOfRange, LowerAboveUpper, MaxTooLow, NothingToStore}
@@ -36,7 +37,7 @@ one-way true true false true e h = absurd (omega arith)
 one-way true true false false true h = absurd (omega arith)
 one-way true true false false false h = (refl, refl, refl, refl, refl)
 
-in-range :
+pub in-range :
     (c : Card) → cardInRange c ≡ true →
     (countsInRange c ≡ true) × (timesInRange c ≡ true) × (temperaturesInRange c ≡ true) × (capacitiesInRange c ≡ true) × (exchangerInRange c ≡ true) × (powersInRange c ≡ true)
 unfolding cardInRange
@@ -47,6 +48,20 @@ in-range c h =
     let s = and-true (capacitiesInRange c) _ (r .1) in
     let t = and-true (exchangerInRange c) (powersInRange c) (s .1) in
     (p .0, q .0, r .0, s .0, t .0, t .1)
+
+pub each-temperature :
+    (c : Card) → temperaturesInRange c ≡ true →
+    (isTemperature (c .inlet) ≡ true) × (isTemperature (c .outlet) ≡ true) × (isTemperature (c .max) ≡ true) × (isTemperature (c .reference) ≡ true)
+    × (isTemperature (c .lower) ≡ true) × (isTemperature (c .upper) ≡ true) × (isTemperature (c .start) ≡ true)
+unfolding temperaturesInRange
+each-temperature c h =
+    let p = and-true (isTemperature (c .inlet)) _ h in
+    let q = and-true (isTemperature (c .outlet)) _ (p .1) in
+    let r = and-true (isTemperature (c .max)) _ (q .1) in
+    let s = and-true (isTemperature (c .reference)) _ (r .1) in
+    let t = and-true (isTemperature (c .lower)) _ (s .1) in
+    let u = and-true (isTemperature (c .upper)) (isTemperature (c .start)) (t .1) in
+    (p .0, q .0, r .0, s .0, t .0, u .0, u .1)
 
 pub accepted : (version : ℕ) (c : Card) → cardRefusal version c ≡ 0 → AcceptedCard c
 unfolding cardRefusal cardVerdict

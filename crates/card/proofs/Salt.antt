@@ -17,13 +17,13 @@ use Rattle.floats.proofs.Order.{le-trans, lt-of-lt-of-le}
 use Rattle.floats.proofs.Quotient.{div-number}
 use Rattle.floats.proofs.QuotientOrder.{div-mono-l, div-anti-r}
 use Rattle.zone.specs.Good.{GoodSalt}
-use Rattle.ranges.specs.Ranges.{thousandth, million, isTemperature, isCapacity}
-use Rattle.card.specs.Card.{temperaturesInRange, capacitiesInRange, cardRefusal}
+use Rattle.ranges.specs.Ranges.{thousandth, million, isCapacity}
+use Rattle.card.specs.Card.{capacitiesInRange, cardRefusal}
 use Rattle.card.specs.Derived.{saltOf}
 use Rattle.card.specs.Fits.{CardFits}
 use Rattle.card.specs.declared.Card.{Card}
 use Rattle.card.proofs.Tests.{and-true}
-use Rattle.card.proofs.Accepted.{accepted, accepted-layers}
+use Rattle.card.proofs.Accepted.{each-temperature, accepted, accepted-layers}
 use Rattle.card.proofs.Within.{holds, within-low, within-high, temperature-finite}
 
 -- 0.001 / 64 is above 0, 1e6 / 1 is finite
@@ -80,18 +80,7 @@ module _ (x : Float) (h : isCapacity x ≡ true) (n : ℕ) (low : 1 ≤ n) (high
       and-i (fits binary64 (x ⊘ ofInt binary64 (pos n))) (finite (x ⊘ ofInt binary64 (pos n))) (div-fits binary64 x (ofInt binary64 (pos n)))
       (between-finite (thousandth ⊘ ofInt binary64 (pos 64)) (x ⊘ ofInt binary64 (pos n)) (million ⊘ ofInt binary64 (pos 1)) smallest-finite largest-share at-least at-most)
 
--- lower and upper, and the three capacities, of an accepted card
-melting : (c : Card) → temperaturesInRange c ≡ true → (isTemperature (c .lower) ≡ true) × (isTemperature (c .upper) ≡ true) × (isTemperature (c .start) ≡ true)
-unfolding temperaturesInRange
-melting c h =
-    let p = and-true (isTemperature (c .inlet)) _ h in
-    let q = and-true (isTemperature (c .outlet)) _ (p .1) in
-    let r = and-true (isTemperature (c .max)) _ (q .1) in
-    let s = and-true (isTemperature (c .reference)) _ (r .1) in
-    let t = and-true (isTemperature (c .lower)) _ (s .1) in
-    let u = and-true (isTemperature (c .upper)) (isTemperature (c .start)) (t .1) in
-    (t .0, u .0, u .1)
-
+-- the three capacities of an accepted card
 capacities : (c : Card) → capacitiesInRange c ≡ true → (isCapacity (c .below) ≡ true) × (isCapacity (c .during) ≡ true) × (isCapacity (c .above) ≡ true)
 unfolding capacitiesInRange
 capacities c h =
@@ -100,18 +89,18 @@ capacities c h =
     (p .0, q .0, q .1)
 
 pub start-finite : (version : ℕ) (c : Card) → cardRefusal version c ≡ 0 → T (fits binary64 (c .start)) → T (finite64 (c .start))
-start-finite version c h f = temperature-finite (c .start) (melting c (accepted version c h .temperatures) .2) f
+start-finite version c h f = temperature-finite (c .start) (each-temperature c (accepted version c h .temperatures) .6) f
 
 pub salt-good : (version : ℕ) (c : Card) → cardRefusal version c ≡ 0 → CardFits c → GoodSalt (saltOf c)
 unfolding saltOf
 salt-good version c h f =
     let a = accepted version c h in
     let n = accepted-layers version c h in
-    let m = melting c (a .temperatures) in
+    let m = each-temperature c (a .temperatures) in
     let k = capacities c (a .capacities) in
     record {
-      lower-finite = temperature-finite (c .lower) (m .0) (f .lower);
-      upper-finite = temperature-finite (c .upper) (m .1) (f .upper);
+      lower-finite = temperature-finite (c .lower) (m .4) (f .lower);
+      upper-finite = temperature-finite (c .upper) (m .5) (f .upper);
       below-finite = share-finite (c .below) (k .0) (c .layers) (n .0) (n .1);
       during-finite = share-finite (c .during) (k .1) (c .layers) (n .0) (n .1);
       above-finite = share-finite (c .above) (k .2) (c .layers) (n .0) (n .1);

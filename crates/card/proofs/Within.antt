@@ -2,13 +2,16 @@
 use mathlib.Core.Path.{_≡_}
 use mathlib.Core.Bool.{Bool, true}
 use lib.Dec.{T}
-use lib.Ieee.{Float, binary64, fits, ofBits, neg, le}
+use lib.Ieee.{Float, binary64, fits, ofBits, neg, lt, le}
 use lib.Ieee.Fits.{and-i}
 use lib.Ieee.Scale.{finite}
 use Rattle.floats.specs.Constants.{zero}
-use Rattle.floats.specs.Standins.{finite64}
+use Rattle.floats.specs.Standins.{finite64, magnitude}
+use Rattle.floats.proofs.Cases.{by-test}
 use Rattle.floats.proofs.Finite.{between-finite}
-use Rattle.ranges.specs.Ranges.{within, isTemperature, isPower}
+use Rattle.floats.proofs.Order.{le-trans}
+use Rattle.floats.proofs.Sign.{neg-anti}
+use Rattle.ranges.specs.Ranges.{within, coldest, hottest, isTemperature, isPower}
 use Rattle.card.proofs.Tests.{and-true}
 
 pub holds : {b : Bool} → b ≡ true → T b
@@ -30,6 +33,14 @@ module _ (low high x : Float) (h : within low high x ≡ true) where
 pub temperature-finite : (x : Float) → isTemperature x ≡ true → T (fits binary64 x) → T (finite64 x)
 unfolding isTemperature ofBits neg
 temperature-finite x h f = within-finite _ _ x h tt tt f
+
+-- -50 and 250 are both of a magnitude of at most 250
+pub temperature-magnitude : (x : Float) → isTemperature x ≡ true → T (le (magnitude x) hottest)
+unfolding isTemperature magnitude
+temperature-magnitude x h =
+    by-test (λ (y : Float). T (le y hottest)) (lt x zero) (neg x) x
+    (λ l. le-trans (neg x) (neg coldest) hottest (neg-anti coldest x (within-low coldest hottest x h)) (unfold ofBits neg le lt in tt))
+    (λ l. within-high coldest hottest x h)
 
 pub power-nonneg : (x : Float) → isPower x ≡ true → T (le zero x)
 unfolding isPower

@@ -224,15 +224,10 @@ pub fn is_accepted(version: u8, card: Card) -> bool
             ),
         ),
     );
-    let nothing = floats::nearly_equal(
-        card.max,
-        card.reference,
-        floats::TOLERANCE,
-        floats::MAX_RELATIVE,
-    );
+    // Within the ranges of temperatures, above ref and not nearly equal to it is a difference above the tolerance.
     let stores = floats::both(
-        !(card.max <= floats::TEMP_AMBIENT_RATED_LOSSES_C),
-        floats::both(!(card.max < card.reference), !nothing),
+        floats::TEMP_AMBIENT_RATED_LOSSES_C < card.max,
+        floats::TOLERANCE < card.max - card.reference,
     );
     floats::both(ranges, floats::both(card.lower <= card.upper, stores))
 }

@@ -29,6 +29,7 @@ pub mod Standins
 pub mod Rulesets
 pub mod Branch
 pub mod Negligible
+pub mod Clearly
 pub mod Doubling
 pub mod Unchanged
 pub mod Constants

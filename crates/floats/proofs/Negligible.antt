@@ -29,7 +29,7 @@ use Rattle.floats.proofs.Strict.{neg-finite}
 use Rattle.floats.proofs.Cases.{by-test}
 use Rattle.floats.proofs.Branch.{via-true, via-false}
 
-fails : (b : Bool) → (T b → ⊥) → b ≡ false
+pub fails : (b : Bool) → (T b → ⊥) → b ≡ false
 fails b h = is-false b (not-T b h)
 
 -- the definition's test
@@ -100,7 +100,7 @@ magnitude-of-negative : (x : Float) → T (lt x Parts.zero) → magnitude x ≡ 
 unfolding magnitude ofBits
 magnitude-of-negative x h = rw (is-true (lt x Parts.zero) h)
 
-magnitude-of-others : (x : Float) → T (le Parts.zero x) → magnitude x ≡ x
+pub magnitude-of-others : (x : Float) → T (le Parts.zero x) → magnitude x ≡ x
 unfolding magnitude ofBits
 magnitude-of-others x h = rw (fails (lt x Parts.zero) (λ l. lt→not-le x Parts.zero l h))
 
@@ -117,7 +117,7 @@ unfolding finite64 fits ofBits
 zero-finite = refl
 
 -- a test that holds wherever one of two others does decides all three
-first-holds : (e a b : Bool) → (T e → T a) → (T b → T a) → cond e true (cond a true b) ≡ a
+pub first-holds : (e a b : Bool) → (T e → T a) → (T b → T a) → cond e true (cond a true b) ≡ a
 first-holds true true b h k = refl
 first-holds true false b h k = absurd (h tt)
 first-holds false true b h k = refl

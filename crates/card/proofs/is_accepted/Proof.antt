@@ -38,9 +38,6 @@ both-requires-4 c κs = search needs
 both-requires-5 : tie.Need-both-requires-5
 both-requires-5 c κs = search needs
 
-nearly-equal-requires : tie.Need-nearly-equal-requires
-nearly-equal-requires c κs = search needs
-
 both-requires-6 : tie.Need-both-requires-6
 both-requires-6 c κs = search needs
 
@@ -50,12 +47,12 @@ both-requires-7 c κs = search needs
 both-requires-8 : tie.Need-both-requires-8
 both-requires-8 c κs = search needs
 
-both-requires-9 : tie.Need-both-requires-9
-both-requires-9 c κs = search needs
-
+-- k: max, ref and the fields after them fit their formats
 returns : tie.Need-returns
 unfolding cardInRange
-returns c = rw (c .both9 .ensures, c .before .both8 .ensures, c .before .before .before .both7 .ensures, c .before .before .before .before .both6 .ensures, c .before .before .before .before .before .before .before .nearly-equal .ensures, c .before .before .before .before .before .before .before .before .both5 .ensures, c .before .before .before .before .before .before .before .before .before .both4 .ensures, c .before .before .before .before .before .before .before .before .before .before .both3 .ensures, c .before .before .before .before .before .before .before .before .before .before .before .both2 .ensures, c .before .before .before .before .before .before .before .before .before .before .before .before .both .ensures, c .before .before .before .before .before .before .before .before .before .before .before .before .before .powers-in-range .ensures, c .before .before .before .before .before .before .before .before .before .before .before .before .before .before .exchanger-in-range .ensures, c .before .before .before .before .before .before .before .before .before .before .before .before .before .before .before .capacities-in-range .ensures, c .before .before .before .before .before .before .before .before .before .before .before .before .before .before .before .before .temperatures-in-range .ensures, c .before .before .before .before .before .before .before .before .before .before .before .before .before .before .before .before .before .times-in-range .ensures, c .before .before .before .before .before .before .before .before .before .before .before .before .before .before .before .before .before .before .counts-in-range .ensures) (sym (accepted-is _ _))
+returns c =
+    let k = c .before .before .before .before .before .struct-known .given .1 .1 .1 .1 .1 .1 .1 .1 in
+    rw (c .both8 .ensures, c .before .both7 .ensures, c .before .before .before .both6 .ensures, c .before .before .before .before .before .before .both5 .ensures, c .before .before .before .before .before .before .before .both4 .ensures, c .before .before .before .before .before .before .before .before .both3 .ensures, c .before .before .before .before .before .before .before .before .before .both2 .ensures, c .before .before .before .before .before .before .before .before .before .before .both .ensures, c .before .before .before .before .before .before .before .before .before .before .before .powers-in-range .ensures, c .before .before .before .before .before .before .before .before .before .before .before .before .exchanger-in-range .ensures, c .before .before .before .before .before .before .before .before .before .before .before .before .before .capacities-in-range .ensures, c .before .before .before .before .before .before .before .before .before .before .before .before .before .before .temperatures-in-range .ensures, c .before .before .before .before .before .before .before .before .before .before .before .before .before .before .before .times-in-range .ensures, c .before .before .before .before .before .before .before .before .before .before .before .before .before .before .before .before .counts-in-range .ensures) (sym (accepted-is _ (k .0) (k .1 .0) _))
 
 pub is-accepted-spec : {M : Type 1} → statement M
 is-accepted-spec =
@@ -72,9 +69,7 @@ is-accepted-spec =
     both-requires-3
     both-requires-4
     both-requires-5
-    nearly-equal-requires
     both-requires-6
     both-requires-7
     both-requires-8
-    both-requires-9
     returns)
