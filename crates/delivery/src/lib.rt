@@ -13,7 +13,8 @@ ghost use mathlib.Core.Path.{_≡_};
 ghost use mathlib.Core.List.{List};
 ghost use Prim.Native.Nat.{_≤_};
 ghost use lib.Ieee.{Float};
-ghost use Rattle.substep.specs.Substep.{substepWith};
+ghost use Rattle.floats.specs.Constants.{zero};
+ghost use Rattle.substep.specs.Substep.{targetOf, substepWith};
 ghost use Rattle.runs.specs.Apart.{endedWith};
 ghost use Rattle.delivery.specs.Apart.{runWith, turnWith, endWith, TurnLies, EndLies};
 ghost use Rattle.delivery.specs.Demand.{demandDrive, capped as cappedOf, nextStep, demandMet, cut as cutOf, runAfter, demandDelivered, demandSubstep, demandRun, demandEnded};
@@ -182,14 +183,15 @@ fn demand_delivered(x: DemandTask, s: Pace, u: Outcome) -> PaceTurn
     }
 }
 
-fn demand_substep(x: DemandTask, s: Pace, zones: &mut [f64; 64]) -> PaceTurn
-    requires { ⌜ x .card .layers ≤ 64 ⌝ }
+// `target` is the temperature of level 0.
+fn demand_substep(x: DemandTask, s: Pace, target: f64, zones: &mut [f64; 64]) -> PaceTurn
+    requires { ⌜ (x .card .layers ≤ 64) × (target ≡ targetOf (x .card) (x .pcm) zero) ⌝ }
     ensures { λ r. ⌜ TurnLies r (now (zones .exit)) (demandSubstep x (runWith s (now (zones .entry)))) ⌝ }
 {
     let drive = demand_drive(x, s);
     let card = x.card;
     let pcm = x.pcm;
-    let u = substep::process_in_place(card, pcm, drive, zones);
+    let u = substep::process_in_place(card, pcm, drive, target, zones);
     let fault = u.fault;
     match fault {
         Fault::Nothing => demand_delivered(x, s, u),
@@ -210,6 +212,9 @@ pub fn demand_run(x: DemandTask, budget: u16, start: Pace, zones: &mut [f64; 64]
     ensures { λ r. ⌜ EndLies r (now (zones .exit)) (demandRun x budget 0 (runWith start (now (zones .entry)))) ⌝ }
     ensures { λ r. ⌜ r .substeps ≤ budget ⌝ }
 {
+    let card = x.card;
+    let pcm = x.pcm;
+    let target = substep::target_of(card, pcm, 0.0);
     let mut pace = start;
     let mut substeps: u16 = 0;
     let end = loop {
@@ -219,7 +224,7 @@ pub fn demand_run(x: DemandTask, budget: u16, start: Pace, zones: &mut [f64; 64]
         if substeps == budget {
             break End::OverBudget;
         }
-        let turn = demand_substep(x, pace, zones);
+        let turn = demand_substep(x, pace, target, zones);
         substeps += 1;
         pace = turn.pace;
         let next = turn.next;

@@ -16,7 +16,7 @@ ghost use mathlib.Core.Path.{_≡_};
 ghost use mathlib.Core.Bool.{not};
 ghost use mathlib.Core.List.{List};
 ghost use lib.Ieee.{Float};
-ghost use Rattle.substep.specs.Substep.{substepWith};
+ghost use Rattle.substep.specs.Substep.{targetOf, substepWith};
 ghost use Rattle.runs.specs.Apart.{endedWith, wetWith, wetEndWith, WetTurnLies, WetEndLies};
 ghost use Prim.Native.Nat.{_+_, _≤_, _<_};
 ghost use Rattle.runs.specs.Hydronic.{wetDrive, clearlyBelow, limitReached, replayBy, replayed as replayedOf, fractionSeconds, hydronicWhole, hydronicStep, hydronicRun, hydronicEnded, wholeSubsteps};
@@ -94,16 +94,18 @@ fn replay_by(
     }
 }
 
-// The fractional substep, from the zones before the whole one and with the Reynolds number behind it.
+// The fractional substep, from the zones before the whole one and with the Reynolds number behind it. `target` is the temperature of the
+// task's level.
 fn replayed(
     x: HydronicTask,
     n: u32,
     s: WetPace,
     seconds: f64,
     reynold: f64,
+    target: f64,
     zones: &mut [f64; 64],
 ) -> WetTurn
-    requires { ⌜ (x .card .layers ≤ 64) × (n ≤ 65535) ⌝ }
+    requires { ⌜ (x .card .layers ≤ 64) × ((n ≤ 65535) × (target ≡ targetOf (x .card) (x .pcm) (x .target))) ⌝ }
     ensures { λ r. ⌜ WetTurnLies r (now (zones .exit)) (replayedOf x n (wetWith s (now (zones .entry))) seconds reynold) ⌝ }
 {
     let card = x.card;
@@ -116,7 +118,7 @@ fn replayed(
     }
     let drive = wet_drive(x, seconds, reynold);
     let pcm = x.pcm;
-    let u = substep::process_in_place(card, pcm, drive, zones);
+    let u = substep::process_in_place(card, pcm, drive, target, zones);
     let fault = u.fault;
     replay_by(x, n + 1, s, seconds, reynold, u, fault)
 }
@@ -135,9 +137,10 @@ fn hydronic_whole(
     s: WetPace,
     u: Outcome,
     before: [f64; 64],
+    target: f64,
     zones: &mut [f64; 64],
 ) -> WetTurn
-    requires { ⌜ (x .card .layers ≤ 64) × (n ≤ 65535) ⌝ }
+    requires { ⌜ (x .card .layers ≤ 64) × ((n ≤ 65535) × (target ≡ targetOf (x .card) (x .pcm) (x .target))) ⌝ }
     ensures { λ r. ⌜ ((energies : List Float) → WetTurnLies r (now (zones .exit)) (hydronicWhole x n (wetWith s before) (substepWith u (now (zones .entry)) energies))) ⌝ }
 {
     let wet = x.wet;
@@ -156,7 +159,7 @@ fn hydronic_whole(
             if this.0 > 0.0 {
                 let seconds = fraction_seconds(x, absorbed, this);
                 *zones = before;
-                return replayed(x, n, s, seconds, reynold, zones);
+                return replayed(x, n, s, seconds, reynold, target, zones);
             }
             return WetTurn {
                 pace,
@@ -184,18 +187,18 @@ fn hydronic_whole(
 }
 
 // One turn behind n substeps.
-fn hydronic_step(x: HydronicTask, n: u32, s: WetPace, zones: &mut [f64; 64]) -> WetTurn
-    requires { ⌜ (x .card .layers ≤ 64) × (n < 65535) ⌝ }
+fn hydronic_step(x: HydronicTask, n: u32, s: WetPace, target: f64, zones: &mut [f64; 64]) -> WetTurn
+    requires { ⌜ (x .card .layers ≤ 64) × ((n < 65535) × (target ≡ targetOf (x .card) (x .pcm) (x .target))) ⌝ }
     ensures { λ r. ⌜ WetTurnLies r (now (zones .exit)) (hydronicStep x n (wetWith s (now (zones .entry)))) ⌝ }
 {
     let card = x.card;
     let drive = wet_drive(x, card.substep, s.reynold);
     let pcm = x.pcm;
     let before = *zones;
-    let u = substep::process_in_place(card, pcm, drive, zones);
+    let u = substep::process_in_place(card, pcm, drive, target, zones);
     let fault = u.fault;
     match fault {
-        Fault::Nothing => hydronic_whole(x, n + 1, s, u, before, zones),
+        Fault::Nothing => hydronic_whole(x, n + 1, s, u, before, target, zones),
         Fault::Logarithm => WetTurn {
             pace: s,
             next: Next::Stop(End::NoLogarithm),
@@ -222,6 +225,8 @@ pub fn hydronic_run(x: HydronicTask, steps: u64, start: WetPace, zones: &mut [f6
 {
     let card = x.card;
     let budget = card.budget as u32;
+    let pcm = x.pcm;
+    let target = substep::target_of(card, pcm, x.target);
     let mut pace = start;
     let mut substeps: u32 = 0;
     let end = loop {
@@ -231,7 +236,7 @@ pub fn hydronic_run(x: HydronicTask, steps: u64, start: WetPace, zones: &mut [f6
         if substeps == budget {
             break End::OverBudget;
         }
-        let turn = hydronic_step(x, substeps, pace, zones);
+        let turn = hydronic_step(x, substeps, pace, target, zones);
         substeps = turn.substeps;
         pace = turn.pace;
         let next = turn.next;

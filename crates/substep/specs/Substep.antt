@@ -79,14 +79,18 @@ zoneTransfer OnlyCharging c d = Value Constants.zero
 zoneTransfer Losses c d = Value Constants.zero
 zoneTransfer Normal c d = perLayer c (heatTransfer (d .a) (d .b) (d .flow) (d .reynold))
 
--- what all zones share; the target is that of the zone's salt
+-- the temperature of a charge level, by the zone's salt
+abbrev pub targetOf : Card → HeatBatteryPcm → Float → Float
+targetOf c pcm level = socToTemp (pcm .salt) (c .reference) (c .max) level
+
+-- what all zones share
 unfoldable pub courseOf : Card → HeatBatteryPcm → Drive → Float → Course
 courseOf c pcm d transfer =
     record {
       mode = d .mode;
       shared = record { layers = c .layers; inlet = d .inlet; rated = pcm .rated; transfer = transfer; mass = massFlow (d .flow); seconds = d .seconds };
       salt = pcm .salt;
-      target = socToTemp (pcm .salt) (c .reference) (c .max) (d .target);
+      target = targetOf c pcm (d .target);
     }
 
 -- the charger's heat over the substep, at first

@@ -17,7 +17,7 @@ ghost use Prim.Native.Nat.{_≤_, _<_};
 ghost use lib.ListN.{replicate};
 ghost use Rattle.floats.specs.Constants.{zero};
 ghost use Rattle.floats.specs.Standins.{finite64};
-ghost use Rattle.substep.specs.Substep.{zoneIndex, zoneCharge, zoneStep, zonesAfter, perLayer, zoneTransfer, courseOf, chargerHeat, passFrom, substepWith, outcomeOf, substepFrom, processHeatBatteryZones};
+ghost use Rattle.substep.specs.Substep.{zoneIndex, zoneCharge, zoneStep, zonesAfter, perLayer, zoneTransfer, targetOf, courseOf, chargerHeat, passFrom, substepWith, outcomeOf, substepFrom, processHeatBatteryZones};
 
 // What a substep is asked, in the Rust's words.
 pub struct Drive {
@@ -184,12 +184,21 @@ fn per_layer(card: Card, whole: Log) -> Log
     }
 }
 
-fn course_of(card: Card, pcm: HeatBatteryPcm, d: Drive, transfer: f64) -> Course
+// The temperature of a charge level: once for a run, whose substeps all have it.
+pub fn target_of(card: Card, pcm: HeatBatteryPcm, level: f64) -> f64
+    ensures { λ r. ⌜ r ≡ targetOf card pcm level ⌝ }
+{
+    let salt = pcm.salt;
+    zone::layer::soc_to_temp(salt, card.reference, card.max, level)
+}
+
+// `target` is the temperature of the drive's level.
+fn course_of(card: Card, pcm: HeatBatteryPcm, d: Drive, target: f64, transfer: f64) -> Course
+    requires { ⌜ target ≡ targetOf card pcm (d .target) ⌝ }
     ensures { λ r. ⌜ r ≡ courseOf card pcm d transfer ⌝ }
 {
     let mode = d.mode;
     let salt = pcm.salt;
-    let target = zone::layer::soc_to_temp(salt, card.reference, card.max, d.target);
     let mass = water::mass_flow(d.flow);
     let shared = Shared {
         layers: card.layers,
@@ -269,9 +278,15 @@ fn pass_in_place(card: Card, course: Course, d: Drive, zones: &mut [f64; 64]) ->
     }
 }
 
-// A substep in place, without its energies: the engine's.
-pub fn process_in_place(card: Card, pcm: HeatBatteryPcm, d: Drive, zones: &mut [f64; 64]) -> Outcome
-    requires { ⌜ card .layers ≤ 64 ⌝ }
+// A substep in place, without its energies: the engine's. `target` is the temperature of the drive's level.
+pub fn process_in_place(
+    card: Card,
+    pcm: HeatBatteryPcm,
+    d: Drive,
+    target: f64,
+    zones: &mut [f64; 64],
+) -> Outcome
+    requires { ⌜ (card .layers ≤ 64) × (target ≡ targetOf card pcm (d .target)) ⌝ }
     ensures { λ r. ⌜ (now (zones .exit) ≡ processHeatBatteryZones card pcm d (now (zones .entry)) .zones) × (r ≡ outcomeOf (processHeatBatteryZones card pcm d (now (zones .entry)))) ⌝ }
 {
     let mode = d.mode;
@@ -284,7 +299,7 @@ pub fn process_in_place(card: Card, pcm: HeatBatteryPcm, d: Drive, zones: &mut [
             fault: Fault::Logarithm,
         };
     };
-    let course = course_of(card, pcm, d, u);
+    let course = course_of(card, pcm, d, target, u);
     pass_in_place(card, course, d, zones)
 }
 
@@ -351,11 +366,12 @@ pub fn process_heat_battery_zones(
     let mode = d.mode;
     let share = zone_transfer(mode, card, d);
     let mut after = zones;
-    let o = process_in_place(card, pcm, d, &mut after);
+    let target = target_of(card, pcm, d.target);
+    let o = process_in_place(card, pcm, d, target, &mut after);
     let Log::Value(u) = share else {
         return bare(o, after);
     };
-    let course = course_of(card, pcm, d, u);
+    let course = course_of(card, pcm, d, target, u);
     let energies = zone_energies(card, course, d, zones);
     with_arrays(o, after, energies)
 }

@@ -91,7 +91,8 @@ pub fn charge_in_place(card: Card, pcm: HeatBatteryPcm, d: Drive, zones: &mut [f
     requires { ⌜ (card .layers ≤ 64) × (d .mode ≡ Mode.OnlyCharging) ⌝ }
     ensures { λ r. ⌜ (now (zones .exit) ≡ processHeatBatteryZones card pcm d (now (zones .entry)) .zones) × (r ≡ outcomeOf (processHeatBatteryZones card pcm d (now (zones .entry)))) ⌝ }
 {
-    let course = crate::course_of(card, pcm, d, 0.0);
+    let target = crate::target_of(card, pcm, d.target);
+    let course = crate::course_of(card, pcm, d, target, 0.0);
     charge_zones(card, course, d, zones)
 }
 
@@ -156,9 +157,10 @@ pub fn lose_in_place(card: Card, pcm: HeatBatteryPcm, d: Drive, zones: &mut [f64
     ensures { λ r. ⌜ (now (zones .exit) ≡ processHeatBatteryZones card pcm d (now (zones .entry)) .zones) × (r ≡ outcomeOf (processHeatBatteryZones card pcm d (now (zones .entry)))) ⌝ }
 {
     let heat = crate::charger_heat(d);
+    let target = crate::target_of(card, pcm, d.target);
     if heat.0 < 0.0 {
-        return crate::process_in_place(card, pcm, d, zones);
+        return crate::process_in_place(card, pcm, d, target, zones);
     }
-    let course = crate::course_of(card, pcm, d, 0.0);
+    let course = crate::course_of(card, pcm, d, target, 0.0);
     lose_zones(card, course, d, zones)
 }

@@ -13,11 +13,14 @@ use Rattle.delivery.proofs.demand_run.Statement.{statement}
 use Rattle.delivery.proofs.demand_run.Tie as tie
 
 abbrev Inv-loop : tie.InvT-loop
-Inv-loop x budget zones₀ pace₀ substeps₀ zones pace substeps =
+Inv-loop x budget zones₀ target pace₀ substeps₀ zones pace substeps =
     (substeps ≤ budget) × (demandRun x (budget - substeps) substeps (runWith pace zones) ≡ demandRun x budget 0 (runWith pace₀ zones₀))
 
 abbrev μ-loop : tie.MeasureT-loop
-μ-loop x budget zones₀ pace₀ substeps₀ zones pace substeps = budget - substeps
+μ-loop x budget zones₀ target pace₀ substeps₀ zones pace substeps = budget - substeps
+
+target-of-requires : tie.Need-target-of-requires Inv-loop μ-loop
+target-of-requires c κs = search needs
 
 loop-holds : tie.Need-loop-holds Inv-loop μ-loop
 loop-holds c = (omega arith, simp sub-zero)
@@ -61,6 +64,7 @@ demand-run-spec =
     (tie.spec
     Inv-loop
     μ-loop
+    target-of-requires
     loop-holds
     demand-substep-requires
     add-substeps

@@ -1,8 +1,9 @@
 use Rattle.delivery.proofs.InPlace.{demand-turn, turn-lies, turn-fault}
 use Rattle.runs.proofs.InPlace.{log-refused, finite-refused}
 use Rattle.substep.specs.Substep.{substepWith}
-use Rattle.delivery.specs.Demand.{demandBy}
+use Rattle.delivery.specs.Demand.{demandDrive, demandBy}
 use mathlib.Core.Path.{sym, _∙_, ap}
+use mathlib.Core.List.{[]}
 use borrow.Author.Needs.{needs}
 use Rattle.delivery.proofs.demand_substep.Statement.{statement}
 use Rattle.delivery.proofs.demand_substep.Tie as tie
@@ -11,7 +12,8 @@ demand-drive-requires : tie.Need-demand-drive-requires
 demand-drive-requires c κs = search needs
 
 process-in-place-requires : tie.Need-process-in-place-requires
-process-in-place-requires c κs = search needs
+unfolding demandDrive
+process-in-place-requires c κs = let p = c .before .before .before .before .pre in (p .0, rw (c .before .before .before .demand-drive .ensures []) (p .1))
 
 enum-told : tie.Need-enum-told
 enum-told c = search needs

@@ -13,14 +13,17 @@ use Rattle.hydronic.proofs.hydronic_run.Statement.{statement}
 use Rattle.hydronic.proofs.hydronic_run.Tie as tie
 
 abbrev Inv-loop : tie.InvT-loop
-Inv-loop x steps zones₀ budget pace₀ substeps₀ zones pace substeps =
+Inv-loop x steps zones₀ budget target pace₀ substeps₀ zones pace substeps =
     (substeps ≤ steps) × (substeps ≤ x .card .budget) × (hydronicRun x (steps - substeps) substeps (wetWith pace zones) ≡ hydronicRun x steps 0 (wetWith pace₀ zones₀))
 
 abbrev μ-loop : tie.MeasureT-loop
-μ-loop x steps zones₀ budget pace₀ substeps₀ zones pace substeps = steps - substeps
+μ-loop x steps zones₀ budget target pace₀ substeps₀ zones pace substeps = steps - substeps
 
 cast-budget : tie.Need-cast-budget Inv-loop μ-loop
 cast-budget c = search needs
+
+target-of-requires : tie.Need-target-of-requires Inv-loop μ-loop
+target-of-requires c κs = search needs
 
 loop-holds : tie.Need-loop-holds Inv-loop μ-loop
 loop-holds c = (omega arith, omega arith, simp sub-zero)
@@ -29,7 +32,8 @@ cast-if1 : tie.Need-cast-if1 Inv-loop μ-loop
 cast-if1 c = search needs
 
 hydronic-step-requires : tie.Need-hydronic-step-requires Inv-loop μ-loop
-hydronic-step-requires c κs = search needs
+hydronic-step-requires c κs =
+    (c .before .before .before .before .before .before .before .before .pre, (search needs, c .before .before .before .before .target-of .ensures))
 
 enum-known-next : tie.Need-enum-known-next Inv-loop μ-loop
 enum-known-next c = search needs
@@ -70,6 +74,7 @@ hydronic-run-spec =
     Inv-loop
     μ-loop
     cast-budget
+    target-of-requires
     loop-holds
     cast-if1
     hydronic-step-requires

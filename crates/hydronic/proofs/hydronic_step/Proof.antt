@@ -2,7 +2,7 @@ use mathlib.Core.Path.{subst}
 use Rattle.runs.specs.Apart.{WetTurnLies}
 use Rattle.runs.proofs.InPlace.{hydronic-turn, wet-fault, log-refused, finite-refused}
 use Rattle.substep.specs.Substep.{substepWith}
-use Rattle.runs.specs.Hydronic.{hydronicBy}
+use Rattle.runs.specs.Hydronic.{wetDrive, hydronicBy}
 use mathlib.Core.Path.{sym, ap}
 use borrow.Author.Needs.{needs}
 use Rattle.hydronic.proofs.hydronic_step.Statement.{statement}
@@ -12,7 +12,10 @@ wet-drive-requires : tie.Need-wet-drive-requires
 wet-drive-requires c κs = search needs
 
 process-in-place-requires : tie.Need-process-in-place-requires
-process-in-place-requires c κs = search needs
+unfolding wetDrive
+process-in-place-requires c κs =
+    let p = c .before .before .before .before .before .pre in
+    (p .0, rw (c .before .before .before .wet-drive .ensures) (p .1 .1))
 
 enum-told : tie.Need-enum-told
 enum-told c = search needs
@@ -26,14 +29,14 @@ hydronic-whole-requires c κs = search needs
 enum-told-2 : tie.Need-enum-told-2
 enum-told-2 c = search needs
 
-add-t17 : tie.Need-add-t17
-add-t17 c = search needs
+add-t18 : tie.Need-add-t18
+add-t18 c = search needs
 
 enum-told-3 : tie.Need-enum-told-3
 enum-told-3 c = search needs
 
-add-t20 : tie.Need-add-t20
-add-t20 c = search needs
+add-t21 : tie.Need-add-t21
+add-t21 c = search needs
 
 returns : tie.Need-returns
 unfolding hydronicBy
@@ -57,9 +60,9 @@ hydronic-step-spec =
     add-hydronic-whole
     hydronic-whole-requires
     enum-told-2
-    add-t17
+    add-t18
     enum-told-3
-    add-t20
+    add-t21
     returns
     returns-2
     returns-3)

@@ -1,7 +1,7 @@
 use Rattle.runs.proofs.InPlace.{wet-turn-lies, at-false, replay-turn}
 use Rattle.floats.proofs.Branch.{via-true}
 use borrow.Author.Tests.{eq-eqb, ne-eqb}
-use Rattle.runs.specs.Hydronic.{replayed}
+use Rattle.runs.specs.Hydronic.{replayed, wetDrive}
 use mathlib.Core.Path.{refl}
 use borrow.Author.Needs.{needs}
 use Rattle.hydronic.proofs.replayed.Statement.{statement}
@@ -18,7 +18,10 @@ wet-drive-requires : tie.Need-wet-drive-requires
 wet-drive-requires c κs = search needs
 
 process-in-place-requires : tie.Need-process-in-place-requires
-process-in-place-requires c κs = search needs
+unfolding wetDrive
+process-in-place-requires c κs =
+    let p = c .before .before .before .before .before .before .pre in
+    (p .0, rw (c .before .before .wet-drive .ensures) (p .1 .1))
 
 add-replay-by : tie.Need-add-replay-by
 add-replay-by c = search needs

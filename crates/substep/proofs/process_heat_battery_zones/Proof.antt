@@ -9,6 +9,9 @@ use Rattle.substep.proofs.process_heat_battery_zones.Tie as tie
 zone-transfer-requires : tie.Need-zone-transfer-requires
 zone-transfer-requires c κs = search needs
 
+target-of-requires : tie.Need-target-of-requires
+target-of-requires c κs = search needs
+
 process-in-place-requires : tie.Need-process-in-place-requires
 process-in-place-requires c κs = search needs
 
@@ -24,8 +27,8 @@ bare-requires c κs = search needs
 returns : tie.Need-returns
 unfolding withoutLogarithm
 returns c =
-    let b = c .before .before .before .before .before .before in
-    let e = refused-here (b .args .card) (b .args .pcm) (b .args .d) (b .args .zones) _ (c .before .before .before .before .before .zone-transfer .ensures) (c .before .enum-told .given .1) in
+    let b = c .before .before .before .before .before .before .before in
+    let e = refused-here (b .args .card) (b .args .pcm) (b .args .d) (b .args .zones) _ (c .before .before .before .before .before .before .zone-transfer .ensures) (c .before .enum-told .given .1) in
     c .bare .ensures ∙ whole _ _ _ _ (c .before .before .before .process-in-place .ensures) (sym (ap (λ (v : Substep). v .energies) e))
 
 course-of-requires : tie.Need-course-of-requires
@@ -40,8 +43,8 @@ with-arrays-requires c κs = search needs
 returns-2 : tie.Need-returns-2
 unfolding substepFrom
 returns-2 c =
-    let b = c .before .before .before .before .before .before .before .before .before in
-    let e = passed (b .args .card) (b .args .pcm) (b .args .d) (b .args .zones) _ _ _ (c .before .before .before .before .before .before .before .before .zone-transfer .ensures) (c .before .before .before .before .share .given .1) (c .before .before .course-of .ensures) in
+    let b = c .before .before .before .before .before .before .before .before .before .before in
+    let e = passed (b .args .card) (b .args .pcm) (b .args .d) (b .args .zones) _ _ _ (c .before .before .before .before .before .before .before .before .before .zone-transfer .ensures) (c .before .before .before .before .share .given .1) (c .before .before .course-of .ensures) in
     c .with-arrays .ensures ∙ whole _ _ _ _ (c .before .before .before .before .before .before .process-in-place .ensures) (c .before .zone-energies .ensures ∙ sym (ap (λ (v : Substep). v .energies) e))
 
 pub process-heat-battery-zones-spec : {M : Type 1} → statement M
@@ -49,6 +52,7 @@ process-heat-battery-zones-spec =
     tie.close
     (tie.spec
     zone-transfer-requires
+    target-of-requires
     process-in-place-requires
     enum-known-share
     enum-told

@@ -6,20 +6,23 @@ use borrow.Author.Needs.{needs}
 use Rattle.substep.proofs.without_water.charge_in_place.Statement.{statement}
 use Rattle.substep.proofs.without_water.charge_in_place.Tie as tie
 
+target-of-requires : tie.Need-target-of-requires
+target-of-requires c κs = search needs
+
 course-of-requires : tie.Need-course-of-requires
 course-of-requires c κs = search needs
 
 charge-zones-requires : tie.Need-charge-zones-requires
 charge-zones-requires c κs =
-    let p = c .before .before .pre in
+    let p = c .before .before .before .pre in
     (p .0, course-mode _ _ _ _ _ (c .before .course-of .ensures) ∙ p .1)
 
 returns : tie.Need-returns
 unfolding substepFrom
 returns c =
-    let b = c .before .before .before in
+    let b = c .before .before .before .before in
     rw (passed (b .args .card) (b .args .pcm) (b .args .d) (b .args .zones .now) _ _ _ (sym (without-logarithm-charge _ _ (b .pre .1))) refl (c .before .before .course-of .ensures)) (c .charge-zones .ensures)
 
 pub charge-in-place-spec : {M : Type 1} → statement M
 charge-in-place-spec =
-    tie.close (tie.spec course-of-requires charge-zones-requires returns)
+    tie.close (tie.spec target-of-requires course-of-requires charge-zones-requires returns)
