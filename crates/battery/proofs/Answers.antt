@@ -1,15 +1,19 @@
 -- The test of an answer's numbers, taken apart and put together; a refusal line on an accepted battery passes it.
 use mathlib.Core.Path.{_≡_, refl}
-use mathlib.Core.Bool.{true}
+use mathlib.Core.Bool.{Bool, true, false, _&&_}
+use mathlib.Core.List.{List}
 use Prim.Native.Nat.{ℕ}
-use lib.Ieee.{fits, ofBits}
+use lib.Ieee.{Float, fits, ofBits}
 use Rattle.floats.specs.Constants.{zero}
 use Rattle.floats.specs.Standins.{finite64}
 use Rattle.card.proofs.Tests.{and-true, true-and}
 use Rattle.battery.specs.Battery.{zonesFinite, totalsFinite}
 use Rattle.battery.specs.Answer.{refusedWith, answerFinite}
+use Rattle.battery.specs.Ledger.{finiteTotals, numbersFinite, answerWith}
 use Rattle.battery.specs.declared.Battery.{Battery}
+use Rattle.battery.specs.declared.Ledger.{Ledger}
 use Rattle.battery.specs.declared.Answer.{Answer}
+use Rattle.battery.specs.declared.Reply.{Reply}
 use Rattle.battery.proofs.Accepted.{AcceptedBattery}
 
 pub record FiniteTotals (b : Battery) : Type 0 where
@@ -51,3 +55,25 @@ zero-finite = refl
 pub refused-finite : (version r : ℕ) (b : Battery) → AcceptedBattery version b → answerFinite (refusedWith r b) ≡ true
 unfolding answerFinite refusedWith
 refused-finite version r b a = true-and zero-finite (true-and zero-finite (true-and zero-finite (true-and (a .zones) (a .totals))))
+
+-- the zones' test as the last
+
+fourth-last : (a b c d e : Bool) → (a && (b && (c && (d && e)))) ≡ ((a && (b && (c && e))) && d)
+fourth-last true true true true true = refl
+fourth-last true true true true false = refl
+fourth-last true true true false true = refl
+fourth-last true true true false false = refl
+fourth-last true true false d e = refl
+fourth-last true false c d e = refl
+fourth-last false b c d e = refl
+
+module _ (l : Ledger) (r : Reply) (zones : List Float) where
+  pub numbers-and-zones : answerFinite (answerWith l r zones) ≡ (numbersFinite r && zonesFinite zones (l .card .layers))
+  unfolding answerFinite numbersFinite totalsFinite finiteTotals
+  numbers-and-zones =
+      fourth-last (finite64 (r .energy)) (finite64 (r .outlet)) (finite64 (r .time)) (zonesFinite zones (l .card .layers)) (finiteTotals (r .totals))
+
+  -- with finite zones an answer is finite where its other numbers are
+  pub numbers-decide : zonesFinite zones (l .card .layers) ≡ true → answerFinite (answerWith l r zones) ≡ numbersFinite r
+  unfolding answerFinite numbersFinite totalsFinite finiteTotals
+  numbers-decide h = rw h

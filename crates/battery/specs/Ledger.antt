@@ -37,6 +37,11 @@ unfoldable pub finiteTotals : Totals → Bool
 finiteTotals t =
     finite64 (t .total) && (finite64 (t .pump) && (finite64 (t .direct) && (finite64 (t .charged) && finite64 (t .electric))))
 
+-- every number of a reply is finite; its zones lie elsewhere
+unfoldable pub numbersFinite : Reply → Bool
+numbersFinite r =
+    finite64 (r .energy) && (finite64 (r .outlet) && (finite64 (r .time) && finiteTotals (r .totals)))
+
 -- the answer with these zones
 abbrev pub answerWith : Ledger → Reply → List Float → Answer
 answerWith l r zones =

@@ -5,7 +5,7 @@ ghost use Prim.Native.Nat.{_≤_};
 ghost use Rattle.battery.specs.Battery.{fresh as freshOf, zonesFinite, batteryAccepted};
 ghost use Rattle.battery.specs.Call.{isLevel, isGivenTemperature, demandInRange, hydronicInRange, callInRange};
 ghost use Rattle.battery.specs.Answer.{refusedWith, answerFinite};
-ghost use Rattle.battery.specs.Ledger.{whole, answerWith, finiteTotals, ledgerOf, plainReply, refusedReply};
+ghost use Rattle.battery.specs.Ledger.{whole, answerWith, finiteTotals, numbersFinite, ledgerOf, plainReply, refusedReply};
 
 #[repr(C)]
 pub struct Battery {
@@ -349,21 +349,25 @@ pub fn plain_reply(energy: f64, totals: Totals) -> Reply
     }
 }
 
+// Whether every reported number and total is finite, but for the zones.
+pub fn numbers_finite(a: Reply) -> bool
+    ensures { λ r. ⌜ r ≡ numbersFinite a ⌝ }
+{
+    let totals = a.totals;
+    floats::both(
+        floats::is_finite(a.energy),
+        floats::both(
+            floats::is_finite(a.outlet),
+            floats::both(floats::is_finite(a.time), totals_finite(totals)),
+        ),
+    )
+}
+
 // Whether every reported number and total is finite.
 pub fn reply_finite(l: Ledger, a: Reply, zones: &[f64; 64]) -> bool
     requires { ⌜ l .card .layers ≤ 64 ⌝ }
     ensures { λ r. ⌜ r ≡ answerFinite (answerWith l a (now (zones .entry))) ⌝ }
 {
     let n = l.card.layers as usize;
-    let totals = a.totals;
-    floats::both(
-        floats::is_finite(a.energy),
-        floats::both(
-            floats::is_finite(a.outlet),
-            floats::both(
-                floats::is_finite(a.time),
-                floats::both(zones_finite(zones, n), totals_finite(totals)),
-            ),
-        ),
-    )
+    floats::both(numbers_finite(a), zones_finite(zones, n))
 }

@@ -1,4 +1,4 @@
--- An accepted battery has at most 64 layers.
+-- An accepted battery has at most 64 layers, and finite zones.
 use Prim.Native.Nat.{ℕ, _≤_}
 use mathlib.Core.Path.{_≡_, refl, sym}
 use mathlib.Core.Bool.{Bool, true, false, cond, _&&_, true≢false}
@@ -7,8 +7,9 @@ use borrow.Author.Tests.{eqb-true}
 use Rattle.card.specs.Card.{cardRefusal}
 use Rattle.card.proofs.Tests.{and-true}
 use Rattle.card.proofs.Accepted.{accepted-layers}
-use Rattle.battery.specs.Battery.{batteryAccepted}
+use Rattle.battery.specs.Battery.{zonesFinite, batteryAccepted}
 use Rattle.battery.specs.declared.Battery.{Battery}
+use Rattle.battery.proofs.Accepted.{accepted-battery}
 
 first-holds : (a : Bool) (x : Bool) → cond a x false ≡ true → a ≡ true
 first-holds true x h = refl
@@ -21,3 +22,6 @@ accepted-card version b h = eqb-true _ _ (first-holds (eqb (cardRefusal version 
 pub accepted-few : (version : ℕ) (b : Battery) (x : Bool) → (batteryAccepted version b && x) ≡ true → b .card .layers ≤ 64
 accepted-few version b x h =
     accepted-layers version (b .card) (accepted-card version b (and-true (batteryAccepted version b) x h .0)) .1
+
+pub accepted-finite : (version : ℕ) (b : Battery) (x : Bool) → (batteryAccepted version b && x) ≡ true → zonesFinite (b .zones) (b .card .layers) ≡ true
+accepted-finite version b x h = accepted-battery version b (and-true (batteryAccepted version b) x h .0) .zones

@@ -12,6 +12,7 @@ pub mod StepOutcomes
 pub mod Turns
 pub mod Warmth
 pub mod Faulty
+pub mod FiniteZones
 pub mod Refused
 pub mod OverFull
 pub mod NoLogarithm

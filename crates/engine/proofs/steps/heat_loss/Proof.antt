@@ -1,6 +1,8 @@
 use Rattle.replies.proofs.Settled.{run-end}
 use Rattle.battery.specs.declared.Reply.{Reply}
+use Rattle.battery.specs.Ledger.{whole}
 use Rattle.engine.specs.Steps.{heatLoss}
+use Rattle.engine.proofs.FiniteZones.{loss-leaves-finite, left-finite}
 use Rattle.replies.proofs.Settled.{cooled-with}
 use mathlib.Core.Path.{_∙_, ap}
 use borrow.Author.Needs.{needs}
@@ -14,11 +16,15 @@ run-reply-requires : tie.Need-run-reply-requires
 run-reply-requires c κs = search needs
 
 unless-refused-requires : tie.Need-unless-refused-requires
-unless-refused-requires c κs = (c .before .before .before .before .before .pre, ap (λ (x : Reply). x .refusal) (c .before .run-reply .ensures))
+unless-refused-requires c κs = ap (λ (x : Reply). x .refusal) (c .run-reply .ensures)
 
 returns : tie.Need-returns
 unfolding heatLoss
-returns c = c .unless-refused .ensures _ _ (run-end _ _ _ (c .before .before .before .before .battery-heat-loss .ensures)) ∙ cooled-with _ _ _ _ _ (c .before .before .before .before .battery-heat-loss .ensures) _ (c .before .before .run-reply .ensures)
+returns c =
+    let a = c .before .before .before .before .before .args in
+    let w = c .before .before .before .battery-heat-loss .ensures in
+    let f = loss-leaves-finite (whole (a .l) (a .zones .now)) in
+    c .unless-refused .ensures (a .l) _ _ _ (run-end _ _ _ w) (left-finite _ _ _ _ w f) ∙ cooled-with _ _ _ _ _ w _ (c .before .run-reply .ensures)
 
 pub heat-loss-spec : {M : Type 1} → statement M
 heat-loss-spec =

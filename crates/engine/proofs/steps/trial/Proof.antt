@@ -14,12 +14,13 @@ demand-reply-requires : tie.Need-demand-reply-requires
 demand-reply-requires c κs = search needs
 
 unless-refused-requires : tie.Need-unless-refused-requires
-unless-refused-requires c κs = (c .before .before .before .before .before .pre .0, ap (λ (x : Reply). x .refusal) (c .demand-reply .ensures))
+unless-refused-requires c κs = ap (λ (x : Reply). x .refusal) (c .demand-reply .ensures)
 
 returns : tie.Need-returns
 returns c =
     let w = c .before .before .before .demand-stopped .ensures in
-    c .unless-refused .ensures _ _ (run-end _ _ _ w) ∙ ap (unlessRefused _ _) (trial-with _ _ _ _ _ w _ _ (c .before .before .before .before .before .before .pre .1) (c .before .demand-reply .ensures))
+    let p = c .before .before .before .before .before .before .pre in
+    c .unless-refused .ensures (c .before .before .before .before .before .before .args .l) _ _ _ (run-end _ _ _ w) (λ h. p .1) ∙ ap (unlessRefused _ _) (trial-with _ _ _ _ _ w _ _ (p .2) (c .before .demand-reply .ensures))
 
 pub trial-spec : {M : Type 1} → statement M
 trial-spec =
