@@ -13,11 +13,13 @@ use water::Mode;
 use zone::Kilojoules;
 use zone::KilowattHours;
 ghost use mathlib.Core.Path.{_≡_};
+ghost use mathlib.Core.Bool.{false};
 ghost use mathlib.Core.List.{List};
 ghost use Prim.Native.Nat.{_≤_};
-ghost use lib.Ieee.{Float};
+ghost use lib.Ieee.{Float, lt};
+ghost use Rattle.floats.specs.Constants.{zero};
 ghost use Rattle.battery.specs.Ledger.{whole};
-ghost use Rattle.substep.specs.Substep.{substepWith};
+ghost use Rattle.substep.specs.Substep.{chargerHeat, substepWith};
 ghost use Rattle.runs.specs.Apart.{endedWith, wetWith, EndedLies};
 ghost use Rattle.runs.specs.Charge.{electricDrive, electricEnded, chargeElectric, hydronicTask, hydronicStart, chargeHydronic, chargeBattery, lossDrive, lossEnded, batteryHeatLoss, energyDeficit, chargeEnergyDemand};
 
@@ -156,8 +158,9 @@ fn loss_ended(l: Ledger, u: Outcome) -> Stopped
     }
 }
 
+// No loss has heat of a charger.
 pub fn battery_heat_loss(l: Ledger, zones: &mut [f64; 64]) -> Stopped
-    requires { ⌜ l .card .layers ≤ 64 ⌝ }
+    requires { ⌜ (l .card .layers ≤ 64) × (lt (chargerHeat (lossDrive (whole l (now zones))) .0) zero ≡ false) ⌝ }
     ensures { λ r. ⌜ EndedLies r (now (zones .exit)) (batteryHeatLoss (whole l (now (zones .entry)))) ⌝ }
 {
     let card = l.card;

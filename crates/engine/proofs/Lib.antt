@@ -10,6 +10,7 @@ pub mod Promises
 pub mod StepKeeps
 pub mod StepOutcomes
 pub mod Turns
+pub mod Losses
 pub mod Warmth
 pub mod Faulty
 pub mod FiniteZones

@@ -5,27 +5,21 @@ use Prim.Native.Nat.{ℕ, _≤_, _<_}
 use native.Mathlib.Omega.{arith}
 use lib.Dec.{T, eqb}
 use lib.ListN.{length, getD}
-use lib.Ieee.{Float, nan, binary64, ofBits, lt, le}
-use Rattle.floats.specs.F64.{_⊗_}
-use Rattle.floats.specs.Constants.{zero, hour}
+use lib.Ieee.{Float, nan, ofBits, le}
+use Rattle.floats.specs.Constants.{zero}
 use Rattle.floats.specs.Standins.{finite64, maxZero}
-use Rattle.floats.proofs.Apart.{mul-number-positive}
 use Rattle.floats.proofs.Cases.{by-test}
-use Rattle.floats.proofs.Compare.{le-number-r}
 use Rattle.floats.proofs.Difference.{neg-nonpos}
-use Rattle.floats.proofs.Order.{le-refl, le-trans, finite-number}
-use Rattle.floats.proofs.ProductLaws.{mul-nonneg}
+use Rattle.floats.proofs.Order.{le-refl, finite-number}
 use Rattle.floats.proofs.Standins.{finite64-finite, max-zero-nonneg}
 use Rattle.zone.specs.Good.{GoodSalt}
-use Rattle.card.specs.Card.{timesInRange, powersInRange}
 use Rattle.card.specs.Derived.{derived}
 use Rattle.card.specs.Fits.{CardFits}
-use Rattle.ranges.specs.Ranges.{hundredth, day, isSubstep, isTimestep, isPower}
-use Rattle.card.specs.declared.Card.{Card}
+use Rattle.ranges.specs.Ranges.{isPower}
 use Rattle.card.proofs.Accepted.{accepted, accepted-layers}
 use Rattle.card.proofs.Salt.{salt-good}
 use Rattle.card.proofs.Tests.{and-true}
-use Rattle.card.proofs.Within.{holds, within-low, power-nonneg}
+use Rattle.card.proofs.Within.{holds, power-nonneg}
 use Rattle.battery.specs.Answer.{refusedWith, answerFinite}
 use Rattle.battery.specs.Battery.{GoodBattery}
 use Rattle.battery.specs.Call.{isLevel, callInRange}
@@ -39,6 +33,7 @@ use Rattle.runs.specs.Runs.{endRefusal, timeAvailable}
 use Rattle.runs.specs.Charge.{electricDrive, electricEnded, chargeElectric, chargeBattery, lossDrive, lossEnded, batteryHeatLoss}
 use Rattle.replies.specs.Replies.{checked, unlessRefused, runAnswer, chargedBattery, cooledBattery}
 use Rattle.engine.specs.Steps.{charge, heatLoss, stepOf}
+use Rattle.engine.proofs.Losses.{seconds-nonneg, losses-nonneg, timestep-nonneg}
 use Rattle.runs.specs.declared.Ended.{Ended}
 use Rattle.runs.specs.declared.Source.the-variants.{Electric}
 
@@ -50,20 +45,6 @@ by-refusal P b r a h k =
     by-test P (eqb (endRefusal (r .end)) 0) _ _
     (λ t. by-test P (answerFinite a) _ _ (λ u. h) (λ u. k 23))
     (λ t. k (endRefusal (r .end)))
-
--- seconds of hours that are not negative
-seconds-nonneg : (hours : Float) → T (le zero hours) → T (le zero (hours ⊗ hour))
-unfolding ofBits lt le
-seconds-nonneg hours h = mul-nonneg binary64 hours hour (mul-number-positive binary64 hours hour (le-number-r zero hours h) tt tt) h tt
-
-losses-nonneg : (c : Card) → powersInRange c ≡ true → T (le zero (c .losses))
-unfolding powersInRange
-losses-nonneg c h = power-nonneg (c .losses) (and-true (isPower (c .losses)) (isPower (c .power)) h .0)
-
-timestep-nonneg : (c : Card) → timesInRange c ≡ true → T (le zero (c .timestep))
-unfolding timesInRange isTimestep ofBits le
-timestep-nonneg c h =
-    le-trans zero hundredth (c .timestep) tt (within-low hundredth day (c .timestep) (and-true (isSubstep (c .substep)) (isTimestep (c .timestep)) h .1))
 
 module _ (version : ℕ) (b : Battery) (g : GoodBattery version b) (f : CardFits (b .card)) where
   battery-accepted : AcceptedBattery version b

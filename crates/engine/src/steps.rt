@@ -20,10 +20,13 @@ ghost use mathlib.Core.Path.{_≡_};
 ghost use mathlib.Core.Bool.{true, false};
 ghost use mathlib.Core.List.{List};
 ghost use Prim.Native.Nat.{_≤_};
-ghost use lib.Ieee.{Float};
+ghost use lib.Ieee.{Float, lt};
+ghost use Rattle.floats.specs.Constants.{zero};
 ghost use Rattle.battery.specs.Battery.{zonesFinite};
 ghost use Rattle.battery.specs.Ledger.{whole, settled};
+ghost use Rattle.substep.specs.Substep.{chargerHeat};
 ghost use Rattle.runs.specs.Apart.{EndedLies};
+ghost use Rattle.runs.specs.Charge.{lossDrive};
 ghost use Rattle.engine.specs.Asked.{askedOf, askedStep};
 ghost use Rattle.engine.specs.Steps.{demandPower, demandTask, demandRan, demandAnswered, demandFrom, demandGiven, demandEnergy, charge as chargeOf, heatLoss, closed, level as levelOf, readLevel, demandToLevel, wetSource, advanceOf};
 
@@ -144,7 +147,7 @@ fn charge(l: Ledger, source: Source, target: f64, zones: &mut [f64; 64]) -> Repl
 }
 
 fn heat_loss(l: Ledger, zones: &mut [f64; 64]) -> Reply
-    requires { ⌜ l .card .layers ≤ 64 ⌝ }
+    requires { ⌜ (l .card .layers ≤ 64) × (lt (chargerHeat (lossDrive (whole l (now zones))) .0) zero ≡ false) ⌝ }
     ensures { λ r. ⌜ settled l (now (zones .entry)) r (now (zones .exit)) ≡ heatLoss (whole l (now (zones .entry))) ⌝ }
 {
     let s = charges::battery_heat_loss(l, zones);
@@ -263,7 +266,7 @@ fn charge_energy_demand(l: Ledger, most: Given, target: f64, zones: &[f64; 64]) 
 
 // The electric and the wet charge are one call of `charge`, so that one copy of it is compiled, in place.
 fn step(l: Ledger, what: Asked, zones: &mut [f64; 64]) -> Reply
-    requires { ⌜ (l .card .layers ≤ 64) × (zonesFinite (now zones) (l .card .layers) ≡ true) ⌝ }
+    requires { ⌜ (l .card .layers ≤ 64) × (zonesFinite (now zones) (l .card .layers) ≡ true) × (lt (chargerHeat (lossDrive (whole l (now zones))) .0) zero ≡ false) ⌝ }
     ensures { λ r. ⌜ settled l (now (zones .entry)) r (now (zones .exit)) ≡ askedStep (whole l (now (zones .entry))) what ⌝ }
 {
     match what {

@@ -13,11 +13,13 @@ use zone::KilowattHours;
 use zone::Salt;
 ghost use mathlib.Core.Path.{_≡_};
 ghost use mathlib.Core.Bool.{cond, _&&_};
+ghost use mathlib.Core.List.{List};
 ghost use Prim.Native.Nat.{_≤_, _<_};
 ghost use lib.ListN.{replicate};
+ghost use lib.Ieee.{Float};
 ghost use Rattle.floats.specs.Constants.{zero};
 ghost use Rattle.floats.specs.Standins.{finite64};
-ghost use Rattle.substep.specs.Substep.{zoneIndex, zoneCharge, zoneStep, zonesAfter, perLayer, zoneTransfer, targetOf, courseOf, chargerHeat, passFrom, substepWith, outcomeOf, substepFrom, processHeatBatteryZones};
+ghost use Rattle.substep.specs.Substep.{zoneIndex, zoneCharge, zoneStep, zonesAfter, perLayer, zoneTransfer, targetOf, courseOf, chargerHeat, passFrom, withoutLogarithm, substepWith, outcomeOf, substepFrom, processHeatBatteryZones};
 
 // What a substep is asked, in the Rust's words.
 pub struct Drive {
@@ -192,12 +194,18 @@ pub fn target_of(card: Card, pcm: HeatBatteryPcm, level: f64) -> f64
     zone::layer::soc_to_temp(salt, card.reference, card.max, level)
 }
 
-// `target` is the temperature of the drive's level.
-fn course_of(card: Card, pcm: HeatBatteryPcm, d: Drive, target: f64, transfer: f64) -> Course
-    requires { ⌜ target ≡ targetOf card pcm (d .target) ⌝ }
+// `mode` is the drive's, and `target` the temperature of its level.
+fn course_of(
+    mode: Mode,
+    card: Card,
+    pcm: HeatBatteryPcm,
+    d: Drive,
+    target: f64,
+    transfer: f64,
+) -> Course
+    requires { ⌜ (mode ≡ d .mode) × (target ≡ targetOf card pcm (d .target)) ⌝ }
     ensures { λ r. ⌜ r ≡ courseOf card pcm d transfer ⌝ }
 {
-    let mode = d.mode;
     let salt = pcm.salt;
     let mass = water::mass_flow(d.flow);
     let shared = Shared {
@@ -278,7 +286,20 @@ fn pass_in_place(card: Card, course: Course, d: Drive, zones: &mut [f64; 64]) ->
     }
 }
 
-// A substep in place, without its energies: the engine's. `target` is the temperature of the drive's level.
+// What a substep without its logarithm hands out.
+fn without_logarithm() -> Outcome
+    ensures { λ r. ⌜ ((zones : List Float) → r ≡ outcomeOf (withoutLogarithm zones)) ⌝ }
+{
+    Outcome {
+        outlet: 0.0,
+        delivered: Kilojoules(0.0),
+        charged: KilowattHours(0.0),
+        fault: Fault::Logarithm,
+    }
+}
+
+// A substep with water in place, without its energies: the engine's. The mode is written out, so that the loop is compiled for it alone;
+// `without_water` has the other two. `target` is the temperature of the drive's level.
 pub fn process_in_place(
     card: Card,
     pcm: HeatBatteryPcm,
@@ -286,20 +307,14 @@ pub fn process_in_place(
     target: f64,
     zones: &mut [f64; 64],
 ) -> Outcome
-    requires { ⌜ (card .layers ≤ 64) × (target ≡ targetOf card pcm (d .target)) ⌝ }
+    requires { ⌜ (card .layers ≤ 64) × ((d .mode ≡ Mode.Normal) × (target ≡ targetOf card pcm (d .target))) ⌝ }
     ensures { λ r. ⌜ (now (zones .exit) ≡ processHeatBatteryZones card pcm d (now (zones .entry)) .zones) × (r ≡ outcomeOf (processHeatBatteryZones card pcm d (now (zones .entry)))) ⌝ }
 {
-    let mode = d.mode;
-    let transfer = zone_transfer(mode, card, d);
+    let transfer = zone_transfer(Mode::Normal, card, d);
     let Log::Value(u) = transfer else {
-        return Outcome {
-            outlet: 0.0,
-            delivered: Kilojoules(0.0),
-            charged: KilowattHours(0.0),
-            fault: Fault::Logarithm,
-        };
+        return without_logarithm();
     };
-    let course = course_of(card, pcm, d, target, u);
+    let course = course_of(Mode::Normal, card, pcm, d, target, u);
     pass_in_place(card, course, d, zones)
 }
 
@@ -353,7 +368,7 @@ fn bare(o: Outcome, zones: [f64; 64]) -> Substep
     with_arrays(o, zones, energies)
 }
 
-// The same with each zone's energy.
+// In any mode, by value and with each zone's energy.
 pub fn process_heat_battery_zones(
     card: Card,
     pcm: HeatBatteryPcm,
@@ -365,13 +380,14 @@ pub fn process_heat_battery_zones(
 {
     let mode = d.mode;
     let share = zone_transfer(mode, card, d);
-    let mut after = zones;
-    let target = target_of(card, pcm, d.target);
-    let o = process_in_place(card, pcm, d, target, &mut after);
     let Log::Value(u) = share else {
-        return bare(o, after);
+        let o = without_logarithm();
+        return bare(o, zones);
     };
-    let course = course_of(card, pcm, d, target, u);
+    let target = target_of(card, pcm, d.target);
+    let course = course_of(mode, card, pcm, d, target, u);
+    let mut after = zones;
+    let o = pass_in_place(card, course, d, &mut after);
     let energies = zone_energies(card, course, d, zones);
     with_arrays(o, after, energies)
 }

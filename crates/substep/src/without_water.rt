@@ -1,5 +1,5 @@
-// Substeps without water, charging alone and losses, each in a loop of its own: what a zone is asked there is less than in the loop of every
-// mode, and the steps of those calls have them compiled in place.
+// Substeps without water, charging alone and losses, each in a loop of its own: a zone is asked less there than in the loop with water, and the
+// calls that run one such substep have the loop compiled in place.
 use crate::Course;
 use crate::Drive;
 use crate::Outcome;
@@ -86,13 +86,13 @@ fn charge_zones(card: Card, course: Course, d: Drive, zones: &mut [f64; 64]) -> 
     }
 }
 
-// `process_in_place` in charging alone.
+// A substep of charging alone, in place.
 pub fn charge_in_place(card: Card, pcm: HeatBatteryPcm, d: Drive, zones: &mut [f64; 64]) -> Outcome
     requires { ⌜ (card .layers ≤ 64) × (d .mode ≡ Mode.OnlyCharging) ⌝ }
     ensures { λ r. ⌜ (now (zones .exit) ≡ processHeatBatteryZones card pcm d (now (zones .entry)) .zones) × (r ≡ outcomeOf (processHeatBatteryZones card pcm d (now (zones .entry)))) ⌝ }
 {
     let target = crate::target_of(card, pcm, d.target);
-    let course = crate::course_of(card, pcm, d, target, 0.0);
+    let course = crate::course_of(Mode::OnlyCharging, card, pcm, d, target, 0.0);
     charge_zones(card, course, d, zones)
 }
 
@@ -151,16 +151,12 @@ fn lose_zones(card: Card, course: Course, d: Drive, zones: &mut [f64; 64]) -> Ou
     }
 }
 
-// `process_in_place` in the losses mode; heat of a charger, which no loss has, goes the way of every mode.
+// A substep of losses, in place; no loss has heat of a charger.
 pub fn lose_in_place(card: Card, pcm: HeatBatteryPcm, d: Drive, zones: &mut [f64; 64]) -> Outcome
-    requires { ⌜ (card .layers ≤ 64) × (d .mode ≡ Mode.Losses) ⌝ }
+    requires { ⌜ (card .layers ≤ 64) × ((d .mode ≡ Mode.Losses) × (lt (chargerHeat d .0) zero ≡ false)) ⌝ }
     ensures { λ r. ⌜ (now (zones .exit) ≡ processHeatBatteryZones card pcm d (now (zones .entry)) .zones) × (r ≡ outcomeOf (processHeatBatteryZones card pcm d (now (zones .entry)))) ⌝ }
 {
-    let heat = crate::charger_heat(d);
     let target = crate::target_of(card, pcm, d.target);
-    if heat.0 < 0.0 {
-        return crate::process_in_place(card, pcm, d, target, zones);
-    }
-    let course = crate::course_of(card, pcm, d, target, 0.0);
+    let course = crate::course_of(Mode::Losses, card, pcm, d, target, 0.0);
     lose_zones(card, course, d, zones)
 }

@@ -1,5 +1,4 @@
 use mathlib.Core.Path.{ap}
-use mathlib.Core.List.{[]}
 use Rattle.substep.specs.declared.Drive.{Drive}
 use Rattle.runs.specs.Charge.{lossDrive}
 use Rattle.runs.proofs.InPlace.{loss-run, ended-lies}
@@ -15,7 +14,10 @@ loss-drive-requires c κs = search needs
 
 lose-in-place-requires : tie.Need-lose-in-place-requires
 unfolding lossDrive
-lose-in-place-requires c κs = (c .before .before .before .before .pre, ap (λ (d : Drive). d .mode) (c .before .loss-drive .ensures []))
+lose-in-place-requires c κs =
+    let p = c .before .before .before .before .pre in
+    let e = c .before .loss-drive .ensures (c .before .before .before .before .args .zones .now) in
+    (p .0, (ap (λ (d : Drive). d .mode) e, rw e (p .1)))
 
 loss-ended-requires : tie.Need-loss-ended-requires
 loss-ended-requires c κs = search needs

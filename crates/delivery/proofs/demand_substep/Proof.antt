@@ -1,6 +1,7 @@
 use Rattle.delivery.proofs.InPlace.{demand-turn, turn-lies, turn-fault}
 use Rattle.runs.proofs.InPlace.{log-refused, finite-refused}
 use Rattle.substep.specs.Substep.{substepWith}
+use Rattle.substep.specs.declared.Drive.{Drive}
 use Rattle.delivery.specs.Demand.{demandDrive, demandBy}
 use mathlib.Core.Path.{sym, _∙_, ap}
 use mathlib.Core.List.{[]}
@@ -13,7 +14,10 @@ demand-drive-requires c κs = search needs
 
 process-in-place-requires : tie.Need-process-in-place-requires
 unfolding demandDrive
-process-in-place-requires c κs = let p = c .before .before .before .before .pre in (p .0, rw (c .before .before .before .demand-drive .ensures []) (p .1))
+process-in-place-requires c κs =
+    let p = c .before .before .before .before .pre in
+    let e = c .before .before .before .demand-drive .ensures [] in
+    (p .0, (ap (λ (d : Drive). d .mode) e, rw e (p .1)))
 
 enum-told : tie.Need-enum-told
 enum-told c = search needs

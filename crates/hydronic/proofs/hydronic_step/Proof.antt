@@ -2,6 +2,7 @@ use mathlib.Core.Path.{subst}
 use Rattle.runs.specs.Apart.{WetTurnLies}
 use Rattle.runs.proofs.InPlace.{hydronic-turn, wet-fault, log-refused, finite-refused}
 use Rattle.substep.specs.Substep.{substepWith}
+use Rattle.substep.specs.declared.Drive.{Drive}
 use Rattle.runs.specs.Hydronic.{wetDrive, hydronicBy}
 use mathlib.Core.Path.{sym, ap}
 use borrow.Author.Needs.{needs}
@@ -15,7 +16,8 @@ process-in-place-requires : tie.Need-process-in-place-requires
 unfolding wetDrive
 process-in-place-requires c κs =
     let p = c .before .before .before .before .before .pre in
-    (p .0, rw (c .before .before .before .wet-drive .ensures) (p .1 .1))
+    let e = c .before .before .before .wet-drive .ensures in
+    (p .0, (ap (λ (d : Drive). d .mode) e, rw e (p .1 .1)))
 
 enum-told : tie.Need-enum-told
 enum-told c = search needs

@@ -2,7 +2,8 @@ use Rattle.runs.proofs.InPlace.{wet-turn-lies, at-false, replay-turn}
 use Rattle.floats.proofs.Branch.{via-true}
 use borrow.Author.Tests.{eq-eqb, ne-eqb}
 use Rattle.runs.specs.Hydronic.{replayed, wetDrive}
-use mathlib.Core.Path.{refl}
+use mathlib.Core.Path.{refl, ap}
+use Rattle.substep.specs.declared.Drive.{Drive}
 use borrow.Author.Needs.{needs}
 use Rattle.hydronic.proofs.replayed.Statement.{statement}
 use Rattle.hydronic.proofs.replayed.Tie as tie
@@ -21,7 +22,8 @@ process-in-place-requires : tie.Need-process-in-place-requires
 unfolding wetDrive
 process-in-place-requires c κs =
     let p = c .before .before .before .before .before .before .pre in
-    (p .0, rw (c .before .before .wet-drive .ensures) (p .1 .1))
+    let e = c .before .before .wet-drive .ensures in
+    (p .0, (ap (λ (d : Drive). d .mode) e, rw e (p .1 .1)))
 
 add-replay-by : tie.Need-add-replay-by
 add-replay-by c = search needs

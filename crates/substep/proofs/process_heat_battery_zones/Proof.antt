@@ -1,7 +1,7 @@
 use Rattle.substep.specs.Substep.{withoutLogarithm, substepFrom}
 use Rattle.substep.specs.declared.Substep.{Substep}
 use Rattle.substep.proofs.Passes.{passed, refused-here, whole}
-use mathlib.Core.Path.{sym, _∙_, ap}
+use mathlib.Core.Path.{refl, sym, _∙_, ap}
 use borrow.Author.Needs.{needs}
 use Rattle.substep.proofs.process_heat_battery_zones.Statement.{statement}
 use Rattle.substep.proofs.process_heat_battery_zones.Tie as tie
@@ -9,17 +9,14 @@ use Rattle.substep.proofs.process_heat_battery_zones.Tie as tie
 zone-transfer-requires : tie.Need-zone-transfer-requires
 zone-transfer-requires c κs = search needs
 
-target-of-requires : tie.Need-target-of-requires
-target-of-requires c κs = search needs
-
-process-in-place-requires : tie.Need-process-in-place-requires
-process-in-place-requires c κs = search needs
-
 enum-known-share : tie.Need-enum-known-share
 enum-known-share c = search needs
 
 enum-told : tie.Need-enum-told
 enum-told c = search needs
+
+without-logarithm-requires : tie.Need-without-logarithm-requires
+without-logarithm-requires c κs = search needs
 
 bare-requires : tie.Need-bare-requires
 bare-requires c κs = search needs
@@ -27,12 +24,18 @@ bare-requires c κs = search needs
 returns : tie.Need-returns
 unfolding withoutLogarithm
 returns c =
-    let b = c .before .before .before .before .before .before .before in
-    let e = refused-here (b .args .card) (b .args .pcm) (b .args .d) (b .args .zones) _ (c .before .before .before .before .before .before .zone-transfer .ensures) (c .before .enum-told .given .1) in
-    c .bare .ensures ∙ whole _ _ _ _ (c .before .before .before .process-in-place .ensures) (sym (ap (λ (v : Substep). v .energies) e))
+    let b = c .before .before .before .before .before in
+    let e = refused-here (b .args .card) (b .args .pcm) (b .args .d) (b .args .zones) _ (c .before .before .before .before .zone-transfer .ensures) (c .before .before .enum-told .given .1) in
+    c .bare .ensures ∙ (whole _ _ _ (withoutLogarithm (b .args .zones)) (refl, c .before .without-logarithm .ensures _) refl ∙ sym e)
+
+target-of-requires : tie.Need-target-of-requires
+target-of-requires c κs = search needs
 
 course-of-requires : tie.Need-course-of-requires
-course-of-requires c κs = search needs
+course-of-requires c κs = (refl, c .target-of .ensures)
+
+pass-in-place-requires : tie.Need-pass-in-place-requires
+pass-in-place-requires c κs = search needs
 
 zone-energies-requires : tie.Need-zone-energies-requires
 zone-energies-requires c κs = search needs
@@ -44,21 +47,22 @@ returns-2 : tie.Need-returns-2
 unfolding substepFrom
 returns-2 c =
     let b = c .before .before .before .before .before .before .before .before .before .before in
-    let e = passed (b .args .card) (b .args .pcm) (b .args .d) (b .args .zones) _ _ _ (c .before .before .before .before .before .before .before .before .before .zone-transfer .ensures) (c .before .before .before .before .share .given .1) (c .before .before .course-of .ensures) in
-    c .with-arrays .ensures ∙ whole _ _ _ _ (c .before .before .before .before .before .before .process-in-place .ensures) (c .before .zone-energies .ensures ∙ sym (ap (λ (v : Substep). v .energies) e))
+    let e = passed (b .args .card) (b .args .pcm) (b .args .d) (b .args .zones) _ _ _ (c .before .before .before .before .before .before .before .before .before .zone-transfer .ensures) (c .before .before .before .before .before .before .before .share .given .1) (c .before .before .before .before .course-of .ensures) in
+    c .with-arrays .ensures ∙ (whole _ _ _ _ (c .before .before .pass-in-place .ensures) (c .before .zone-energies .ensures) ∙ sym e)
 
 pub process-heat-battery-zones-spec : {M : Type 1} → statement M
 process-heat-battery-zones-spec =
     tie.close
     (tie.spec
     zone-transfer-requires
-    target-of-requires
-    process-in-place-requires
     enum-known-share
     enum-told
+    without-logarithm-requires
     bare-requires
     returns
+    target-of-requires
     course-of-requires
+    pass-in-place-requires
     zone-energies-requires
     with-arrays-requires
     returns-2)

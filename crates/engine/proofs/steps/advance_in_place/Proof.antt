@@ -2,7 +2,7 @@ use Rattle.floats.proofs.Branch.{via-true, via-false}
 use Rattle.battery.specs.Ledger.{whole}
 use Rattle.battery.specs.Battery.{batteryAccepted}
 use Rattle.engine.specs.Steps.{advanceOf}
-use Rattle.engine.proofs.Accepted.{accepted-few, accepted-finite}
+use Rattle.engine.proofs.Accepted.{accepted-few, accepted-finite, accepted-losses}
 use Rattle.replies.proofs.Settled.{settled-refusal}
 use Rattle.engine.proofs.ByKind.{stepped}
 use mathlib.Core.Path.{_≡_, refl, _∙_}
@@ -30,7 +30,7 @@ step-requires c κs =
     let x = c .before .before .before .before .call-in-range .result in
     let h : (batteryAccepted (a .version) b && x) ≡ true =
     rw (← (c .before .before .before .before .before .is-accepted .ensures), ← (c .before .before .before .both .ensures)) (c .before .before .if1 .taken) in
-    (accepted-few (a .version) b x h, accepted-finite (a .version) b x h)
+    (accepted-few (a .version) b x h, accepted-finite (a .version) b x h, accepted-losses (a .version) b x h)
 
 returns : tie.Need-returns
 unfolding advanceOf

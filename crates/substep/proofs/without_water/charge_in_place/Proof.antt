@@ -10,7 +10,7 @@ target-of-requires : tie.Need-target-of-requires
 target-of-requires c κs = search needs
 
 course-of-requires : tie.Need-course-of-requires
-course-of-requires c κs = search needs
+course-of-requires c κs = (sym (c .before .pre .1), c .target-of .ensures)
 
 charge-zones-requires : tie.Need-charge-zones-requires
 charge-zones-requires c κs =
