@@ -35,11 +35,17 @@ impl Clone for Record {
         Record(self.0)
     }
 
-    /// Copies no more zones than there are: the quick way back to a kept state.
+    /// Copies no more zones than there are, and the card number by number, as the engine reads
+    /// it: the quick way back to a kept state.
     #[inline]
     fn clone_from(&mut self, source: &Record) {
         let Record(ffi::Battery { card, zones, count, totals }) = source;
-        self.0.card = *card;
+        let ffi::Card { layers, units, simultaneous, budget, numbers } = *card;
+        self.0.card.layers = layers;
+        self.0.card.units = units;
+        self.0.card.simultaneous = simultaneous;
+        self.0.card.budget = budget;
+        self.0.card.numbers = numbers;
         self.0.totals = *totals;
         if self.0.count > *count {
             self.0.zones = *zones;

@@ -5,6 +5,5 @@ pub mod Charger
 pub mod EachZone
 pub mod Ordered
 pub mod OneLoop
-pub mod WithoutWater
 pub mod Warmth
 pub mod Together

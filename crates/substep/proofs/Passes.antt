@@ -107,3 +107,16 @@ untouched x n zero p j h g = refl
 untouched x n (suc k) p j h g =
     let b : zoneIndex (x .mode) n k < n = index-below (x .mode) n k (omega arith) in
     getD-set-other (zonesAfter x n k p .zones) (zoneIndex (x .mode) n k) j _ nan (λ e. omega arith) ∙ untouched x n k p j (omega arith) g
+
+-- neither mode takes a logarithm
+pub without-logarithm-loss : (c : Card) (d : Drive) → d .mode ≡ Losses → zoneTransfer (d .mode) c d ≡ Value Constants.zero
+unfolding zoneTransfer
+without-logarithm-loss c d m = rw m
+
+pub without-logarithm-charge : (c : Card) (d : Drive) → d .mode ≡ OnlyCharging → zoneTransfer (d .mode) c d ≡ Value Constants.zero
+unfolding zoneTransfer
+without-logarithm-charge c d m = rw m
+
+pub course-mode : (c : Card) (pcm : HeatBatteryPcm) (d : Drive) (u : Float) (x : Course) → x ≡ courseOf c pcm d u → x .mode ≡ d .mode
+unfolding courseOf
+course-mode c pcm d u x e = rw e

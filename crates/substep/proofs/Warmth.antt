@@ -32,7 +32,7 @@ use Rattle.substep.specs.Substep.{zoneCharge, zoneStep, zonesAfter, zone
 use Rattle.substep.specs.declared.Course.{Course}
 use Rattle.substep.specs.declared.Drive.{Drive}
 use Rattle.substep.proofs.EachZone.{each-zone}
-use Rattle.substep.proofs.WithoutWater.{without-logarithm-loss, without-logarithm-charge}
+use Rattle.substep.proofs.Passes.{without-logarithm-loss, without-logarithm-charge}
 use Rattle.substep.proofs.Charger.{charger-nonpositive, charger-not-negative}
 
 not-warmer : (t : Float) → T (finite64 t) → T (le t t)

@@ -1,6 +1,4 @@
 // One substep over the zones: document 01, module 5.
-pub mod without_water;
-
 use card::Card;
 use card::HeatBatteryPcm;
 use charging::Charged;
@@ -96,7 +94,7 @@ pub struct Substep {
 }
 
 // The k-th of n zones in the mode's order.
-fn zone_index(mode: Mode, n: usize, k: usize) -> usize
+pub fn zone_index(mode: Mode, n: usize, k: usize) -> usize
     requires { ⌜ k < n ⌝ }
     ensures { λ r. ⌜ r ≡ zoneIndex mode n k ⌝ }
     ensures { λ r. ⌜ r < n ⌝ }
@@ -195,7 +193,7 @@ pub fn target_of(card: Card, pcm: HeatBatteryPcm, level: f64) -> f64
 }
 
 // `mode` is the drive's, and `target` the temperature of its level.
-fn course_of(
+pub fn course_of(
     mode: Mode,
     card: Card,
     pcm: HeatBatteryPcm,
@@ -225,7 +223,7 @@ fn course_of(
 }
 
 // The charger's heat over the substep, at first.
-fn charger_heat(d: Drive) -> Kilojoules
+pub fn charger_heat(d: Drive) -> Kilojoules
     ensures { λ r. ⌜ r ≡ chargerHeat d ⌝ }
 {
     let heat = -d.power * d.seconds / floats::SECONDS_PER_HOUR
@@ -233,7 +231,7 @@ fn charger_heat(d: Drive) -> Kilojoules
     Kilojoules(heat)
 }
 
-fn pass_fault(zones: bool, outlet: f64, sum: f64, charged: KilowattHours) -> Fault
+pub fn pass_fault(zones: bool, outlet: f64, sum: f64, charged: KilowattHours) -> Fault
     ensures { λ r. ⌜ r ≡ cond (zones && (finite64 outlet && (finite64 sum && finite64 (charged .0)))) Fault.Nothing Fault.NotFinite ⌝ }
 {
     let finite = floats::both(

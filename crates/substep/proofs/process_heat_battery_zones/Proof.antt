@@ -1,7 +1,6 @@
 use Rattle.substep.specs.Substep.{withoutLogarithm, substepFrom}
-use Rattle.substep.specs.declared.Substep.{Substep}
 use Rattle.substep.proofs.Passes.{passed, refused-here, whole}
-use mathlib.Core.Path.{refl, sym, _∙_, ap}
+use mathlib.Core.Path.{refl, sym, _∙_}
 use borrow.Author.Needs.{needs}
 use Rattle.substep.proofs.process_heat_battery_zones.Statement.{statement}
 use Rattle.substep.proofs.process_heat_battery_zones.Tie as tie

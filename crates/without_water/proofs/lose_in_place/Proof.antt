@@ -1,10 +1,9 @@
 use Rattle.substep.specs.Substep.{substepFrom}
-use Rattle.substep.proofs.Passes.{passed}
-use Rattle.substep.proofs.WithoutWater.{without-logarithm-loss, course-mode}
+use Rattle.substep.proofs.Passes.{passed, without-logarithm-loss, course-mode}
 use mathlib.Core.Path.{refl, sym, _∙_}
 use borrow.Author.Needs.{needs}
-use Rattle.substep.proofs.without_water.lose_in_place.Statement.{statement}
-use Rattle.substep.proofs.without_water.lose_in_place.Tie as tie
+use Rattle.without_water.proofs.lose_in_place.Statement.{statement}
+use Rattle.without_water.proofs.lose_in_place.Tie as tie
 
 target-of-requires : tie.Need-target-of-requires
 target-of-requires c κs = search needs

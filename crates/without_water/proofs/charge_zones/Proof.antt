@@ -1,13 +1,13 @@
 use lib.Ieee.{ofBits, add}
 use Rattle.substep.proofs.OneLoop.{Underway, startOf, underway-start, underway-end}
 use Rattle.substep.proofs.Ordered.{noSum}
-use Rattle.substep.proofs.WithoutWater.{charging-more}
+use Rattle.without_water.proofs.Steps.{charging-more}
 use mathlib.Core.Path.{refl}
 use Prim.Native.Nat.{_≤_, _-_}
 use native.Mathlib.Omega.{arith}
 use borrow.Author.Needs.{needs}
-use Rattle.substep.proofs.without_water.charge_zones.Statement.{statement}
-use Rattle.substep.proofs.without_water.charge_zones.Tie as tie
+use Rattle.without_water.proofs.charge_zones.Statement.{statement}
+use Rattle.without_water.proofs.charge_zones.Tie as tie
 
 abbrev Inv-loop : tie.InvT-loop
 Inv-loop course zones₀ n mode own outlet₀ left₀ charged₀ spread₀ k₀ zones outlet left charged spread k =

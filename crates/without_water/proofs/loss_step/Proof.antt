@@ -1,7 +1,7 @@
-use Rattle.substep.proofs.WithoutWater.{loss-of}
+use Rattle.without_water.proofs.Steps.{loss-of}
 use borrow.Author.Needs.{needs}
-use Rattle.substep.proofs.without_water.loss_step.Statement.{statement}
-use Rattle.substep.proofs.without_water.loss_step.Tie as tie
+use Rattle.without_water.proofs.loss_step.Statement.{statement}
+use Rattle.without_water.proofs.loss_step.Tie as tie
 
 max-zero-requires : tie.Need-max-zero-requires
 max-zero-requires c κs = search needs

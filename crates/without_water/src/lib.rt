@@ -1,12 +1,12 @@
 // Substeps without water, charging alone and losses, each in a loop of its own: a zone is asked less there than in the loop with water, and the
 // calls that run one such substep have the loop compiled in place.
-use crate::Course;
-use crate::Drive;
-use crate::Outcome;
-use crate::ZoneStep;
 use card::Card;
 use card::HeatBatteryPcm;
 use floats::Sum2;
+use substep::Course;
+use substep::Drive;
+use substep::Outcome;
+use substep::ZoneStep;
 use water::Mode;
 use zone::Kilojoules;
 use zone::KilowattHours;
@@ -63,12 +63,12 @@ fn charge_zones(card: Card, course: Course, d: Drive, zones: &mut [f64; 64]) -> 
     let mode = course.mode;
     let own = course.salt;
     let mut outlet = d.inlet;
-    let mut left = crate::charger_heat(d);
+    let mut left = substep::charger_heat(d);
     let mut charged = KilowattHours(0.0);
     // equals 0 as long as each zone is finite
     let mut spread = 0.0;
     for k in 0..n {
-        let j = crate::zone_index(mode, n, k);
+        let j = substep::zone_index(mode, n, k);
         let salt = zone::layer::zone_salt(own, j);
         let z = charging_step(course, salt, zones[j], left, charged);
         zones[j] = z.temperature;
@@ -77,7 +77,7 @@ fn charge_zones(card: Card, course: Course, d: Drive, zones: &mut [f64; 64]) -> 
         left = z.left;
         charged = z.charged;
     }
-    let fault = crate::pass_fault(spread == 0.0, outlet, 0.0, charged);
+    let fault = substep::pass_fault(spread == 0.0, outlet, 0.0, charged);
     Outcome {
         outlet,
         delivered: Kilojoules(0.0),
@@ -91,8 +91,8 @@ pub fn charge_in_place(card: Card, pcm: HeatBatteryPcm, d: Drive, zones: &mut [f
     requires { ⌜ (card .layers ≤ 64) × (d .mode ≡ Mode.OnlyCharging) ⌝ }
     ensures { λ r. ⌜ (now (zones .exit) ≡ processHeatBatteryZones card pcm d (now (zones .entry)) .zones) × (r ≡ outcomeOf (processHeatBatteryZones card pcm d (now (zones .entry)))) ⌝ }
 {
-    let target = crate::target_of(card, pcm, d.target);
-    let course = crate::course_of(Mode::OnlyCharging, card, pcm, d, target, 0.0);
+    let target = substep::target_of(card, pcm, d.target);
+    let course = substep::course_of(Mode::OnlyCharging, card, pcm, d, target, 0.0);
     charge_zones(card, course, d, zones)
 }
 
@@ -126,7 +126,7 @@ fn lose_zones(card: Card, course: Course, d: Drive, zones: &mut [f64; 64]) -> Ou
 {
     let n = card.layers as usize;
     let own = course.salt;
-    let left = crate::charger_heat(d);
+    let left = substep::charger_heat(d);
     let charged = KilowattHours(0.0);
     let share = left.0 / (course.shared.layers as f64);
     let mut outlet = d.inlet;
@@ -142,7 +142,7 @@ fn lose_zones(card: Card, course: Course, d: Drive, zones: &mut [f64; 64]) -> Ou
         outlet = z.outlet;
     }
     let delivered = sum.s + sum.c;
-    let fault = crate::pass_fault(spread == 0.0, outlet, delivered, charged);
+    let fault = substep::pass_fault(spread == 0.0, outlet, delivered, charged);
     Outcome {
         outlet,
         delivered: Kilojoules(delivered),
@@ -156,7 +156,7 @@ pub fn lose_in_place(card: Card, pcm: HeatBatteryPcm, d: Drive, zones: &mut [f64
     requires { ⌜ (card .layers ≤ 64) × ((d .mode ≡ Mode.Losses) × (lt (chargerHeat d .0) zero ≡ false)) ⌝ }
     ensures { λ r. ⌜ (now (zones .exit) ≡ processHeatBatteryZones card pcm d (now (zones .entry)) .zones) × (r ≡ outcomeOf (processHeatBatteryZones card pcm d (now (zones .entry)))) ⌝ }
 {
-    let target = crate::target_of(card, pcm, d.target);
-    let course = crate::course_of(Mode::Losses, card, pcm, d, target, 0.0);
+    let target = substep::target_of(card, pcm, d.target);
+    let course = substep::course_of(Mode::Losses, card, pcm, d, target, 0.0);
     lose_zones(card, course, d, zones)
 }

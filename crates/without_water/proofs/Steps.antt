@@ -1,6 +1,6 @@
 -- A zone's step without water, in charging alone and in losses; and such loops, which keep no sum, or neither the charger's heat nor the energy
 -- charged.
-use mathlib.Core.Path.{_≡_, refl, sym, _∙_, ap, subst}
+use mathlib.Core.Path.{_≡_, _∙_, ap, subst}
 use mathlib.Core.Bool.{true, false, _&&_}
 use mathlib.Core.List.{List}
 use Prim.Native.Nat.{ℕ, _≤_, _<_, _+_}
@@ -11,7 +11,6 @@ use Rattle.floats.specs.F64.{_⊕_, _⊖_, _⊗_, _⊘_}
 use Rattle.floats.specs.Constants.{zero}
 use Rattle.floats.specs.Standins.{finite64, nearlyEqual, maxZero}
 use Rattle.floats.specs.Sum2.{sum2Step}
-use Rattle.floats.specs.declared.Log.the-variants.{Value}
 use Rattle.floats.specs.declared.Sum2.{Sum2}
 use Rattle.zone.specs.Heat.{kj}
 use Rattle.zone.specs.Layer.{zoneSalt}
@@ -25,28 +24,12 @@ use Rattle.update.specs.declared.ZoneUpdate.{ZoneUpdate}
 use Rattle.charging.specs.declared.Charged.{Charged}
 use Rattle.water.specs.declared.Mode.{Mode}
 use Rattle.water.specs.declared.Mode.the-variants.{OnlyCharging, Losses}
-use Rattle.card.specs.declared.Card.{Card}
-use Rattle.card.specs.declared.HeatBatteryPcm.{HeatBatteryPcm}
-use Rattle.substep.specs.Substep.{zoneIndex, zoneCharge, zoneStep, zoneTransfer, courseOf}
+use Rattle.substep.specs.Substep.{zoneIndex, zoneCharge, zoneStep}
 use Rattle.substep.specs.declared.Course.{Course}
-use Rattle.substep.specs.declared.Drive.{Drive}
 use Rattle.substep.specs.declared.Pass.{Pass}
 use Rattle.substep.specs.declared.ZoneStep.{ZoneStep}
 use Rattle.substep.proofs.OneLoop.{Underway, no-energy, underway-more}
 use Rattle.substep.proofs.Ordered.{noSum}
-
--- neither mode takes a logarithm
-pub without-logarithm-loss : (c : Card) (d : Drive) → d .mode ≡ Losses → zoneTransfer (d .mode) c d ≡ Value zero
-unfolding zoneTransfer
-without-logarithm-loss c d m = rw m
-
-pub without-logarithm-charge : (c : Card) (d : Drive) → d .mode ≡ OnlyCharging → zoneTransfer (d .mode) c d ≡ Value zero
-unfolding zoneTransfer
-without-logarithm-charge c d m = rw m
-
-pub course-mode : (c : Card) (pcm : HeatBatteryPcm) (d : Drive) (u : Float) (x : Course) → x ≡ courseOf c pcm d u → x .mode ≡ d .mode
-unfolding courseOf
-course-mode c pcm d u x e = rw e
 
 abbrev zoneStepOf : Float → Kilojoules → Kilojoules → KilowattHours → ZoneStep
 zoneStepOf t e q k = record { temperature = t; energy = e; outlet = zero; left = q; charged = k }
