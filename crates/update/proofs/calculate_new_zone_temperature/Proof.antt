@@ -1,5 +1,4 @@
 use Rattle.update.proofs.Lowering.{lowered-by-falls}
-use mathlib.Core.Path.{_∙_}
 use borrow.Author.Needs.{needs}
 use Rattle.update.proofs.calculate_new_zone_temperature.Statement.{statement}
 use Rattle.update.proofs.calculate_new_zone_temperature.Tie as tie
