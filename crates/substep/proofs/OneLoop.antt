@@ -1,5 +1,5 @@
--- The engine's one loop: no array of energies, their sum and the zones' tests in the mode's order. Behind the last zone it has what
--- the definition reads of its arrays.
+-- One loop over the zones, as the engine has it: no array of energies, their sum and the zones' tests in the mode's order. Behind the last
+-- zone it has what the definition reads of its arrays.
 use mathlib.Core.Path.{_≡_, refl, sym, _∙_, ap, subst}
 use mathlib.Core.Bool.{Bool, true, cond, _&&_}
 use mathlib.Core.List.{List}

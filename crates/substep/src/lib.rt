@@ -248,8 +248,8 @@ pub fn pass_fault(zones: bool, outlet: f64, sum: f64, charged: KilowattHours) ->
     }
 }
 
-// All zones in the mode's order, where they lie: the engine's one loop. It sums the energies and tests the zones as it goes,
-// also where charging alone goes downward, since the energies there are 0. Places above the zones are neither read nor written.
+// All zones in the mode's order, where they lie. It sums the energies and tests the zones as it goes, also where charging alone goes
+// downward, since the energies there are 0. Places above the zones are neither read nor written.
 fn pass_in_place(card: Card, course: Course, d: Drive, zones: &mut [f64; 64]) -> Outcome
     requires { ⌜ card .layers ≤ 64 ⌝ }
     ensures { λ r. ⌜ (now (zones .exit) ≡ zonesAfter course (card .layers) (card .layers) (passFrom d (now (zones .entry))) .zones) × (r ≡ outcomeOf (substepFrom card (zonesAfter course (card .layers) (card .layers) (passFrom d (now (zones .entry)))))) ⌝ }
