@@ -1,6 +1,5 @@
 -- A substep on zones that lie apart is the definition's, and so is each turn over it.
 use mathlib.Core.Path.{_≡_, sym, _∙_, ap, subst}
-use mathlib.Core.Bool.{Bool, true, false, cond}
 use mathlib.Core.List.{List}
 use Prim.Native.Nat.{ℕ, _+_}
 use native.Mathlib.Omega.{arith}
@@ -59,12 +58,9 @@ wet-fault s before zones e n t q d =
     let z : before ≡ t .run .zones = ap (λ (x : HydronicTurn). x .run .zones) d in
     (ap (wetTurnWith (record { pace = s; next = Stop e; substeps = n })) (sym z) ∙ d, λ h. absurd (q h))
 
--- by a test
-pub at-true : (r : WetTurn) (zones : List Float) (b : Bool) (t u : HydronicTurn) → b ≡ true → WetTurnLies r zones t → WetTurnLies r zones (cond b t u)
-at-true r zones b t u h l = rw h l
-
-pub at-false : (r : WetTurn) (zones : List Float) (b : Bool) (t u : HydronicTurn) → b ≡ false → WetTurnLies r zones u → WetTurnLies r zones (cond b t u)
-at-false r zones b t u h l = rw h l
+-- where the definition comes to another turn
+pub wet-turn-as : (r : WetTurn) (zones : List Float) (t u : HydronicTurn) → WetTurnLies r zones t → t ≡ u → WetTurnLies r zones u
+wet-turn-as r zones t u l e = subst (WetTurnLies r zones) e l
 
 -- what a run hands out
 

@@ -1,4 +1,4 @@
-use Rattle.runs.proofs.InPlace.{at-true, wet-turn-lies}
+use Rattle.runs.proofs.InPlace.{wet-turn-as, wet-turn-lies}
 use mathlib.Core.Path.{refl}
 use Rattle.floats.proofs.Branch.{via-true, via-false}
 use Rattle.runs.specs.Hydronic.{hydronicWhole}
@@ -24,7 +24,7 @@ replayed-requires c κs = search needs
 
 returns : tie.Need-returns
 unfolding hydronicWhole substepWith
-returns c energies = rw (← (c .before .before .before .before .before .before .before .before .before .before .before .before .before .before .reynold-between .ensures), ← (c .before .before .before .before .before .before .before .before .clearly-below .ensures), ← (c .before .before .before .before .before .before .limit-reached .ensures), ← (c .before .before .fraction-seconds .ensures)) (at-true _ _ _ _ _ (c .before .before .before .before .before .before .before .if1 .taken) (at-true _ _ _ _ _ (c .before .before .before .before .before .if2 .taken) (at-true _ _ _ _ _ (c .before .before .before .if3 .taken) (c .replayed .ensures))))
+returns c energies = wet-turn-as _ _ _ _ (c .replayed .ensures) (rw (← (c .before .before .before .before .before .before .before .before .before .before .before .before .before .before .reynold-between .ensures), ← (c .before .before .before .before .before .before .before .before .clearly-below .ensures), ← (c .before .before .before .before .before .before .limit-reached .ensures), ← (c .before .before .fraction-seconds .ensures)) (via-true _ _ (c .before .before .before .before .before .before .before .if1 .taken) (via-true _ _ (c .before .before .before .before .before .if2 .taken) (via-true _ _ (c .before .before .before .if3 .taken) refl))))
 
 returns-2 : tie.Need-returns-2
 unfolding hydronicWhole substepWith

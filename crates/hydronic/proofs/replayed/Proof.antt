@@ -1,5 +1,5 @@
-use Rattle.runs.proofs.InPlace.{wet-turn-lies, at-false, replay-turn}
-use Rattle.floats.proofs.Branch.{via-true}
+use Rattle.runs.proofs.InPlace.{wet-turn-lies, wet-turn-as, replay-turn}
+use Rattle.floats.proofs.Branch.{via-true, via-false}
 use borrow.Author.Tests.{eq-eqb, ne-eqb}
 use Rattle.runs.specs.Hydronic.{replayed, wetDrive}
 use mathlib.Core.Path.{refl, ap}
@@ -33,7 +33,7 @@ replay-by-requires c κs = search needs
 
 returns-2 : tie.Need-returns-2
 unfolding replayed
-returns-2 c = at-false _ _ _ _ _ (ne-eqb _ _ (c .before .before .before .before .before .if1 .left)) (replay-turn _ _ _ _ _ _ _ _ _ _ (c .before .before .before .before .wet-drive .ensures) (c .before .process-in-place .ensures) (λ energies. c .replay-by .ensures _ _ energies))
+returns-2 c = wet-turn-as _ _ _ _ (replay-turn _ _ _ _ _ _ _ _ _ _ (c .before .before .before .before .wet-drive .ensures) (c .before .process-in-place .ensures) (λ energies. c .replay-by .ensures _ _ energies)) (via-false _ _ (ne-eqb _ _ (c .before .before .before .before .before .if1 .left)) refl)
 
 pub replayed-spec : {M : Type 1} → statement M
 replayed-spec =
