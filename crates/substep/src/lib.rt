@@ -13,11 +13,9 @@ ghost use mathlib.Core.Path.{_≡_};
 ghost use mathlib.Core.Bool.{cond, _&&_};
 ghost use mathlib.Core.List.{List};
 ghost use Prim.Native.Nat.{_≤_, _<_};
-ghost use lib.ListN.{replicate};
 ghost use lib.Ieee.{Float};
-ghost use Rattle.floats.specs.Constants.{zero};
 ghost use Rattle.floats.specs.Standins.{finite64};
-ghost use Rattle.substep.specs.Substep.{zoneIndex, zoneCharge, zoneStep, zonesAfter, perLayer, zoneTransfer, targetOf, courseOf, chargerHeat, passFrom, withoutLogarithm, substepWith, outcomeOf, substepFrom, processHeatBatteryZones};
+ghost use Rattle.substep.specs.Substep.{zoneIndex, zoneCharge, zoneStep, zonesAfter, perLayer, zoneTransfer, targetOf, courseOf, chargerHeat, passFrom, withoutLogarithm, outcomeOf, substepFrom, processHeatBatteryZones};
 
 // What a substep is asked, in the Rust's words.
 pub struct Drive {
@@ -133,7 +131,7 @@ fn zone_charge(
     }
 }
 
-fn zone_step(
+pub fn zone_step(
     course: Course,
     salt: Salt,
     zone: f64,
@@ -162,7 +160,7 @@ fn zone_step(
 }
 
 // A zone's share of the heat transfer; a logarithm is taken in the normal mode alone.
-fn zone_transfer(mode: Mode, card: Card, d: Drive) -> Log
+pub fn zone_transfer(mode: Mode, card: Card, d: Drive) -> Log
     ensures { λ r. ⌜ r ≡ zoneTransfer mode card d ⌝ }
 {
     match mode {
@@ -250,7 +248,7 @@ pub fn pass_fault(zones: bool, outlet: f64, sum: f64, charged: KilowattHours) ->
 
 // All zones in the mode's order, where they lie. It sums the energies and tests the zones as it goes, also where charging alone goes
 // downward, since the energies there are 0. Places above the zones are neither read nor written.
-fn pass_in_place(card: Card, course: Course, d: Drive, zones: &mut [f64; 64]) -> Outcome
+pub fn pass_in_place(card: Card, course: Course, d: Drive, zones: &mut [f64; 64]) -> Outcome
     requires { ⌜ card .layers ≤ 64 ⌝ }
     ensures { λ r. ⌜ (now (zones .exit) ≡ zonesAfter course (card .layers) (card .layers) (passFrom d (now (zones .entry))) .zones) × (r ≡ outcomeOf (substepFrom card (zonesAfter course (card .layers) (card .layers) (passFrom d (now (zones .entry)))))) ⌝ }
 {
@@ -285,7 +283,7 @@ fn pass_in_place(card: Card, course: Course, d: Drive, zones: &mut [f64; 64]) ->
 }
 
 // What a substep without its logarithm hands out.
-fn without_logarithm() -> Outcome
+pub fn without_logarithm() -> Outcome
     ensures { λ r. ⌜ ((zones : List Float) → r ≡ outcomeOf (withoutLogarithm zones)) ⌝ }
 {
     Outcome {
@@ -314,78 +312,4 @@ pub fn process_in_place(
     };
     let course = course_of(Mode::Normal, card, pcm, d, target, u);
     pass_in_place(card, course, d, zones)
-}
-
-// Each zone's energy. The engine asks for the sum alone and an array slows it, so this is a second loop over `zone_step`.
-fn zone_energies(card: Card, course: Course, d: Drive, zones: [f64; 64]) -> [f64; 64]
-    requires { ⌜ card .layers ≤ 64 ⌝ }
-    ensures { λ r. ⌜ r ≡ zonesAfter course (card .layers) (card .layers) (passFrom d zones) .energies ⌝ }
-{
-    let n = card.layers as usize;
-    let mode = course.mode;
-    let own = course.salt;
-    let mut after = zones;
-    let mut energies = [0.0; 64];
-    let mut outlet = d.inlet;
-    let mut left = charger_heat(d);
-    let mut charged = KilowattHours(0.0);
-    for k in 0..n {
-        let j = zone_index(mode, n, k);
-        let salt = zone::layer::zone_salt(own, j);
-        let z = zone_step(course, salt, after[j], outlet, left, charged);
-        after[j] = z.temperature;
-        energies[j] = energies[j] + z.energy.0;
-        outlet = z.outlet;
-        left = z.left;
-        charged = z.charged;
-    }
-    energies
-}
-
-fn with_arrays(o: Outcome, zones: [f64; 64], energies: [f64; 64]) -> Substep
-    ensures { λ r. ⌜ r ≡ substepWith o zones energies ⌝ }
-{
-    let delivered = o.delivered;
-    let charged = o.charged;
-    let fault = o.fault;
-    Substep {
-        zones,
-        energies,
-        outlet: o.outlet,
-        delivered,
-        charged,
-        fault,
-    }
-}
-
-// What a substep in place hands out, with its zones and zeros for the energies.
-fn bare(o: Outcome, zones: [f64; 64]) -> Substep
-    ensures { λ r. ⌜ r ≡ substepWith o zones (replicate 64 zero) ⌝ }
-{
-    let energies = [0.0; 64];
-    with_arrays(o, zones, energies)
-}
-
-// In any mode, by value and with each zone's energy.
-pub fn process_heat_battery_zones(
-    card: Card,
-    pcm: HeatBatteryPcm,
-    d: Drive,
-    zones: [f64; 64],
-) -> Substep
-    requires { ⌜ card .layers ≤ 64 ⌝ }
-    ensures { λ r. ⌜ r ≡ processHeatBatteryZones card pcm d zones ⌝ }
-{
-    let mode = d.mode;
-    let share = zone_transfer(mode, card, d);
-    let Log::Value(u) = share else {
-        let o = without_logarithm();
-        return bare(o, zones);
-    };
-    let target = target_of(card, pcm, d.target);
-    let course = course_of(mode, card, pcm, d, target, u);
-    let mut after = zones;
-    let o = pass_in_place(card, course, d, &mut after);
-    let energies = zone_energies(card, course, d, zones);
-    with_arrays(o, after, energies)
 }

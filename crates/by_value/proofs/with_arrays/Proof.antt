@@ -1,7 +1,7 @@
 use mathlib.Core.Path.{refl}
 use Rattle.substep.specs.Substep.{substepWith}
-use Rattle.substep.proofs.with_arrays.Statement.{statement}
-use Rattle.substep.proofs.with_arrays.Tie as tie
+use Rattle.by_value.proofs.with_arrays.Statement.{statement}
+use Rattle.by_value.proofs.with_arrays.Tie as tie
 
 returns : tie.Need-returns
 unfolding substepWith

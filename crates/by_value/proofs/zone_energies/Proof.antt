@@ -1,12 +1,12 @@
 use Rattle.substep.specs.Substep.{zonesAfter}
 use Rattle.substep.specs.declared.Pass.{Pass}
 use Rattle.substep.proofs.Passes.{zones-more, energies-end}
 use mathlib.Core.Path.{_≡_, refl}
 use Prim.Native.Nat.{_≤_, _-_}
 use native.Mathlib.Omega.{arith}
 use borrow.Author.Needs.{needs}
-use Rattle.substep.proofs.zone_energies.Statement.{statement}
-use Rattle.substep.proofs.zone_energies.Tie as tie
+use Rattle.by_value.proofs.zone_energies.Statement.{statement}
+use Rattle.by_value.proofs.zone_energies.Tie as tie
 
 abbrev Inv-loop : tie.InvT-loop
 Inv-loop course n mode own after₀ energies₀ outlet₀ left₀ charged₀ k₀ after energies outlet left charged k =

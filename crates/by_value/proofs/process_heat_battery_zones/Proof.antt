@@ -1,9 +1,9 @@
 use Rattle.substep.specs.Substep.{withoutLogarithm, substepFrom}
 use Rattle.substep.proofs.Passes.{passed, refused-here, whole}
 use mathlib.Core.Path.{refl, sym, _∙_}
 use borrow.Author.Needs.{needs}
-use Rattle.substep.proofs.process_heat_battery_zones.Statement.{statement}
-use Rattle.substep.proofs.process_heat_battery_zones.Tie as tie
+use Rattle.by_value.proofs.process_heat_battery_zones.Statement.{statement}
+use Rattle.by_value.proofs.process_heat_battery_zones.Tie as tie
 
 zone-transfer-requires : tie.Need-zone-transfer-requires
 zone-transfer-requires c κs = search needs
