@@ -9,7 +9,7 @@ use lib.ListN.{length, take, drop, getD, length-append, take-append-drop, List·
 use lib.Seq.{take-at, drop-at, getD-append-add, drop-drop, length-take-le}
 use Rattle.codec.specs.Bytes.{be, beAt}
 use Rattle.card.specs.declared.Card.{Card}
-use Rattle.battery.specs.Call.{callInRange}
+use Rattle.call_ranges.specs.Call.{callInRange}
 use Rattle.battery.specs.declared.Call.{Call}
 use Rattle.calls.specs.Calls.{callLength, callOf}
 use Rattle.sheet.specs.Answers.{answerLength, marksOk}

@@ -10,8 +10,7 @@ use lib.Ieee.{Float, binary64, fits}
 use lib.Ieee.Bits.{ofBits-fits}
 use Rattle.codec.specs.Bytes.{be, f64Of, f64At}
 use Rattle.card.specs.Fits.{CardFits}
-use Rattle.battery.specs.Call.{kindOf}
-use Rattle.battery.specs.Kinds.{isCharge}
+use Rattle.battery.specs.Kinds.{kindOf, isCharge}
 use Rattle.battery.specs.declared.Demand.{Demand}
 use Rattle.battery.specs.declared.Call.{Call}
 use Rattle.battery.specs.declared.Call.the-variants.{DemandEnergy, ChargeElectric, ChargeHydronic, HeatLoss, CloseTimestep, ReadStateOfCharge, ChargeEnergyDemand}

@@ -10,7 +10,7 @@ use borrow.Author.Tests.{ne-eqb}
 use lib.ListN.{length}
 use Rattle.card.specs.declared.Card.{Card}
 use Rattle.battery.specs.Battery.{GoodBattery}
-use Rattle.battery.specs.Call.{callInRange}
+use Rattle.call_ranges.specs.Call.{callInRange}
 use Rattle.battery.specs.Answer.{refusedWith}
 use Rattle.battery.specs.declared.Battery.{Battery}
 use Rattle.battery.specs.declared.Call.{Call}

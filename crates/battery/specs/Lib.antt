@@ -1,5 +1,4 @@
 pub mod Battery
-pub mod Call
 pub mod Answer
 pub mod Kinds
 pub mod Shape

@@ -1,9 +1,8 @@
-// The battery by value, the seven kinds of call, and what a call answers: document 01's types and refusal 10's tests.
+// The battery by value, the seven kinds of call, and what a call answers: document 01's types, and refusal 10's test of a battery.
 use card::Card;
 ghost use mathlib.Core.Path.{_≡_};
 ghost use Prim.Native.Nat.{_≤_};
 ghost use Rattle.battery.specs.Battery.{fresh as freshOf, zonesFinite, batteryAccepted};
-ghost use Rattle.battery.specs.Call.{isLevel, isGivenTemperature, demandInRange, hydronicInRange, callInRange};
 ghost use Rattle.battery.specs.Answer.{refusedWith, answerFinite};
 ghost use Rattle.battery.specs.Ledger.{whole, answerWith, finiteTotals, numbersFinite, ledgerOf, plainReply, refusedReply};
 
@@ -217,84 +216,6 @@ pub fn is_accepted(version: u8, l: Ledger, zones: &[f64; 64]) -> bool
         return false;
     }
     false
-}
-
-fn is_level(x: f64) -> bool
-    ensures { λ r. ⌜ r ≡ isLevel x ⌝ }
-{
-    ranges::within(0.0, 1.0, x)
-}
-
-fn is_given_temperature(given: Given) -> bool
-    ensures { λ r. ⌜ r ≡ isGivenTemperature given ⌝ }
-{
-    match given {
-        Given::Absent => true,
-        Given::Value(t) => ranges::is_temperature(t),
-    }
-}
-
-fn demand_in_range(card: Card, d: Demand) -> bool
-    ensures { λ r. ⌜ r ≡ demandInRange card d ⌝ }
-{
-    let feed = d.feed;
-    floats::both(
-        d.service <= 3,
-        floats::both(
-            ranges::within(-1000000.0, 1000000.0, d.required),
-            floats::both(
-                ranges::within(0.0, card.timestep, d.start),
-                is_given_temperature(feed),
-            ),
-        ),
-    )
-}
-
-fn hydronic_in_range(h: Hydronic) -> bool
-    ensures { λ r. ⌜ r ≡ hydronicInRange h ⌝ }
-{
-    let exchanger = floats::both(
-        ranges::is_coefficient(h.a),
-        floats::both(
-            ranges::is_coefficient(h.b),
-            floats::both(
-                ranges::is_velocity(h.velocity),
-                ranges::within(0.00001, 1.0, h.diameter),
-            ),
-        ),
-    );
-    floats::both(
-        ranges::is_temperature(h.inlet),
-        floats::both(
-            ranges::within(0.0, 24.0, h.hours),
-            floats::both(
-                ranges::is_flow(h.flow),
-                floats::both(
-                    is_level(h.target),
-                    floats::both(ranges::within(0.0, 1000000.0, h.limit), exchanger),
-                ),
-            ),
-        ),
-    )
-}
-
-// Refusal 10's test of a call's fields: false where it is refused.
-pub fn call_in_range(version: u8, card: Card, call: Call) -> bool
-    ensures { λ r. ⌜ r ≡ callInRange version card call ⌝ }
-{
-    match call {
-        Call::DemandEnergy(d) => demand_in_range(card, d),
-        Call::ChargeElectric(power, target) => {
-            floats::both(ranges::is_power(power), is_level(target))
-        }
-        Call::ChargeHydronic(h) => hydronic_in_range(h),
-        Call::HeatLoss => true,
-        Call::CloseTimestep => true,
-        Call::ReadStateOfCharge => true,
-        Call::ChargeEnergyDemand(most, target) => {
-            floats::both(is_given_temperature(most), is_level(target))
-        }
-    }
 }
 
 // A refusal line: the battery stays.

@@ -15,7 +15,7 @@ use Rattle.codec.proofs.Places.{zero-bytes, zero-number}
 use Rattle.card.proofs.Tests.{and-true, true-and}
 use Rattle.battery.specs.declared.Call.{Call}
 use Rattle.battery.specs.declared.Call.the-variants.{DemandEnergy, ChargeElectric, ChargeHydronic, HeatLoss, CloseTimestep, ReadStateOfCharge, ChargeEnergyDemand}
-use Rattle.battery.specs.Call.{kindOf}
+use Rattle.battery.specs.Kinds.{kindOf}
 use Rattle.calls.specs.declared.ReadCall.{ReadCall}
 use Rattle.calls.specs.declared.ReadCall.the-variants.{Good}
 use Rattle.calls.specs.Calls.{callLength, commitPlace, controlPlace, returnPlace, fieldsPlace, markOk, givenAt, demandAt, demandCall, hydronicAt, chargeDemandCall, bareCall, callBy, callOf}

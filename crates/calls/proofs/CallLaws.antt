@@ -10,7 +10,7 @@ use lib.ListN.{length, getD}
 use Rattle.codec.specs.Bytes.{f64At, nthF64}
 use Rattle.battery.specs.declared.Call.{Call}
 use Rattle.battery.specs.declared.Call.the-variants.{DemandEnergy, ChargeElectric, ChargeHydronic, HeatLoss, CloseTimestep, ReadStateOfCharge, ChargeEnergyDemand}
-use Rattle.battery.specs.Call.{kindOf}
+use Rattle.battery.specs.Kinds.{kindOf}
 use Rattle.calls.specs.declared.ReadCall.{ReadCall}
 use Rattle.calls.specs.declared.ReadCall.the-variants.{Good, Bad}
 use Rattle.calls.specs.Calls.{callLength, markOk, givenAt, demandAt, demandCall, hydronicAt, chargeDemandCall, bareCall, callBy, callOf}

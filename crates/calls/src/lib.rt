@@ -1,4 +1,4 @@
-// A call's bytes: its kind and its fields. Ranges are tested by battery::call_in_range.
+// A call's bytes: its kind and its fields. Ranges are tested by call_ranges::call_in_range.
 use battery::Call;
 use battery::Demand;
 use battery::Given;

@@ -16,7 +16,7 @@ use Rattle.card.specs.Fits.{CardFits}
 use Rattle.card.specs.declared.Card.{Card}
 use Rattle.card.proofs.Accepted.{accepted-layers}
 use Rattle.battery.specs.Battery.{freshZones, fresh}
-use Rattle.battery.specs.Call.{callInRange}
+use Rattle.call_ranges.specs.Call.{callInRange}
 use Rattle.battery.specs.declared.Battery.{Battery}
 use Rattle.battery.specs.declared.Call.{Call}
 use Rattle.battery.specs.declared.Call.the-variants.{ChargeElectric, HeatLoss}

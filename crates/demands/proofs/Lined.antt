@@ -9,7 +9,7 @@ use Rattle.codec.specs.Bytes.{beBytes}
 use Rattle.codec.proofs.Laws.{length-beBytes, be-beBytes}
 use Rattle.card.specs.declared.Card.{Card}
 use Rattle.battery.specs.Battery.{GoodBattery}
-use Rattle.battery.specs.Call.{callInRange}
+use Rattle.call_ranges.specs.Call.{callInRange}
 use Rattle.battery.specs.declared.Battery.{Battery}
 use Rattle.battery.specs.declared.Call.{Call}
 use Rattle.battery.specs.declared.Answer.{Answer}

@@ -10,7 +10,7 @@ use Rattle.floats.proofs.Cases.{by-test}
 use Rattle.card.proofs.Tests.{true-and}
 use Rattle.battery.specs.Answer.{refusedWith, answerFinite}
 use Rattle.battery.specs.Battery.{batteryAccepted, GoodBattery}
-use Rattle.battery.specs.Call.{callInRange}
+use Rattle.call_ranges.specs.Call.{callInRange}
 use Rattle.battery.specs.Kinds.{isCharge, onlyAsks}
 use Rattle.battery.specs.Shape.{RefusalLine}
 use Rattle.battery.specs.declared.Battery.{Battery}

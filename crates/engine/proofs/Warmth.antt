@@ -22,7 +22,7 @@ use Rattle.card.proofs.Tests.{and-true}
 use Rattle.card.proofs.Within.{holds, power-nonneg}
 use Rattle.battery.specs.Answer.{refusedWith, answerFinite}
 use Rattle.battery.specs.Battery.{GoodBattery}
-use Rattle.battery.specs.Call.{isLevel, callInRange}
+use Rattle.call_ranges.specs.Call.{isLevel, callInRange}
 use Rattle.battery.specs.declared.Answer.{Answer}
 use Rattle.battery.specs.declared.Battery.{Battery}
 use Rattle.battery.specs.declared.Call.the-variants.{ChargeElectric, HeatLoss}

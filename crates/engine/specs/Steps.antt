@@ -12,7 +12,7 @@ use Rattle.zone.specs.declared.StateOfCharge.the-variants.{Level, Above}
 use Rattle.card.specs.Derived.{derived}
 use Rattle.card.specs.declared.Card.{Card}
 use Rattle.battery.specs.Battery.{batteryAccepted}
-use Rattle.battery.specs.Call.{callInRange}
+use Rattle.call_ranges.specs.Call.{callInRange}
 use Rattle.battery.specs.Answer.{refusedWith, plainAnswer}
 use Rattle.battery.specs.declared.Battery.{Battery}
 use Rattle.battery.specs.declared.Given.{Given}

@@ -286,7 +286,7 @@ pub fn advance_in_place(version: u8, l: Ledger, call: Call, zones: &mut [f64; 64
     let card = l.card;
     if floats::both(
         battery::is_accepted(version, l, zones),
-        battery::call_in_range(version, card, call),
+        call_ranges::call_in_range(version, card, call),
     ) {
         let what = asked(call);
         return step(l, what, zones);

@@ -6,7 +6,7 @@ use mathlib.Core.Bool.{true}
 use Prim.Native.Nat.{ℕ}
 use native.Mathlib.Omega.{arith}
 use Rattle.card.specs.declared.Card.{Card}
-use Rattle.battery.specs.Call.{demandInRange, callInRange}
+use Rattle.call_ranges.specs.Call.{demandInRange, callInRange}
 use Rattle.battery.specs.declared.Battery.{Battery}
 use Rattle.battery.specs.declared.Answer.{Answer}
 use Rattle.battery.specs.declared.Call.{Call}

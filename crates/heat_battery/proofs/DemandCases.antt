@@ -16,7 +16,7 @@ use Rattle.ranges.specs.Ranges.{within, million}
 use Rattle.card.specs.declared.Card.{Card}
 use Rattle.card.proofs.Tests.{and-true, true-and}
 use Rattle.battery.specs.Answer.{refusedWith, plainAnswer, answerFinite}
-use Rattle.battery.specs.Call.{demandInRange}
+use Rattle.call_ranges.specs.Call.{demandInRange}
 use Rattle.battery.specs.declared.Battery.{Battery}
 use Rattle.battery.specs.declared.Answer.{Answer}
 use Rattle.battery.specs.declared.Call.{Call}

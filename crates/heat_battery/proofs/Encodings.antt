@@ -14,7 +14,7 @@ use Rattle.card.specs.declared.Card.{Card}
 use Rattle.battery.specs.declared.Battery.{Battery}
 use Rattle.battery.specs.declared.Call.{Call}
 use Rattle.battery.specs.declared.Answer.{Answer}
-use Rattle.battery.specs.Call.{callInRange}
+use Rattle.call_ranges.specs.Call.{callInRange}
 use Rattle.engine.specs.Steps.{stepOf}
 use Rattle.records.specs.Cards.{cardLength, cardAt}
 use Rattle.records.specs.Records.{recordOf, stateBytes, recordBytes}

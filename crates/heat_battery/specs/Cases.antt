@@ -11,7 +11,7 @@ use Rattle.floats.specs.Standins.{finite64, nearlyEqual}
 use Rattle.codec.specs.Bytes.{nthF64}
 use Rattle.card.specs.Card.{cardInRange, cardRefusal}
 use Rattle.card.specs.declared.Card.{Card}
-use Rattle.battery.specs.Call.{callInRange}
+use Rattle.call_ranges.specs.Call.{callInRange}
 use Rattle.battery.specs.declared.Call.{Call}
 use Rattle.battery.specs.declared.Call.the-variants.{DemandEnergy}
 use Rattle.battery.specs.declared.Demand.{Demand}

@@ -1,7 +1,7 @@
-use Rattle.battery.specs.Call.{demandInRange}
+use Rattle.call_ranges.specs.Call.{demandInRange}
 use borrow.Author.Needs.{needs}
-use Rattle.battery.proofs.demand_in_range.Statement.{statement}
-use Rattle.battery.proofs.demand_in_range.Tie as tie
+use Rattle.call_ranges.proofs.demand_in_range.Statement.{statement}
+use Rattle.call_ranges.proofs.demand_in_range.Tie as tie
 
 within-requires : tie.Need-within-requires
 within-requires c κs = search needs

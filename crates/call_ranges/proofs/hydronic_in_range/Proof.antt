@@ -1,7 +1,7 @@
-use Rattle.battery.specs.Call.{hydronicInRange}
+use Rattle.call_ranges.specs.Call.{hydronicInRange}
 use borrow.Author.Needs.{needs}
-use Rattle.battery.proofs.hydronic_in_range.Statement.{statement}
-use Rattle.battery.proofs.hydronic_in_range.Tie as tie
+use Rattle.call_ranges.proofs.hydronic_in_range.Statement.{statement}
+use Rattle.call_ranges.proofs.hydronic_in_range.Tie as tie
 
 is-coefficient-requires : tie.Need-is-coefficient-requires
 is-coefficient-requires c κs = search needs

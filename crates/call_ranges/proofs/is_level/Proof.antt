@@ -1,7 +1,7 @@
-use Rattle.battery.specs.Call.{isLevel}
+use Rattle.call_ranges.specs.Call.{isLevel}
 use borrow.Author.Needs.{needs}
-use Rattle.battery.proofs.is_level.Statement.{statement}
-use Rattle.battery.proofs.is_level.Tie as tie
+use Rattle.call_ranges.proofs.is_level.Statement.{statement}
+use Rattle.call_ranges.proofs.is_level.Tie as tie
 
 within-requires : tie.Need-within-requires
 within-requires c κs = search needs

@@ -1,7 +1,7 @@
-use Rattle.battery.specs.Call.{isGivenTemperature}
+use Rattle.call_ranges.specs.Call.{isGivenTemperature}
 use borrow.Author.Needs.{needs}
-use Rattle.battery.proofs.is_given_temperature.Statement.{statement}
-use Rattle.battery.proofs.is_given_temperature.Tie as tie
+use Rattle.call_ranges.proofs.is_given_temperature.Statement.{statement}
+use Rattle.call_ranges.proofs.is_given_temperature.Tie as tie
 
 enum-told : tie.Need-enum-told
 enum-told c = search needs

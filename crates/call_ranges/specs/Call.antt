@@ -46,13 +46,3 @@ callInRange version c HeatLoss = true
 callInRange version c CloseTimestep = true
 callInRange version c ReadStateOfCharge = true
 callInRange version c (ChargeEnergyDemand most target) = isGivenTemperature most && isLevel target
-
--- document 01's kinds
-unfoldable pub kindOf : Call → ℕ
-kindOf (DemandEnergy d) = 1
-kindOf (ChargeElectric power target) = 2
-kindOf (ChargeHydronic h) = 3
-kindOf HeatLoss = 4
-kindOf CloseTimestep = 5
-kindOf ReadStateOfCharge = 6
-kindOf (ChargeEnergyDemand most target) = 7

@@ -1,7 +1,7 @@
-use Rattle.battery.specs.Call.{callInRange}
+use Rattle.call_ranges.specs.Call.{callInRange}
 use borrow.Author.Needs.{needs}
-use Rattle.battery.proofs.call_in_range.Statement.{statement}
-use Rattle.battery.proofs.call_in_range.Tie as tie
+use Rattle.call_ranges.proofs.call_in_range.Statement.{statement}
+use Rattle.call_ranges.proofs.call_in_range.Tie as tie
 
 enum-known-call : tie.Need-enum-known-call
 enum-known-call c = search needs

@@ -1,0 +1,86 @@
+// Refusal 10's tests of a call's fields. Kind, lengths, flags and marks are the sheet's.
+use battery::Call;
+use battery::Demand;
+use battery::Given;
+use battery::Hydronic;
+use card::Card;
+ghost use mathlib.Core.Path.{_≡_};
+ghost use Rattle.call_ranges.specs.Call.{isLevel, isGivenTemperature, demandInRange, hydronicInRange, callInRange};
+
+fn is_level(x: f64) -> bool
+    ensures { λ r. ⌜ r ≡ isLevel x ⌝ }
+{
+    ranges::within(0.0, 1.0, x)
+}
+
+fn is_given_temperature(given: Given) -> bool
+    ensures { λ r. ⌜ r ≡ isGivenTemperature given ⌝ }
+{
+    match given {
+        Given::Absent => true,
+        Given::Value(t) => ranges::is_temperature(t),
+    }
+}
+
+fn demand_in_range(card: Card, d: Demand) -> bool
+    ensures { λ r. ⌜ r ≡ demandInRange card d ⌝ }
+{
+    let feed = d.feed;
+    floats::both(
+        d.service <= 3,
+        floats::both(
+            ranges::within(-1000000.0, 1000000.0, d.required),
+            floats::both(
+                ranges::within(0.0, card.timestep, d.start),
+                is_given_temperature(feed),
+            ),
+        ),
+    )
+}
+
+fn hydronic_in_range(h: Hydronic) -> bool
+    ensures { λ r. ⌜ r ≡ hydronicInRange h ⌝ }
+{
+    let exchanger = floats::both(
+        ranges::is_coefficient(h.a),
+        floats::both(
+            ranges::is_coefficient(h.b),
+            floats::both(
+                ranges::is_velocity(h.velocity),
+                ranges::within(0.00001, 1.0, h.diameter),
+            ),
+        ),
+    );
+    floats::both(
+        ranges::is_temperature(h.inlet),
+        floats::both(
+            ranges::within(0.0, 24.0, h.hours),
+            floats::both(
+                ranges::is_flow(h.flow),
+                floats::both(
+                    is_level(h.target),
+                    floats::both(ranges::within(0.0, 1000000.0, h.limit), exchanger),
+                ),
+            ),
+        ),
+    )
+}
+
+// Refusal 10's test of a call's fields: false where it is refused.
+pub fn call_in_range(version: u8, card: Card, call: Call) -> bool
+    ensures { λ r. ⌜ r ≡ callInRange version card call ⌝ }
+{
+    match call {
+        Call::DemandEnergy(d) => demand_in_range(card, d),
+        Call::ChargeElectric(power, target) => {
+            floats::both(ranges::is_power(power), is_level(target))
+        }
+        Call::ChargeHydronic(h) => hydronic_in_range(h),
+        Call::HeatLoss => true,
+        Call::CloseTimestep => true,
+        Call::ReadStateOfCharge => true,
+        Call::ChargeEnergyDemand(most, target) => {
+            floats::both(is_given_temperature(most), is_level(target))
+        }
+    }
+}
