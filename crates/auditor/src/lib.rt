@@ -37,7 +37,7 @@ fn card_line_ok(version: u8, sheet: &[u8]) -> bool
         let n = records::cards::card_length(version) as u64;
         if codec::read_be(sheet, 1, 2) == n {
             let card = records::cards::read_card(version, &sheet[3..end]);
-            return card::refusal(version, card) == 0;
+            return card_verdict::refusal(version, card) == 0;
         }
         return false;
     }

@@ -1,10 +1,10 @@
-// The card: document 01's fields, refusals 1 to 4, and what HeatBatteryPcm::new derives.
+// The card: document 01's fields and their ranges, whether 1 to 4 accept it, and what HeatBatteryPcm::new derives.
 use zone::Kilojoules;
 use zone::Salt;
 ghost use mathlib.Core.Path.{_≡_};
 ghost use lib.Dec.{eqb};
 ghost use mathlib.Core.Bool.{_&&_};
-ghost use Rattle.card.specs.Card.{countsInRange, timesInRange, temperaturesInRange, capacitiesInRange, exchangerInRange, powersInRange, cardInRange, cardVerdict, cardRefusal};
+ghost use Rattle.card.specs.Card.{countsInRange, timesInRange, temperaturesInRange, capacitiesInRange, exchangerInRange, powersInRange, cardInRange, cardRefusal};
 ghost use Rattle.card.specs.Derived.{saltOf, energyAt, derived as derivedOf};
 
 #[repr(C)]
@@ -148,7 +148,7 @@ fn powers_in_range(card: Card) -> bool
     floats::both(ranges::is_power(card.losses), ranges::is_power(card.power))
 }
 
-fn card_in_range(card: Card) -> bool
+pub fn card_in_range(card: Card) -> bool
     ensures { λ r. ⌜ r ≡ cardInRange card ⌝ }
 {
     floats::both(
@@ -164,47 +164,6 @@ fn card_in_range(card: Card) -> bool
             ),
         ),
     )
-}
-
-// Refusals 1 to 4, in document 01's order.
-pub fn check(version: u8, card: Card) -> CardVerdict
-    ensures { λ r. ⌜ r ≡ cardVerdict version card ⌝ }
-{
-    if card_in_range(card) {
-        if card.lower <= card.upper {
-            if card.max <= floats::TEMP_AMBIENT_RATED_LOSSES_C {
-                return CardVerdict::MaxTooLow;
-            }
-            if card.max < card.reference {
-                return CardVerdict::NothingToStore;
-            }
-            if floats::nearly_equal(
-                card.max,
-                card.reference,
-                floats::TOLERANCE,
-                floats::MAX_RELATIVE,
-            ) {
-                return CardVerdict::NothingToStore;
-            }
-            return CardVerdict::Accepted;
-        }
-        return CardVerdict::LowerAboveUpper;
-    }
-    CardVerdict::OutOfRange
-}
-
-// Document 01's number of the verdict, 0 for an accepted card.
-pub fn refusal(version: u8, card: Card) -> u8
-    ensures { λ r. ⌜ r ≡ cardRefusal version card ⌝ }
-{
-    let verdict = check(version, card);
-    match verdict {
-        CardVerdict::Accepted => 0,
-        CardVerdict::OutOfRange => 1,
-        CardVerdict::LowerAboveUpper => 2,
-        CardVerdict::MaxTooLow => 3,
-        CardVerdict::NothingToStore => 4,
-    }
 }
 
 // Whether 1 to 4 accept the card, as one test: it stands on the path of every call, and is compiled in place there as `refusal` is not.

@@ -17,7 +17,7 @@ pub fn open(card: &[u8], record: &mut [u8], sheet: &mut [u8]) -> u8
         return 1;
     }
     let c = records::cards::read_card(VERSION, card);
-    let refusal = card::refusal(VERSION, c);
+    let refusal = card_verdict::refusal(VERSION, c);
     if refusal != 0 {
         return refusal;
     }
@@ -39,7 +39,7 @@ pub fn record_laid(record: &[u8]) -> bool
 {
     if records::cards::card_length(VERSION) <= record.len() {
         let c = records::cards::read_card(VERSION, record);
-        if card::refusal(VERSION, c) == 0 {
+        if card_verdict::refusal(VERSION, c) == 0 {
             return record.len() == records::record_length(VERSION, c);
         }
         return false;

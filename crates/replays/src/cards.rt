@@ -54,7 +54,7 @@ fn derived_is(s: &[u8], pcm: HeatBatteryPcm) -> bool {
 
 pub fn card(s: &[u8]) -> bool {
     let card = read(s);
-    let refusal = card::refusal(VERSION, card);
+    let refusal = card_verdict::refusal(VERSION, card);
     let first = floats::both(words::has(s, 30), words::word_is(s, 23, refusal as u64));
     if refusal == 0 {
         return floats::both(first, derived_is(s, card::derived(card)));

@@ -1,7 +1,7 @@
 use Rattle.card.specs.Card.{cardRefusal, verdictNumber}
 use borrow.Author.Needs.{needs}
-use Rattle.card.proofs.refusal.Statement.{statement}
-use Rattle.card.proofs.refusal.Tie as tie
+use Rattle.card_verdict.proofs.refusal.Statement.{statement}
+use Rattle.card_verdict.proofs.refusal.Tie as tie
 
 check-requires : tie.Need-check-requires
 check-requires c κs = search needs

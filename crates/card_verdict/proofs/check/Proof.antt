@@ -1,9 +1,9 @@
 use mathlib.Core.Path.{refl}
 use Rattle.floats.proofs.Branch.{via-true, via-false}
 use Rattle.card.specs.Card.{cardVerdict}
 use borrow.Author.Needs.{needs}
-use Rattle.card.proofs.check.Statement.{statement}
-use Rattle.card.proofs.check.Tie as tie
+use Rattle.card_verdict.proofs.check.Statement.{statement}
+use Rattle.card_verdict.proofs.check.Tie as tie
 
 card-in-range-requires : tie.Need-card-in-range-requires
 card-in-range-requires c κs = search needs

@@ -1,0 +1,46 @@
+// Refusals 1 to 4 of a card.
+use card::Card;
+use card::CardVerdict;
+ghost use mathlib.Core.Path.{_≡_};
+ghost use Rattle.card.specs.Card.{cardVerdict, cardRefusal};
+
+// In document 01's order.
+pub fn check(version: u8, card: Card) -> CardVerdict
+    ensures { λ r. ⌜ r ≡ cardVerdict version card ⌝ }
+{
+    if card::card_in_range(card) {
+        if card.lower <= card.upper {
+            if card.max <= floats::TEMP_AMBIENT_RATED_LOSSES_C {
+                return CardVerdict::MaxTooLow;
+            }
+            if card.max < card.reference {
+                return CardVerdict::NothingToStore;
+            }
+            if floats::nearly_equal(
+                card.max,
+                card.reference,
+                floats::TOLERANCE,
+                floats::MAX_RELATIVE,
+            ) {
+                return CardVerdict::NothingToStore;
+            }
+            return CardVerdict::Accepted;
+        }
+        return CardVerdict::LowerAboveUpper;
+    }
+    CardVerdict::OutOfRange
+}
+
+// Document 01's number of the verdict, 0 for an accepted card.
+pub fn refusal(version: u8, card: Card) -> u8
+    ensures { λ r. ⌜ r ≡ cardRefusal version card ⌝ }
+{
+    let verdict = check(version, card);
+    match verdict {
+        CardVerdict::Accepted => 0,
+        CardVerdict::OutOfRange => 1,
+        CardVerdict::LowerAboveUpper => 2,
+        CardVerdict::MaxTooLow => 3,
+        CardVerdict::NothingToStore => 4,
+    }
+}
