@@ -14,8 +14,8 @@ const MOST_LINES: u64 = 10;
 
 // What a file has shown so far.
 struct Run {
-    // records that compare nothing
-    passed: u64,
+    // the place of the next record, from 0
+    place: u64,
     agree: u64,
     disagree: u64,
     // whether there may be another record
@@ -24,7 +24,7 @@ struct Run {
 
 fn fresh() -> Run {
     Run {
-        passed: 0,
+        place: 0,
         agree: 0,
         disagree: 0,
         going: true,
@@ -33,60 +33,51 @@ fn fresh() -> Run {
 
 fn ended(run: Run) -> Run {
     Run {
-        passed: run.passed,
+        place: run.place,
         agree: run.agree,
         disagree: run.disagree,
         going: false,
     }
 }
 
-fn disagreed(run: Run, going: bool) -> Run {
+// Behind a record that adds to the counts.
+fn counted(run: Run, agree: u64, disagree: u64) -> Run {
     Run {
-        passed: run.passed,
-        agree: run.agree,
-        disagree: wrapping_add_u64(run.disagree, 1),
-        going,
+        place: wrapping_add_u64(run.place, 1),
+        agree: wrapping_add_u64(run.agree, agree),
+        disagree: wrapping_add_u64(run.disagree, disagree),
+        going: true,
     }
 }
 
-// The place of the next record, from 0.
-fn place(run: Run) -> u64 {
-    wrapping_add_u64(run.passed, wrapping_add_u64(run.agree, run.disagree))
+// What cannot be read counts as a record that disagrees, and nothing behind it is read.
+fn spoilt(run: Run) -> Run {
+    ended(counted(run, 0, 1))
 }
 
-// Behind a record with this id.
-fn counted(run: Run, id: u64, agrees: bool) -> Run {
+// Compares a record, and says where it disagrees.
+fn compared(file: &[u8], run: Run, id: u64, words: &[u8], held: &mut [u8]) -> Run {
+    let agrees = lists::replay(id, words, held);
     if id == STARTS_A_LIST {
-        return Run {
-            passed: wrapping_add_u64(run.passed, 1),
-            agree: run.agree,
-            disagree: run.disagree,
-            going: true,
-        };
+        return counted(run, 0, 0);
     }
     if agrees {
-        return Run {
-            passed: run.passed,
-            agree: wrapping_add_u64(run.agree, 1),
-            disagree: run.disagree,
-            going: true,
-        };
+        return counted(run, 1, 0);
     }
-    disagreed(run, true)
+    if run.disagree < MOST_LINES {
+        report::disagrees(file, run.place, id);
+    }
+    counted(run, 0, 1)
 }
 
-// Reads a record's words, as many as `words` holds, compares it, and says where it disagrees.
+// Reads a record's words, as many as `words` holds, and compares it.
 fn next_words(fd: i32, file: &[u8], run: Run, id: u64, words: &mut [u8], held: &mut [u8]) -> Run {
     let got = io::read_full(fd, words);
     if got < words.len() {
-        report::cut(file, place(run));
-        return disagreed(run, false);
+        report::cut(file, run.place);
+        return spoilt(run);
     }
-    let agrees = lists::replay(id, words, held);
-    if !agrees && run.disagree < MOST_LINES {
-        report::disagrees(file, place(run), id);
-    }
-    counted(run, id, agrees)
+    compared(file, run, id, words, held)
 }
 
 // The same of a record whose words take `size` bytes.
@@ -97,8 +88,7 @@ fn sized_record(fd: i32, file: &[u8], run: Run, id: u64, size: usize, held: &mut
     next_words(fd, file, run, id, &mut space[..size], held)
 }
 
-// Reads and compares the next record, if there is one. What cannot be read counts as a record that disagrees, and nothing behind it
-// is read.
+// Reads and compares the next record, if there is one.
 fn next_record(fd: i32, file: &[u8], run: Run, held: &mut [u8]) -> Run {
     let mut head = [0u8; 4];
     let got = io::read_full(fd, &mut head);
@@ -106,14 +96,14 @@ fn next_record(fd: i32, file: &[u8], run: Run, held: &mut [u8]) -> Run {
         return ended(run);
     }
     if got < 4 {
-        report::cut(file, place(run));
-        return disagreed(run, false);
+        report::cut(file, run.place);
+        return spoilt(run);
     }
     let id = codec::read_be(&head, 0, 2);
     let words = codec::read_be(&head, 2, 2);
     if words > MOST_WORDS {
-        report::too_long(file, place(run), words);
-        return disagreed(run, false);
+        report::too_long(file, run.place, words);
+        return spoilt(run);
     }
     sized_record(fd, file, run, id, 8 * (words as usize), held)
 }
@@ -153,7 +143,7 @@ fn replay_file(i: usize) -> Run {
     let fd = os::open_read(&space[..length]);
     if fd < 0 {
         report::not_opened(&space[..length]);
-        return disagreed(fresh(), false);
+        return spoilt(fresh());
     }
     replay_open(fd, &space[..length])
 }
