@@ -1,27 +1,26 @@
-// Ids 40, 50 and 51: a substep, and lists of calls on one battery. Between the records of a list the battery is held as the words of
-// record 50: card, zones, five totals. Where they have no layers, every call is refused with 10, which no record has.
-mod calls;
+// What the program `vectors` needs besides the engine: ids 40 and 50, a call and its answer in words, and the lines that it writes.
+// Between the records of a list the battery is held as the words of record 50: card, zones, five totals. Where they have no layers,
+// every call is refused with 10, which no record has.
+pub mod calls;
+pub mod lines;
 mod substeps;
 
 use battery::Answer;
 use battery::Battery;
-use words::cards;
 ghost use Prim.Native.Nat.{_≤_};
 
 const ZONES: usize = 24;
 
-// Whether a record agrees, of which s has the words. One that starts a list compares nothing.
-pub fn replay(id: u64, s: &[u8], held: &mut [u8]) -> bool {
-    match id {
-        40 => substeps::substep(s),
-        50 => start(s, held),
-        51 => call(s, held),
-        _ => replays::replay(id, s),
+// Whether a record agrees, of which s has the words, unless it belongs to a list.
+pub fn replay(id: u64, s: &[u8]) -> bool {
+    if id == 40 {
+        return substeps::substep(s);
     }
+    replays::replay(id, s)
 }
 
 // Id 50.
-fn start(s: &[u8], held: &mut [u8]) -> bool {
+pub fn start(s: &[u8], held: &mut [u8]) {
     let n = words::count(s, 23);
     let shape = floats::both(words::has(s, n + 29), words::word_is(s, 0, n as u64));
     if floats::both(shape, n <= 64) {
@@ -29,7 +28,6 @@ fn start(s: &[u8], held: &mut [u8]) -> bool {
     } else {
         words::set_number(held, 0, 0.0);
     }
-    true
 }
 
 // None for a number of layers that no card has.
@@ -42,8 +40,8 @@ fn zones_of(layers: u8) -> usize
     0
 }
 
-fn battery(s: &[u8]) -> Battery {
-    let card = cards::read(s);
+pub fn battery(s: &[u8]) -> Battery {
+    let card = words::cards::read(s);
     let n = zones_of(card.layers);
     let zones = words::numbers(s, ZONES, n);
     Battery {
@@ -95,27 +93,17 @@ fn battery_is(s: &[u8], at: usize, b: Battery) -> bool
     floats::both(words::has(s, at + n + 5), state)
 }
 
-fn hold(held: &mut [u8], b: Battery) {
+pub fn hold(held: &mut [u8], b: Battery) {
     let zones = b.zones;
     let n = zones_of(b.count);
     words::set_numbers(held, ZONES, zones, n);
     words::set_numbers(held, ZONES + n, totals_of(b), 5);
 }
 
-fn advanced(s: &[u8], held: &[u8]) -> Answer {
-    let b = battery(held);
-    let call = calls::read(s);
-    engine::steps::advance(cards::VERSION, b, call)
-}
-
-// Id 51: a call on the battery held.
-fn call(s: &[u8], held: &mut [u8]) -> bool {
-    let at = calls::answer_at(s);
-    if at == 0 {
-        return false;
-    }
-    let a = advanced(s, held);
+// Whether the record has the answer, from word `at` on.
+pub fn answer_is(s: &[u8], at: usize, a: Answer) -> bool
+    requires { ⌜ at ≤ 16 ⌝ }
+{
     let b = a.battery;
-    hold(held, b);
     floats::both(numbers_are(s, at, a), battery_is(s, at + 6, b))
 }

@@ -1,13 +1,15 @@
 // Replays the vector files that its arguments name (oracle/VECTORS.md) and compares every answer bit for bit.
-mod report;
+mod calls;
 
+use lists::lines;
 use std::num::wrapping_add_u64;
 ghost use Prim.Native.Nat.{_≤_};
 
 const MOST_WORDS: u64 = 512;
 
-// The id whose records compare nothing.
-const STARTS_A_LIST: u64 = 50;
+// The ids of a list of calls. Its start compares nothing.
+const START: u64 = 50;
+const CALL: u64 = 51;
 
 // Disagreements of one file that get a line of their own.
 const MOST_LINES: u64 = 10;
@@ -55,17 +57,24 @@ fn spoilt(run: Run) -> Run {
     ended(counted(run, 0, 1))
 }
 
+fn agrees(id: u64, words: &[u8], held: &mut [u8]) -> bool {
+    if id == CALL {
+        return calls::call(words, held);
+    }
+    lists::replay(id, words)
+}
+
 // Compares a record, and says where it disagrees.
 fn compared(file: &[u8], run: Run, id: u64, words: &[u8], held: &mut [u8]) -> Run {
-    let agrees = lists::replay(id, words, held);
-    if id == STARTS_A_LIST {
+    if id == START {
+        lists::start(words, held);
         return counted(run, 0, 0);
     }
-    if agrees {
+    if agrees(id, words, held) {
         return counted(run, 1, 0);
     }
     if run.disagree < MOST_LINES {
-        report::disagrees(file, run.place, id);
+        lines::disagrees(file, run.place, id);
     }
     counted(run, 0, 1)
 }
@@ -74,7 +83,7 @@ fn compared(file: &[u8], run: Run, id: u64, words: &[u8], held: &mut [u8]) -> Ru
 fn next_words(fd: i32, file: &[u8], run: Run, id: u64, words: &mut [u8], held: &mut [u8]) -> Run {
     let got = io::read_full(fd, words);
     if got < words.len() {
-        report::cut(file, run.place);
+        lines::cut(file, run.place);
         return spoilt(run);
     }
     compared(file, run, id, words, held)
@@ -96,13 +105,13 @@ fn next_record(fd: i32, file: &[u8], run: Run, held: &mut [u8]) -> Run {
         return ended(run);
     }
     if got < 4 {
-        report::cut(file, run.place);
+        lines::cut(file, run.place);
         return spoilt(run);
     }
     let id = codec::read_be(&head, 0, 2);
     let words = codec::read_be(&head, 2, 2);
     if words > MOST_WORDS {
-        report::too_long(file, run.place, words);
+        lines::too_long(file, run.place, words);
         return spoilt(run);
     }
     sized_record(fd, file, run, id, 8 * (words as usize), held)
@@ -122,9 +131,9 @@ fn records(fd: i32, file: &[u8], held: &mut [u8]) -> Run {
 fn summary(file: &[u8], run: Run) {
     let disagree = run.disagree;
     if disagree > MOST_LINES {
-        report::more(file, disagree - MOST_LINES);
+        lines::more(file, disagree - MOST_LINES);
     }
-    report::counts(file, run.agree, disagree);
+    lines::counts(file, run.agree, disagree);
 }
 
 // An open file of this name.
@@ -142,7 +151,7 @@ fn replay_file(i: usize) -> Run {
     let length = os::arg(i, &mut space);
     let fd = os::open_read(&space[..length]);
     if fd < 0 {
-        report::not_opened(&space[..length]);
+        lines::not_opened(&space[..length]);
         return spoilt(fresh());
     }
     replay_open(fd, &space[..length])
@@ -157,5 +166,5 @@ fn main() {
         agree = wrapping_add_u64(agree, run.agree);
         disagree = wrapping_add_u64(disagree, run.disagree);
     }
-    report::counts(b"total", agree, disagree);
+    lines::counts(b"total", agree, disagree);
 }
