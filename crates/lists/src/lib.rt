@@ -40,6 +40,7 @@ fn zones_of(layers: u8) -> usize
     0
 }
 
+// The battery of the words held.
 pub fn battery(s: &[u8]) -> Battery {
     let card = words::cards::read(s);
     let n = zones_of(card.layers);
@@ -56,6 +57,7 @@ pub fn battery(s: &[u8]) -> Battery {
     }
 }
 
+// The five totals, and 0 above them.
 fn totals_of(b: Battery) -> [f64; 64] {
     let mut xs = [0.0; 64];
     xs[0] = b.total;
@@ -66,8 +68,9 @@ fn totals_of(b: Battery) -> [f64; 64] {
     xs
 }
 
+// The answer's numbers from word `at` on.
 fn numbers_are(s: &[u8], at: usize, a: Answer) -> bool
-    requires { ⌜ at ≤ 16 ⌝ }
+    requires { ⌜ at ≤ 512 ⌝ }
 {
     let run = floats::both(
         words::number_is(s, at + 4, a.time),
@@ -93,6 +96,7 @@ fn battery_is(s: &[u8], at: usize, b: Battery) -> bool
     floats::both(words::has(s, at + n + 5), state)
 }
 
+// Holds the battery after a call.
 pub fn hold(held: &mut [u8], b: Battery) {
     let zones = b.zones;
     let n = zones_of(b.count);

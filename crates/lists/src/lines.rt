@@ -2,13 +2,17 @@
 use libc::STDOUT_FILENO;
 
 // What VECTORS.md calls the ids from 1 to 8, from 20 to 31, 40 and 51.
-const NAMES: [u8; 217] = *b"finite nearly_equal max_zero min square sum2 ln truncate layer_energy soc_to_temp state_of_charge energy_required new_temperature simultaneous viscosity reynolds heat_transfer outlet zone_properties card substep lists";
+const NAMES: [u8; 217] =
+    *b"finite nearly_equal max_zero min square sum2 ln truncate layer_energy soc_to_temp state_of_charge energy_required new_temperature simultaneous viscosity reynolds heat_transfer outlet zone_properties card substep lists";
+
+// The number of names.
+const UNKNOWN: u64 = 22;
 
 // A record that disagrees, or whose id is none.
 pub fn disagrees(file: &[u8], vector: u64, id: u64) {
     start(file, vector);
     let k = name_of(id);
-    if k < 22 {
+    if k < UNKNOWN {
         io::write_all(STDOUT_FILENO, b" of ");
         say_word(&NAMES, k);
         io::write_all(STDOUT_FILENO, b" disagrees\n");
@@ -65,14 +69,14 @@ fn start(file: &[u8], vector: u64) {
     io::print_decimal(STDOUT_FILENO, vector);
 }
 
-// The place of the id's name, or one behind the last.
+// The place of the id's name.
 fn name_of(id: u64) -> u64 {
     match id {
         1..=8 => id - 1,
         20..=31 => id - 12,
         40 => 20,
         51 => 21,
-        _ => 22,
+        _ => UNKNOWN,
     }
 }
 

@@ -1,10 +1,10 @@
 // Ids 26 to 30: module 4. The function of an id answers whether a record agrees.
-use words::cards;
 use card::Card;
 use floats::Log;
 use water::Mode;
 use water::Shared;
 use water::ZoneProperties;
+use words::cards;
 use zone::Kilojoules;
 
 pub fn replay(id: u64, s: &[u8]) -> bool {

@@ -9,6 +9,7 @@ const MOST_WORDS: u64 = 512;
 
 // The ids of a list of calls. Its start compares nothing.
 const START: u64 = 50;
+
 const CALL: u64 = 51;
 
 // Disagreements of one file that get a line of their own.
@@ -108,8 +109,9 @@ fn next_record(fd: i32, file: &[u8], run: Run, held: &mut [u8]) -> Run {
         lines::cut(file, run.place);
         return spoilt(run);
     }
-    let id = codec::read_be(&head, 0, 2);
-    let words = codec::read_be(&head, 2, 2);
+    let front = codec::read_be(&head, 0, 4);
+    let id = front / 65536;
+    let words = front % 65536;
     if words > MOST_WORDS {
         lines::too_long(file, run.place, words);
         return spoilt(run);

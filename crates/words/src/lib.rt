@@ -79,7 +79,7 @@ pub fn number_is(s: &[u8], i: usize, x: f64) -> bool {
 
 // A mark and a value.
 pub fn marked_is(s: &[u8], i: usize, mark: u64, x: f64) -> bool
-    requires { ⌜ i ≤ 512 ⌝ }
+    requires { ⌜ i ≤ 1024 ⌝ }
 {
     floats::both(word_is(s, i, mark), number_is(s, i + 1, x))
 }
