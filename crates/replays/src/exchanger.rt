@@ -1,11 +1,10 @@
 // Ids 26 to 30: module 4. The function of an id answers whether a record agrees.
-use crate::cards;
-use crate::words;
 use card::Card;
 use floats::Log;
 use water::Mode;
 use water::Shared;
 use water::ZoneProperties;
+use words::cards;
 use zone::Kilojoules;
 
 pub fn replay(id: u64, s: &[u8]) -> bool {
@@ -19,22 +18,11 @@ pub fn replay(id: u64, s: &[u8]) -> bool {
     }
 }
 
-pub fn say_name(fd: i32, id: u64) -> bool {
-    match id {
-        26 => io::write_all(fd, b"viscosity"),
-        27 => io::write_all(fd, b"reynolds"),
-        28 => io::write_all(fd, b"heat_transfer"),
-        29 => io::write_all(fd, b"outlet"),
-        30 => io::write_all(fd, b"zone_properties"),
-        _ => false,
-    }
-}
-
 fn viscosity(s: &[u8]) -> bool {
     let inlet = words::number(s, 0);
     let outlet = words::number(s, 1);
     let r = water::calculate_water_kinematic_viscosity_m2_per_s(inlet, outlet);
-    floats::both(words::has(s, 3), words::number_is(s, 2, r))
+    words::ends_with(s, 2, r)
 }
 
 fn reynolds(s: &[u8]) -> bool {
@@ -42,7 +30,7 @@ fn reynolds(s: &[u8]) -> bool {
     let velocity = words::number(s, 1);
     let diameter = words::number(s, 2);
     let r = water::calculate_reynold_number_at_1_l_per_min(viscosity, velocity, diameter);
-    floats::both(words::has(s, 4), words::number_is(s, 3, r))
+    words::ends_with(s, 3, r)
 }
 
 // The heat transfer of a, b, flow and Reynolds number at the words given.
@@ -63,26 +51,13 @@ fn outlet(s: &[u8]) -> bool {
     let inlet = words::number(s, 2);
     let mass = words::number(s, 3);
     let r = water::calculate_outlet_temp_c(words::number(s, 0), zone, inlet, mass);
-    floats::both(words::has(s, 5), words::number_is(s, 4, r))
-}
-
-// Document 01's modes as VECTORS.md numbers them.
-pub fn mode_of(word: u64) -> Mode {
-    match word {
-        0 => Mode::OnlyCharging,
-        1 => Mode::Losses,
-        _ => Mode::Normal,
-    }
+    words::ends_with(s, 4, r)
 }
 
 fn properties_are(s: &[u8], mark: u64, p: ZoneProperties) -> bool {
-    let both = floats::both(
-        words::number_is(s, 34, p.energy.0),
-        words::number_is(s, 35, p.outlet),
-    );
     floats::both(
-        words::has(s, 36),
-        floats::both(words::word_is(s, 33, mark), both),
+        words::marked_is(s, 33, mark, p.energy.0),
+        words::ends_with(s, 35, p.outlet),
     )
 }
 
@@ -108,7 +83,7 @@ fn zone_properties(s: &[u8]) -> bool {
         return false;
     }
     let card = cards::read(&s[8..]);
-    let mode = mode_of(words::word(s, 0));
+    let mode = crate::mode_of(words::word(s, 0));
     match mode {
         Mode::OnlyCharging => properties_are(s, 1, properties(s, card, mode, 0.0)),
         Mode::Losses => properties_are(s, 1, properties(s, card, mode, 0.0)),

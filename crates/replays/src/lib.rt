@@ -1,47 +1,29 @@
-// The ids of oracle/VECTORS.md, each with the module that replays its records. A later layer adds its module here.
-pub mod cards;
+// The ids of oracle/VECTORS.md but those of lists, each with the module that replays its records.
+mod cards;
 mod exchanger;
 mod standins;
 mod substeps;
-pub mod words;
 mod zones;
 
-// What replaying one record shows.
-pub enum Outcome {
-    Agrees,
-    Disagrees,
-    UnknownId,
-}
+use water::Mode;
 
-fn outcome_of(agrees: bool) -> Outcome {
-    if agrees {
-        Outcome::Agrees
-    } else {
-        Outcome::Disagrees
+// Document 01's modes as VECTORS.md numbers them.
+fn mode_of(word: u64) -> Mode {
+    match word {
+        0 => Mode::OnlyCharging,
+        1 => Mode::Losses,
+        _ => Mode::Normal,
     }
 }
 
-// Replays a record, of which s has the words.
-pub fn replay(id: u64, s: &[u8]) -> Outcome {
+// Whether a record agrees, of which s has the words; none of another id does.
+pub fn replay(id: u64, s: &[u8]) -> bool {
     match id {
-        1..=8 => outcome_of(standins::replay(id, s)),
-        20..=25 => outcome_of(zones::replay(id, s)),
-        26..=30 => outcome_of(exchanger::replay(id, s)),
-        31 => outcome_of(cards::card(s)),
-        40 => outcome_of(substeps::substep(s)),
-        _ => Outcome::UnknownId,
-    }
-}
-
-// Writes what VECTORS.md calls the id.
-pub fn say_name(fd: i32, id: u64) -> bool {
-    match id {
-        1..=8 => standins::say_name(fd, id),
-        20..=25 => zones::say_name(fd, id),
-        26..=30 => exchanger::say_name(fd, id),
-        31 => io::write_all(fd, b"card"),
-        40 => io::write_all(fd, b"substep"),
-        51 => io::write_all(fd, b"lists"),
-        _ => io::print_decimal(fd, id),
+        1..=8 => standins::replay(id, s),
+        20..=25 => zones::replay(id, s),
+        26..=30 => exchanger::replay(id, s),
+        31 => cards::card(s),
+        40 => substeps::substep(s),
+        _ => false,
     }
 }

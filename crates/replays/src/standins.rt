@@ -1,5 +1,4 @@
 // Ids 1 to 8: document 01's stand-ins. The function of an id answers whether a record agrees.
-use crate::words;
 
 pub fn replay(id: u64, s: &[u8]) -> bool {
     match id {
@@ -11,20 +10,6 @@ pub fn replay(id: u64, s: &[u8]) -> bool {
         6 => sum2(s),
         7 => ln(s),
         8 => truncate(s),
-        _ => false,
-    }
-}
-
-pub fn say_name(fd: i32, id: u64) -> bool {
-    match id {
-        1 => io::write_all(fd, b"finite"),
-        2 => io::write_all(fd, b"nearly_equal"),
-        3 => io::write_all(fd, b"max_zero"),
-        4 => io::write_all(fd, b"min"),
-        5 => io::write_all(fd, b"square"),
-        6 => io::write_all(fd, b"sum2"),
-        7 => io::write_all(fd, b"ln"),
-        8 => io::write_all(fd, b"truncate"),
         _ => false,
     }
 }
@@ -43,24 +28,24 @@ fn nearly_equal(s: &[u8]) -> bool {
 
 fn max_zero(s: &[u8]) -> bool {
     let r = floats::max_zero(words::number(s, 0));
-    floats::both(words::has(s, 2), words::number_is(s, 1, r))
+    words::ends_with(s, 1, r)
 }
 
 fn min(s: &[u8]) -> bool {
     let r = floats::min(words::number(s, 0), words::number(s, 1));
-    floats::both(words::has(s, 3), words::number_is(s, 2, r))
+    words::ends_with(s, 2, r)
 }
 
 fn square(s: &[u8]) -> bool {
     let r = floats::square(words::number(s, 0));
-    floats::both(words::has(s, 2), words::number_is(s, 1, r))
+    words::ends_with(s, 1, r)
 }
 
 fn sum2(s: &[u8]) -> bool {
     let k = words::count(s, 0);
     if k <= 64 {
         let r = floats::sum_with_accumulator(words::numbers(s, 1, k), k);
-        return floats::both(words::has(s, k + 2), words::number_is(s, k + 1, r));
+        return words::ends_with(s, k + 1, r);
     }
     false
 }

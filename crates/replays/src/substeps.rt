@@ -1,7 +1,4 @@
 // Id 40: one substep over the zones, module 5.
-use crate::cards;
-use crate::exchanger;
-use crate::words;
 use substep::Drive;
 use substep::Fault;
 use substep::Substep;
@@ -14,7 +11,7 @@ fn drive(s: &[u8], n: usize) -> Drive
     requires { ⌜ n ≤ 64 ⌝ }
 {
     let at = n + FIRST_ZONE;
-    let mode = exchanger::mode_of(words::word(s, at));
+    let mode = crate::mode_of(words::word(s, at));
     Drive {
         mode,
         inlet: words::number(s, at + 1),
@@ -33,15 +30,9 @@ fn answer_is(s: &[u8], at: usize, n: usize, r: Substep) -> bool
     requires { ⌜ (at ≤ 256) × (n ≤ 64) ⌝ }
 {
     let zones = r.zones;
-    let water = floats::both(
-        words::number_is(s, at + 1, r.outlet),
-        words::number_is(s, at + 2, r.delivered.0),
-    );
-    let heat = floats::both(
-        words::number_is(s, at + 3, r.charged.0),
-        words::numbers_are(s, at + 4, zones, n),
-    );
-    floats::both(words::word_is(s, at, 0), floats::both(water, heat))
+    let heat = words::three_are(s, at + 1, r.outlet, r.delivered.0, r.charged.0);
+    let after = floats::both(heat, words::numbers_are(s, at + 4, zones, n));
+    floats::both(words::word_is(s, at, 0), after)
 }
 
 // A refusal, and zeros behind it.
@@ -67,7 +58,7 @@ fn outputs_are(s: &[u8], at: usize, n: usize, r: Substep) -> bool
 }
 
 pub fn substep(s: &[u8]) -> bool {
-    let card = cards::read(s);
+    let card = words::cards::read(s);
     if card.layers <= 64 {
         let n = card.layers as usize;
         let zones = words::numbers(s, FIRST_ZONE, n);

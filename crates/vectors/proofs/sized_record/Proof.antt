@@ -17,6 +17,9 @@ slice-aggregate-next-words c = sym (length-take-le _ _ (array-borrow-prefix-spac
 next-words-requires : tie.Need-next-words-requires
 next-words-requires c κs = search needs
 
+same-length : tie.Need-same-length
+same-length c = search needs
+
 returns : tie.Need-returns
 returns c = search needs
 
@@ -28,4 +31,5 @@ sized-record-spec =
     array-borrow-prefix-space
     slice-aggregate-next-words
     next-words-requires
+    same-length
     returns)

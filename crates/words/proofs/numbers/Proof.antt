@@ -1,8 +1,8 @@
--- `words::numbers` is safe and ends: k stays at most n.
+-- `numbers` is safe and ends: k stays at most n.
 use Prim.Native.Nat.{_≤_, _-_}
 use borrow.Author.Needs.{needs}
-use Rattle.replays.proofs.words.numbers.Statement.{statement}
-use Rattle.replays.proofs.words.numbers.Tie as tie
+use Rattle.words.proofs.numbers.Statement.{statement}
+use Rattle.words.proofs.numbers.Tie as tie
 
 abbrev Inv-loop : tie.InvT-loop
 Inv-loop s at n xs₀ k₀ xs k = k ≤ n

@@ -1,4 +1,6 @@
-// The words of a record: 8 bytes each, the highest byte first. A word behind the last one reads as 0.
+// The words of a record: 8 bytes each, the highest byte first. A word behind the last one reads as 0, and is not written.
+pub mod cards;
+
 use floats::Log;
 ghost use Prim.Native.Nat.{_≤_};
 
@@ -75,14 +77,35 @@ pub fn number_is(s: &[u8], i: usize, x: f64) -> bool {
     codec::bits_of(x) == codec::bits_of(number(s, i))
 }
 
+// A mark and a value.
+pub fn marked_is(s: &[u8], i: usize, mark: u64, x: f64) -> bool
+    requires { ⌜ i ≤ 1024 ⌝ }
+{
+    floats::both(word_is(s, i, mark), number_is(s, i + 1, x))
+}
+
 // A mark and a value; both 0 where the logarithm is refused.
 pub fn log_is(s: &[u8], i: usize, log: Log) -> bool
     requires { ⌜ i ≤ 512 ⌝ }
 {
     match log {
-        Log::Value(x) => floats::both(word_is(s, i, 1), number_is(s, i + 1, x)),
-        Log::Refused => floats::both(word_is(s, i, 0), word_is(s, i + 1, 0)),
+        Log::Value(x) => marked_is(s, i, 1, x),
+        Log::Refused => marked_is(s, i, 0, 0.0),
     }
+}
+
+pub fn three_are(s: &[u8], i: usize, x: f64, y: f64, z: f64) -> bool
+    requires { ⌜ i ≤ 512 ⌝ }
+{
+    let front = floats::both(number_is(s, i, x), number_is(s, i + 1, y));
+    floats::both(front, number_is(s, i + 2, z))
+}
+
+// The record ends with word i, and that is x.
+pub fn ends_with(s: &[u8], i: usize, x: f64) -> bool
+    requires { ⌜ i ≤ 512 ⌝ }
+{
+    floats::both(has(s, i + 1), number_is(s, i, x))
 }
 
 // The n words from `at` on are the first n of xs.
@@ -94,4 +117,26 @@ pub fn numbers_are(s: &[u8], at: usize, xs: [f64; 64], n: usize) -> bool
         same = floats::both(same, number_is(s, at + k, xs[k]));
     }
     same
+}
+
+// All words of a record that is not longer than s, from the first on.
+pub fn set(s: &mut [u8], record: &[u8]) {
+    if record.len() <= s.len() {
+        codec::put_bytes(s, 0, record);
+    }
+}
+
+pub fn set_number(s: &mut [u8], i: usize, x: f64) {
+    if i < s.len() / 8 {
+        codec::put_f64(s, 8 * i, x);
+    }
+}
+
+// The first n of xs, from word `at` on.
+pub fn set_numbers(s: &mut [u8], at: usize, xs: [f64; 64], n: usize)
+    requires { ⌜ (at ≤ 512) × (n ≤ 64) ⌝ }
+{
+    for k in 0..n {
+        set_number(s, at + k, xs[k]);
+    }
 }

@@ -1,18 +1,26 @@
 // The lines that the program writes. A vector is named by its place in its file, from 0, as `oracle alter` counts.
 use libc::STDOUT_FILENO;
 
+// What VECTORS.md calls the ids from 1 to 8, from 20 to 31, 40 and 51.
+const NAMES: [u8; 217] =
+    *b"finite nearly_equal max_zero min square sum2 ln truncate layer_energy soc_to_temp state_of_charge energy_required new_temperature simultaneous viscosity reynolds heat_transfer outlet zone_properties card substep lists";
+
+// The number of names.
+const UNKNOWN: u64 = 22;
+
+// A record that disagrees, or whose id is none.
 pub fn disagrees(file: &[u8], vector: u64, id: u64) {
     start(file, vector);
-    io::write_all(STDOUT_FILENO, b" of ");
-    replays::say_name(STDOUT_FILENO, id);
-    io::write_all(STDOUT_FILENO, b" disagrees\n");
-}
-
-pub fn unknown_id(file: &[u8], vector: u64, id: u64) {
-    start(file, vector);
-    io::write_all(STDOUT_FILENO, b" has the unknown id ");
-    io::print_decimal(STDOUT_FILENO, id);
-    io::write_all(STDOUT_FILENO, b"\n");
+    let k = name_of(id);
+    if k < UNKNOWN {
+        io::write_all(STDOUT_FILENO, b" of ");
+        say_word(&NAMES, k);
+        io::write_all(STDOUT_FILENO, b" disagrees\n");
+    } else {
+        io::write_all(STDOUT_FILENO, b" has the unknown id ");
+        io::print_decimal(STDOUT_FILENO, id);
+        io::write_all(STDOUT_FILENO, b"\n");
+    }
 }
 
 pub fn too_long(file: &[u8], vector: u64, words: u64) {
@@ -59,4 +67,30 @@ fn start(file: &[u8], vector: u64) {
     io::write_all(STDOUT_FILENO, file);
     io::write_all(STDOUT_FILENO, b": vector ");
     io::print_decimal(STDOUT_FILENO, vector);
+}
+
+// The place of the id's name.
+fn name_of(id: u64) -> u64 {
+    match id {
+        1..=8 => id - 1,
+        20..=31 => id - 12,
+        40 => 20,
+        51 => 21,
+        _ => UNKNOWN,
+    }
+}
+
+// The word behind k spaces.
+fn say_word(words: &[u8], k: u64) {
+    let mut left = k;
+    for i in 0..words.len() {
+        if words[i] == b' ' {
+            if left == 0 {
+                return;
+            }
+            left -= 1;
+        } else if left == 0 {
+            io::write_all(STDOUT_FILENO, &words[i..i + 1]);
+        }
+    }
 }

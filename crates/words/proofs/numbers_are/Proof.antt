@@ -1,8 +1,8 @@
--- `words::numbers_are` is safe and ends: k stays at most n.
+-- `numbers_are` is safe and ends: k stays at most n.
 use Prim.Native.Nat.{_≤_, _-_}
 use borrow.Author.Needs.{needs}
-use Rattle.replays.proofs.words.numbers_are.Statement.{statement}
-use Rattle.replays.proofs.words.numbers_are.Tie as tie
+use Rattle.words.proofs.numbers_are.Statement.{statement}
+use Rattle.words.proofs.numbers_are.Tie as tie
 
 abbrev Inv-loop : tie.InvT-loop
 Inv-loop s at n xs same₀ k₀ same k = k ≤ n

@@ -1,0 +1,20 @@
+// Id 51: a call on the battery that the last record left.
+use battery::Answer;
+use words::cards::VERSION;
+
+fn advanced(s: &[u8], held: &[u8]) -> Answer {
+    let b = lists::battery(held);
+    let call = lists::calls::read(s);
+    engine::steps::advance(VERSION, b, call)
+}
+
+pub fn call(s: &[u8], held: &mut [u8]) -> bool {
+    let at = lists::calls::answer_at(s);
+    if at == 0 {
+        return false;
+    }
+    let a = advanced(s, held);
+    let b = a.battery;
+    lists::hold(held, b);
+    lists::answer_is(s, at, a)
+}
