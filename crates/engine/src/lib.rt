@@ -1,4 +1,5 @@
 // The engine: document 01's steps. `advance` takes a battery and a call by value and gives the answer with the new battery.
+mod demand;
 pub mod steps;
 
 use battery::Demand;

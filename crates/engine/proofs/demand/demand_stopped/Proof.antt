@@ -2,8 +2,8 @@ use Rattle.delivery.proofs.InPlace.{demand-lies}
 use mathlib.Core.List.{[]}
 use Rattle.engine.specs.Steps.{demandTask}
 use borrow.Author.Needs.{needs}
-use Rattle.engine.proofs.steps.demand_stopped.Statement.{statement}
-use Rattle.engine.proofs.steps.demand_stopped.Tie as tie
+use Rattle.engine.proofs.demand.demand_stopped.Statement.{statement}
+use Rattle.engine.proofs.demand.demand_stopped.Tie as tie
 
 demand-task-requires : tie.Need-demand-task-requires
 demand-task-requires c κs = search needs

@@ -5,8 +5,8 @@ use Rattle.engine.specs.Steps.{demandEnergy}
 use Rattle.replies.proofs.Settled.{plain-refusal, plain-with}
 use mathlib.Core.Path.{_∙_, ap}
 use borrow.Author.Needs.{needs}
-use Rattle.engine.proofs.steps.demand_energy.Statement.{statement}
-use Rattle.engine.proofs.steps.demand_energy.Tie as tie
+use Rattle.engine.proofs.demand.demand_energy.Statement.{statement}
+use Rattle.engine.proofs.demand.demand_energy.Tie as tie
 
 plain-reply-requires : tie.Need-plain-reply-requires
 plain-reply-requires c κs = search needs

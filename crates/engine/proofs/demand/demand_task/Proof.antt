@@ -1,7 +1,7 @@
 use Rattle.engine.specs.Steps.{demandTask}
 use borrow.Author.Needs.{needs}
-use Rattle.engine.proofs.steps.demand_task.Statement.{statement}
-use Rattle.engine.proofs.steps.demand_task.Tie as tie
+use Rattle.engine.proofs.demand.demand_task.Statement.{statement}
+use Rattle.engine.proofs.demand.demand_task.Tie as tie
 
 derived-requires : tie.Need-derived-requires
 derived-requires c κs = search needs

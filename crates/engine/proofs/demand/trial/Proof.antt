@@ -4,8 +4,8 @@ use Rattle.replies.specs.Replies.{unlessRefused}
 use Rattle.replies.proofs.Settled.{trial-with}
 use mathlib.Core.Path.{_∙_, ap}
 use borrow.Author.Needs.{needs}
-use Rattle.engine.proofs.steps.trial.Statement.{statement}
-use Rattle.engine.proofs.steps.trial.Tie as tie
+use Rattle.engine.proofs.demand.trial.Statement.{statement}
+use Rattle.engine.proofs.demand.trial.Tie as tie
 
 demand-stopped-requires : tie.Need-demand-stopped-requires
 demand-stopped-requires c κs = search needs

@@ -3,8 +3,8 @@ use Rattle.engine.specs.Steps.{demandFrom}
 use Rattle.replies.proofs.Settled.{settled-refusal}
 use mathlib.Core.Path.{refl}
 use borrow.Author.Needs.{needs}
-use Rattle.engine.proofs.steps.demand_from.Statement.{statement}
-use Rattle.engine.proofs.steps.demand_from.Tie as tie
+use Rattle.engine.proofs.demand.demand_from.Statement.{statement}
+use Rattle.engine.proofs.demand.demand_from.Tie as tie
 
 service-class-requires : tie.Need-service-class-requires
 service-class-requires c κs = search needs

@@ -6,8 +6,8 @@ use Rattle.engine.proofs.FiniteZones.{demand-leaves-finite, left-finite
 use Rattle.replies.proofs.Settled.{committed-with}
 use mathlib.Core.Path.{_∙_, ap}
 use borrow.Author.Needs.{needs}
-use Rattle.engine.proofs.steps.committed.Statement.{statement}
-use Rattle.engine.proofs.steps.committed.Tie as tie
+use Rattle.engine.proofs.demand.committed.Statement.{statement}
+use Rattle.engine.proofs.demand.committed.Tie as tie
 
 demand-stopped-requires : tie.Need-demand-stopped-requires
 demand-stopped-requires c κs = search needs

@@ -2,8 +2,8 @@ use Rattle.engine.specs.Steps.{demandGiven}
 use Rattle.replies.proofs.Settled.{settled-refusal}
 use mathlib.Core.Path.{refl}
 use borrow.Author.Needs.{needs}
-use Rattle.engine.proofs.steps.demand_given.Statement.{statement}
-use Rattle.engine.proofs.steps.demand_given.Tie as tie
+use Rattle.engine.proofs.demand.demand_given.Statement.{statement}
+use Rattle.engine.proofs.demand.demand_given.Tie as tie
 
 enum-told : tie.Need-enum-told
 enum-told c = search needs

@@ -2,8 +2,8 @@ use mathlib.Core.Path.{refl}
 use Rattle.floats.proofs.Branch.{via-true, via-false}
 use Rattle.engine.specs.Steps.{demandPower}
 use borrow.Author.Needs.{needs}
-use Rattle.engine.proofs.steps.demand_power.Statement.{statement}
-use Rattle.engine.proofs.steps.demand_power.Tie as tie
+use Rattle.engine.proofs.demand.demand_power.Statement.{statement}
+use Rattle.engine.proofs.demand.demand_power.Tie as tie
 
 both-requires : tie.Need-both-requires
 both-requires c κs = search needs
