@@ -65,7 +65,7 @@ pub fn charge_battery_electric(l: Ledger, power: f64, target: f64, zones: &mut [
     let card = l.card;
     let pcm = card::derived(card);
     let drive = electric_drive(l, power, target);
-    let u = without_water::charge_in_place(card, pcm, drive, zones);
+    let u = charging_alone::charge_in_place(card, pcm, drive, zones);
     electric_ended(l, u)
 }
 
@@ -166,7 +166,7 @@ pub fn battery_heat_loss(l: Ledger, zones: &mut [f64; 64]) -> Stopped
     let card = l.card;
     let pcm = card::derived(card);
     let drive = loss_drive(l);
-    let u = without_water::lose_in_place(card, pcm, drive, zones);
+    let u = losses::lose_in_place(card, pcm, drive, zones);
     loss_ended(l, u)
 }
 

@@ -64,6 +64,10 @@ store-zero : (l : List Float) (j : ℕ) (e : Float) → getD l j nan ≡ Constan
 unfolding ofBits add
 store-zero l j e h g = rw (h, g) (ap (set l j) (sym h) ∙ set-getD l j nan)
 
+-- a zone's step where no water runs
+abbrev pub zoneStepOf : Float → Kilojoules → Kilojoules → KilowattHours → ZoneStep
+zoneStepOf t e q k = record { temperature = t; energy = e; outlet = Constants.zero; left = q; charged = k }
+
 -- charging alone gives no heat to the water
 pub no-energy : (x : Course) (s : Salt) (t inlet : Float) (q : Kilojoules) (e : KilowattHours) → x .mode ≡ OnlyCharging → zoneStep x s t inlet q e .energy .0 ≡ Constants.zero
 unfolding zoneStep zoneProperties

@@ -295,7 +295,7 @@ pub fn without_logarithm() -> Outcome
 }
 
 // A substep with water in place, without its energies: the engine's. The mode is written out, so that the loop is compiled for it alone;
-// `without_water` has the other two. `target` is the temperature of the drive's level.
+// `charging_alone` and `losses` have the others. `target` is the temperature of the drive's level.
 pub fn process_in_place(
     card: Card,
     pcm: HeatBatteryPcm,

@@ -2,8 +2,8 @@ use Rattle.substep.specs.Substep.{substepFrom}
 use Rattle.substep.proofs.Passes.{passed, without-logarithm-loss, course-mode}
 use mathlib.Core.Path.{refl, sym, _∙_}
 use borrow.Author.Needs.{needs}
-use Rattle.without_water.proofs.lose_in_place.Statement.{statement}
-use Rattle.without_water.proofs.lose_in_place.Tie as tie
+use Rattle.losses.proofs.lose_in_place.Statement.{statement}
+use Rattle.losses.proofs.lose_in_place.Tie as tie
 
 target-of-requires : tie.Need-target-of-requires
 target-of-requires c κs = search needs

@@ -1,5 +1,4 @@
-// Substeps without water, charging alone and losses, each in a loop of its own: a zone is asked less there than in the loop with water, and the
-// calls that run one such substep have the loop compiled in place.
+// Substeps of losses, in a loop of their own as those of charging alone.
 use card::Card;
 use card::HeatBatteryPcm;
 use floats::Sum2;
@@ -19,82 +18,6 @@ ghost use lib.Ieee.{Float, binary64, ofInt, lt};
 ghost use Rattle.floats.specs.Constants.{zero};
 ghost use Rattle.floats.specs.F64.{_⊘_};
 ghost use Rattle.substep.specs.Substep.{zoneStep, zonesAfter, passFrom, chargerHeat, outcomeOf, substepFrom, processHeatBatteryZones};
-
-// A zone's part of charging alone: nothing, where the charger's heat is used up.
-fn charging_step(
-    course: Course,
-    salt: Salt,
-    zone: f64,
-    left: Kilojoules,
-    charged: KilowattHours,
-) -> ZoneStep
-    requires { ⌜ course .mode ≡ Mode.OnlyCharging ⌝ }
-    ensures { λ r. ⌜ ((inlet : Float) → r ≡ zoneStep course salt zone inlet left charged) ⌝ }
-{
-    if left.0 < 0.0 {
-        let c = charging::charge_zone_alone(salt, zone, course.target, left, charged);
-        let heat = c.heat;
-        let update = update::calculate_new_zone_temperature(salt, zone, heat);
-        let left = c.left;
-        let charged = c.charged;
-        return ZoneStep {
-            temperature: update.temperature,
-            energy: Kilojoules(0.0),
-            outlet: 0.0,
-            left,
-            charged,
-        };
-    }
-    ZoneStep {
-        temperature: zone,
-        energy: Kilojoules(0.0),
-        outlet: 0.0,
-        left,
-        charged,
-    }
-}
-
-// The zones from the last to the first. No heat goes to the water, so there is nothing to sum.
-fn charge_zones(card: Card, course: Course, d: Drive, zones: &mut [f64; 64]) -> Outcome
-    requires { ⌜ (card .layers ≤ 64) × (course .mode ≡ Mode.OnlyCharging) ⌝ }
-    ensures { λ r. ⌜ (now (zones .exit) ≡ zonesAfter course (card .layers) (card .layers) (passFrom d (now (zones .entry))) .zones) × (r ≡ outcomeOf (substepFrom card (zonesAfter course (card .layers) (card .layers) (passFrom d (now (zones .entry)))))) ⌝ }
-{
-    let n = card.layers as usize;
-    let mode = course.mode;
-    let own = course.salt;
-    let mut outlet = d.inlet;
-    let mut left = substep::charger_heat(d);
-    let mut charged = KilowattHours(0.0);
-    // equals 0 as long as each zone is finite
-    let mut spread = 0.0;
-    for k in 0..n {
-        let j = substep::zone_index(mode, n, k);
-        let salt = zone::layer::zone_salt(own, j);
-        let z = charging_step(course, salt, zones[j], left, charged);
-        zones[j] = z.temperature;
-        spread = floats::finite_step(spread, zones[j]);
-        outlet = z.outlet;
-        left = z.left;
-        charged = z.charged;
-    }
-    let fault = substep::pass_fault(spread == 0.0, outlet, 0.0, charged);
-    Outcome {
-        outlet,
-        delivered: Kilojoules(0.0),
-        charged,
-        fault,
-    }
-}
-
-// A substep of charging alone, in place.
-pub fn charge_in_place(card: Card, pcm: HeatBatteryPcm, d: Drive, zones: &mut [f64; 64]) -> Outcome
-    requires { ⌜ (card .layers ≤ 64) × (d .mode ≡ Mode.OnlyCharging) ⌝ }
-    ensures { λ r. ⌜ (now (zones .exit) ≡ processHeatBatteryZones card pcm d (now (zones .entry)) .zones) × (r ≡ outcomeOf (processHeatBatteryZones card pcm d (now (zones .entry)))) ⌝ }
-{
-    let target = substep::target_of(card, pcm, d.target);
-    let course = substep::course_of(Mode::OnlyCharging, card, pcm, d, target, 0.0);
-    charge_zones(card, course, d, zones)
-}
 
 // A zone's loss. `share` is a layer's part of the heat that is lost at the rated difference.
 fn loss_step(

@@ -1,7 +1,7 @@
-use Rattle.without_water.proofs.Steps.{charging-on, charging-off}
+use Rattle.charging_alone.proofs.Steps.{charging-on, charging-off}
 use borrow.Author.Needs.{needs}
-use Rattle.without_water.proofs.charging_step.Statement.{statement}
-use Rattle.without_water.proofs.charging_step.Tie as tie
+use Rattle.charging_alone.proofs.charging_step.Statement.{statement}
+use Rattle.charging_alone.proofs.charging_step.Tie as tie
 
 charge-zone-alone-requires : tie.Need-charge-zone-alone-requires
 charge-zone-alone-requires c κs = search needs

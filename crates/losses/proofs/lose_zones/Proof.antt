@@ -1,11 +1,11 @@
 use Rattle.substep.proofs.OneLoop.{Underway, startOf, underway-start, underway-end}
-use Rattle.without_water.proofs.Steps.{upward, losing-more}
+use Rattle.losses.proofs.Steps.{upward, losing-more}
 use mathlib.Core.Path.{refl}
 use Prim.Native.Nat.{_≤_, _-_}
 use native.Mathlib.Omega.{arith}
 use borrow.Author.Needs.{needs}
-use Rattle.without_water.proofs.lose_zones.Statement.{statement}
-use Rattle.without_water.proofs.lose_zones.Tie as tie
+use Rattle.losses.proofs.lose_zones.Statement.{statement}
+use Rattle.losses.proofs.lose_zones.Tie as tie
 
 abbrev Inv-loop : tie.InvT-loop
 Inv-loop course zones₀ n own left charged share outlet₀ sum₀ spread₀ k₀ zones outlet sum spread k =

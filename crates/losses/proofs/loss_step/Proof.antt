@@ -1,7 +1,7 @@
-use Rattle.without_water.proofs.Steps.{loss-of}
+use Rattle.losses.proofs.Steps.{loss-of}
 use borrow.Author.Needs.{needs}
-use Rattle.without_water.proofs.loss_step.Statement.{statement}
-use Rattle.without_water.proofs.loss_step.Tie as tie
+use Rattle.losses.proofs.loss_step.Statement.{statement}
+use Rattle.losses.proofs.loss_step.Tie as tie
 
 max-zero-requires : tie.Need-max-zero-requires
 max-zero-requires c κs = search needs
