@@ -6,7 +6,6 @@ use substep::Course;
 use substep::Drive;
 use substep::Outcome;
 use substep::Substep;
-use zone::Kilojoules;
 use zone::KilowattHours;
 ghost use mathlib.Core.Path.{_≡_};
 ghost use Prim.Native.Nat.{_≤_};
