@@ -3,8 +3,7 @@ use card::Card;
 ghost use mathlib.Core.Path.{_≡_};
 ghost use Prim.Native.Nat.{_≤_};
 ghost use Rattle.battery.specs.Battery.{fresh as freshOf, zonesFinite, batteryAccepted};
-ghost use Rattle.battery.specs.Answer.{refusedWith, answerFinite};
-ghost use Rattle.battery.specs.Ledger.{whole, answerWith, finiteTotals, numbersFinite, ledgerOf, plainReply, refusedReply};
+ghost use Rattle.battery.specs.Ledger.{whole, finiteTotals, ledgerOf};
 
 #[repr(C)]
 pub struct Battery {
@@ -144,7 +143,7 @@ pub fn zones_finite(zones: &[f64; 64], n: usize) -> bool
     ok
 }
 
-fn totals_finite(t: Totals) -> bool
+pub fn totals_finite(t: Totals) -> bool
     ensures { λ r. ⌜ r ≡ finiteTotals t ⌝ }
 {
     floats::both(
@@ -216,79 +215,4 @@ pub fn is_accepted(version: u8, l: Ledger, zones: &[f64; 64]) -> bool
         return false;
     }
     false
-}
-
-// A refusal line: the battery stays.
-pub fn refused(refusal: u8, b: Battery) -> Answer
-    ensures { λ r. ⌜ r ≡ refusedWith refusal b ⌝ }
-{
-    Answer {
-        refusal,
-        energy: 0.0,
-        mark: 0,
-        outlet: 0.0,
-        time: 0.0,
-        substeps: 0,
-        battery: b,
-    }
-}
-
-// A refusal where the zones lie elsewhere.
-pub fn refused_reply(refusal: u8) -> Reply
-    ensures { λ r. ⌜ r ≡ refusedReply refusal ⌝ }
-{
-    let totals = Totals {
-        total: 0.0,
-        pump: 0.0,
-        direct: 0.0,
-        charged: 0.0,
-        electric: 0.0,
-    };
-    Reply {
-        refusal,
-        energy: 0.0,
-        mark: 0,
-        outlet: 0.0,
-        time: 0.0,
-        substeps: 0,
-        totals,
-    }
-}
-
-// An answer that ran no substep and has no outlet.
-pub fn plain_reply(energy: f64, totals: Totals) -> Reply
-    ensures { λ r. ⌜ r ≡ plainReply energy totals ⌝ }
-{
-    Reply {
-        refusal: 0,
-        energy,
-        mark: 0,
-        outlet: 0.0,
-        time: 0.0,
-        substeps: 0,
-        totals,
-    }
-}
-
-// Whether every reported number and total is finite, but for the zones.
-pub fn numbers_finite(a: Reply) -> bool
-    ensures { λ r. ⌜ r ≡ numbersFinite a ⌝ }
-{
-    let totals = a.totals;
-    floats::both(
-        floats::is_finite(a.energy),
-        floats::both(
-            floats::is_finite(a.outlet),
-            floats::both(floats::is_finite(a.time), totals_finite(totals)),
-        ),
-    )
-}
-
-// Whether every reported number and total is finite.
-pub fn reply_finite(l: Ledger, a: Reply, zones: &[f64; 64]) -> bool
-    requires { ⌜ l .card .layers ≤ 64 ⌝ }
-    ensures { λ r. ⌜ r ≡ answerFinite (answerWith l a (now (zones .entry))) ⌝ }
-{
-    let n = l.card.layers as usize;
-    floats::both(numbers_finite(a), zones_finite(zones, n))
 }

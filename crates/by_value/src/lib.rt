@@ -82,7 +82,7 @@ pub fn process_heat_battery_zones(
     let target = substep::target_of(card, pcm, d.target);
     let course = substep::course_of(mode, card, pcm, d, target, u);
     let mut after = zones;
-    let o = substep::pass_in_place(card, course, d, &mut after);
+    let o = passes::pass_in_place(card, course, d, &mut after);
     let energies = zone_energies(card, course, d, zones);
     with_arrays(o, after, energies)
 }

@@ -63,7 +63,7 @@ pub fn charge_battery_electric(l: Ledger, power: f64, target: f64, zones: &mut [
     ensures { λ r. ⌜ EndedLies r (now (zones .exit)) (chargeElectric (whole l (now (zones .entry))) power target) ⌝ }
 {
     let card = l.card;
-    let pcm = card::derived(card);
+    let pcm = pcm::derived(card);
     let drive = electric_drive(l, power, target);
     let u = charging_alone::charge_in_place(card, pcm, drive, zones);
     electric_ended(l, u)
@@ -73,7 +73,7 @@ fn hydronic_task(l: Ledger, wet: Exchanger, target: f64) -> HydronicTask
     ensures { λ r. ⌜ ((zones : List Float) → r ≡ hydronicTask (whole l zones) wet target) ⌝ }
 {
     let card = l.card;
-    let pcm = card::derived(card);
+    let pcm = pcm::derived(card);
     let limit = KilowattHours(wet.limit).kilojoules();
     HydronicTask {
         card,
@@ -164,7 +164,7 @@ pub fn battery_heat_loss(l: Ledger, zones: &mut [f64; 64]) -> Stopped
     ensures { λ r. ⌜ EndedLies r (now (zones .exit)) (batteryHeatLoss (whole l (now (zones .entry)))) ⌝ }
 {
     let card = l.card;
-    let pcm = card::derived(card);
+    let pcm = pcm::derived(card);
     let drive = loss_drive(l);
     let u = losses::lose_in_place(card, pcm, drive, zones);
     loss_ended(l, u)
@@ -177,7 +177,7 @@ fn energy_deficit(card: Card, most: Given, current: Kilojoules, wanted: Kilojoul
     match most {
         Given::Absent => Kilojoules(wanted.0 - current.0),
         Given::Value(t) => {
-            let hottest = card::energy_at(card, t);
+            let hottest = pcm::energy_at(card, t);
             let flow = floats::max_zero(hottest.0 - current.0);
             let least = floats::min(wanted.0 - current.0, flow);
             Kilojoules(least)
@@ -195,7 +195,7 @@ pub fn calculate_charge_energy_demand(
     ensures { λ r. ⌜ ((zones : List Float) → r ≡ chargeEnergyDemand (whole l zones) most target soc) ⌝ }
 {
     let card = l.card;
-    let pcm = card::derived(card);
+    let pcm = pcm::derived(card);
     let stored = pcm.stored;
     if soc > target {
         return KilowattHours(0.0);

@@ -191,7 +191,7 @@ fn demand_substep(x: DemandTask, s: Pace, target: f64, zones: &mut [f64; 64]) ->
     let drive = demand_drive(x, s);
     let card = x.card;
     let pcm = x.pcm;
-    let u = substep::process_in_place(card, pcm, drive, target, zones);
+    let u = passes::process_in_place(card, pcm, drive, target, zones);
     let fault = u.fault;
     match fault {
         Fault::Nothing => demand_delivered(x, s, u),

@@ -25,7 +25,8 @@ use Rattle.runs.specs.Charge.{chargeBattery, batteryHeatLoss, chargeEnergyDeman
 use Rattle.runs.specs.declared.Ended.{Ended}
 use Rattle.runs.specs.declared.Source.{Source}
 use Rattle.runs.specs.declared.Source.the-variants.{Electric}
-use Rattle.replies.specs.Replies.{checked, unlessRefused, serviceClass, unserved, demandAnswer, runAnswer, chargedBattery, cooledBattery, closedBattery}
+use Rattle.totals.specs.Totals.{serviceClass, unserved}
+use Rattle.replies.specs.Replies.{checked, unlessRefused, demandAnswer, runAnswer, chargedBattery, cooledBattery, closedBattery}
 use Rattle.engine.specs.Steps.{demandFrom, demandGiven, demandEnergy, charge, heatLoss, level, readLevel, demandToLevel, wetSource, stepOf}
 use Rattle.engine.specs.Faults.{demandRunOf, AnswerNotFinite, NoDemandNotFinite, LevelNotFinite}
 use Rattle.engine.proofs.Promises.{refused-number}

@@ -31,7 +31,7 @@ fn demand_task(l: Ledger, d: Demand, feed: f64) -> DemandTask
     ensures { λ r. ⌜ ((zones : List Float) → r ≡ demandTask (whole l zones) d feed) ⌝ }
 {
     let card = l.card;
-    let pcm = card::derived(card);
+    let pcm = pcm::derived(card);
     let power = demand_power(card, d.control);
     let units = card.units as f64;
     let hours = runs::time_available(l, d.start);
@@ -64,8 +64,8 @@ fn committed(l: Ledger, d: Demand, feed: f64, zones: &mut [f64; 64]) -> Reply
 {
     let s = demand_stopped(l, d, feed, zones);
     let card = l.card;
-    let class = replies::service_class(card, d.service);
-    let totals = replies::served_totals(l, class, s);
+    let class = totals::service_class(card, d.service);
+    let totals = totals::served_totals(l, class, s);
     let a = replies::demand_reply(l, s, totals);
     let end = s.end;
     replies::unless_refused(end, a)
@@ -89,9 +89,9 @@ fn demand_from(l: Ledger, d: Demand, feed: f64, zones: &mut [f64; 64]) -> Reply
     ensures { λ r. ⌜ settled l (now (zones .entry)) r (now (zones .exit)) ≡ demandFrom (whole l (now (zones .entry))) d feed ⌝ }
 {
     let card = l.card;
-    let class = replies::service_class(card, d.service);
-    if floats::both(d.commit, replies::unserved(class)) {
-        return battery::refused_reply(21);
+    let class = totals::service_class(card, d.service);
+    if floats::both(d.commit, totals::unserved(class)) {
+        return answers::refused_reply(21);
     }
     if d.commit {
         return committed(l, d, feed, zones);
@@ -104,7 +104,7 @@ fn demand_given(l: Ledger, d: Demand, given: Given, zones: &mut [f64; 64]) -> Re
     ensures { λ r. ⌜ settled l (now (zones .entry)) r (now (zones .exit)) ≡ demandGiven (whole l (now (zones .entry))) d given ⌝ }
 {
     match given {
-        Given::Absent => battery::refused_reply(20),
+        Given::Absent => answers::refused_reply(20),
         Given::Value(feed) => demand_from(l, d, feed, zones),
     }
 }
@@ -115,7 +115,7 @@ pub fn demand_energy(l: Ledger, d: Demand, zones: &mut [f64; 64]) -> Reply
 {
     if d.required <= floats::TOLERANCE {
         let totals = l.totals;
-        let a = battery::plain_reply(0.0, totals);
+        let a = answers::plain_reply(0.0, totals);
         return replies::checked(l, a, zones);
     }
     let given = d.feed;

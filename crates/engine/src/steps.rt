@@ -29,7 +29,7 @@ fn charge(l: Ledger, source: Source, target: f64, zones: &mut [f64; 64]) -> Repl
     ensures { λ r. ⌜ settled l (now (zones .entry)) r (now (zones .exit)) ≡ chargeOf (whole l (now (zones .entry))) source target ⌝ }
 {
     let s = charges::charge_battery(l, source, target, zones);
-    let totals = replies::charged_totals(l, s);
+    let totals = totals::charged_totals(l, s);
     let a = replies::run_reply(s, totals);
     let end = s.end;
     replies::unless_refused(end, a)
@@ -51,7 +51,7 @@ fn level(l: Ledger, zones: &[f64; 64]) -> StateOfCharge
     ensures { λ r. ⌜ r ≡ levelOf (whole l (now (zones .entry))) ⌝ }
 {
     let card = l.card;
-    let pcm = card::derived(card);
+    let pcm = pcm::derived(card);
     let salt = pcm.salt;
     let stored = pcm.stored;
     let n = card.layers as usize;
@@ -64,10 +64,10 @@ fn read_level(l: Ledger, level: StateOfCharge, zones: &[f64; 64]) -> Reply
     ensures { λ r. ⌜ settled l (now (zones .entry)) r (now (zones .entry)) ≡ readLevel (whole l (now (zones .entry))) level ⌝ }
 {
     match level {
-        StateOfCharge::Above => battery::refused_reply(25),
+        StateOfCharge::Above => answers::refused_reply(25),
         StateOfCharge::Level(soc) => {
             let totals = l.totals;
-            let a = battery::plain_reply(soc, totals);
+            let a = answers::plain_reply(soc, totals);
             replies::checked(l, a, zones)
         }
     }
@@ -84,11 +84,11 @@ fn demand_to_level(
     ensures { λ r. ⌜ settled l (now (zones .entry)) r (now (zones .entry)) ≡ demandToLevel (whole l (now (zones .entry))) most target level ⌝ }
 {
     match level {
-        StateOfCharge::Above => battery::refused_reply(25),
+        StateOfCharge::Above => answers::refused_reply(25),
         StateOfCharge::Level(soc) => {
             let energy = charges::calculate_charge_energy_demand(l, most, target, soc);
             let totals = l.totals;
-            let a = battery::plain_reply(energy.0, totals);
+            let a = answers::plain_reply(energy.0, totals);
             replies::checked(l, a, zones)
         }
     }
@@ -132,8 +132,8 @@ fn close_timestep(l: Ledger, zones: &[f64; 64]) -> Reply
     requires { ⌜ l .card .layers ≤ 64 ⌝ }
     ensures { λ r. ⌜ settled l (now (zones .entry)) r (now (zones .entry)) ≡ closed (whole l (now (zones .entry))) ⌝ }
 {
-    let totals = replies::closed_totals(l);
-    let a = battery::plain_reply(0.0, totals);
+    let totals = totals::closed_totals(l);
+    let a = answers::plain_reply(0.0, totals);
     replies::checked(l, a, zones)
 }
 
@@ -180,7 +180,7 @@ pub fn advance_in_place(version: u8, l: Ledger, call: Call, zones: &mut [f64; 64
         let what = asked(call);
         return step(l, what, zones);
     }
-    battery::refused_reply(10)
+    answers::refused_reply(10)
 }
 
 // The same by value.
@@ -212,5 +212,5 @@ pub fn advance(version: u8, b: Battery, call: Call) -> Answer
             battery,
         };
     }
-    battery::refused(a.refusal, b)
+    answers::refused(a.refusal, b)
 }

@@ -118,7 +118,7 @@ fn replayed(
     }
     let drive = wet_drive(x, seconds, reynold);
     let pcm = x.pcm;
-    let u = substep::process_in_place(card, pcm, drive, target, zones);
+    let u = passes::process_in_place(card, pcm, drive, target, zones);
     let fault = u.fault;
     replay_by(x, n + 1, s, seconds, reynold, u, fault)
 }
@@ -195,7 +195,7 @@ fn hydronic_step(x: HydronicTask, n: u32, s: WetPace, target: f64, zones: &mut [
     let drive = wet_drive(x, card.substep, s.reynold);
     let pcm = x.pcm;
     let before = *zones;
-    let u = substep::process_in_place(card, pcm, drive, target, zones);
+    let u = passes::process_in_place(card, pcm, drive, target, zones);
     let fault = u.fault;
     match fault {
         Fault::Nothing => hydronic_whole(x, n + 1, s, u, before, target, zones),
@@ -215,7 +215,7 @@ fn hydronic_step(x: HydronicTask, n: u32, s: WetPace, target: f64, zones: &mut [
 pub fn whole_substeps(x: HydronicTask) -> u64
     ensures { λ r. ⌜ r ≡ wholeSubsteps x ⌝ }
 {
-    floats::truncate(x.wet.hours * floats::SECONDS_PER_HOUR / x.card.substep)
+    bits::truncate(x.wet.hours * floats::SECONDS_PER_HOUR / x.card.substep)
 }
 
 // At most `steps` whole substeps from `start` on.

@@ -14,7 +14,7 @@ pub fn card(s: &[u8]) -> bool {
     let refusal = card_verdict::refusal(VERSION, card);
     let first = floats::both(words::has(s, 30), words::word_is(s, 23, refusal as u64));
     if refusal == 0 {
-        return floats::both(first, derived_is(s, card::derived(card)));
+        return floats::both(first, derived_is(s, pcm::derived(card)));
     }
     floats::both(first, words::numbers_are(s, 24, [0.0; 64], 6))
 }

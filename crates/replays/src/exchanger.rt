@@ -63,7 +63,7 @@ fn properties_are(s: &[u8], mark: u64, p: ZoneProperties) -> bool {
 
 // Of a zone with its share of the heat transfer.
 fn properties(s: &[u8], card: Card, mode: Mode, share: f64) -> ZoneProperties {
-    let pcm = card::derived(card);
+    let pcm = pcm::derived(card);
     let mass = water::mass_flow(words::number(s, 30));
     let shared = Shared {
         layers: card.layers,

@@ -51,11 +51,11 @@ fn sum2(s: &[u8]) -> bool {
 }
 
 fn ln(s: &[u8]) -> bool {
-    let r = floats::ln(words::number(s, 0));
+    let r = bits::ln(words::number(s, 0));
     floats::both(words::has(s, 3), words::log_is(s, 1, r))
 }
 
 fn truncate(s: &[u8]) -> bool {
-    let r = floats::truncate(words::number(s, 0));
+    let r = bits::truncate(words::number(s, 0));
     floats::both(words::has(s, 2), words::word_is(s, 1, r))
 }

@@ -63,7 +63,7 @@ pub fn substep(s: &[u8]) -> bool {
         let n = card.layers as usize;
         let zones = words::numbers(s, FIRST_ZONE, n);
         let d = drive(s, n);
-        let r = by_value::process_heat_battery_zones(card, card::derived(card), d, zones);
+        let r = by_value::process_heat_battery_zones(card, pcm::derived(card), d, zones);
         let shape = floats::both(words::has(s, 37 + 2 * n), words::word_is(s, 23, n as u64));
         return floats::both(shape, outputs_are(s, n + 33, n, r));
     }

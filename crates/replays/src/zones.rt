@@ -40,7 +40,7 @@ fn layer_energy(s: &[u8]) -> bool {
 
 fn soc_to_temp(s: &[u8]) -> bool {
     let card = cards::read(s);
-    let own = card::salt_of(card);
+    let own = pcm::salt_of(card);
     let r = zone::layer::soc_to_temp(own, card.reference, card.max, words::number(s, 23));
     words::ends_with(s, 24, r)
 }
@@ -59,7 +59,7 @@ fn state_of_charge(s: &[u8]) -> bool {
     let card = cards::read(s);
     if card.layers <= 64 {
         let n = card.layers as usize;
-        let pcm = card::derived(card);
+        let pcm = pcm::derived(card);
         let own = pcm.salt;
         let stored = pcm.stored;
         let zones = words::numbers(s, 24, n);

@@ -18,9 +18,11 @@ use Rattle.runs.specs.declared.Stopped.{Stopped}
 use Rattle.runs.specs.declared.Ended.{Ended}
 use Rattle.runs.specs.Runs.{endRefusal}
 use Rattle.runs.specs.Apart.{endedWith, EndedLies}
-use Rattle.replies.specs.declared.ServiceClass.{ServiceClass}
-use Rattle.replies.specs.Apart.{demandReply, runReply, servedTotals, chargedTotals, closedTotals}
-use Rattle.replies.specs.Replies.{checked, unlessRefused, serviceClass, served, demandKept, demandAnswer, chargedBattery, cooledBattery, runAnswer, closedBattery}
+use Rattle.totals.specs.declared.ServiceClass.{ServiceClass}
+use Rattle.totals.specs.Totals.{servedTotals, chargedTotals, closedTotals}
+use Rattle.replies.specs.Apart.{demandReply, runReply}
+use Rattle.totals.specs.Totals.{serviceClass}
+use Rattle.replies.specs.Replies.{checked, unlessRefused, served, demandKept, demandAnswer, chargedBattery, cooledBattery, runAnswer, closedBattery}
 
 module _ (l : Ledger) (before zones : List Float) (r : Reply) where
   pub settled-answer : r .refusal ≡ 0 → settled l before r zones ≡ answerWith l r zones

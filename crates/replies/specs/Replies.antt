@@ -1,6 +1,5 @@
 -- Document 01: what the steps answer behind a run, and the battery that it leaves.
-use Prim.Native.Nat.{ℕ}
-use mathlib.Core.Bool.{Bool, true, false, cond}
+use mathlib.Core.Bool.{cond}
 use lib.Dec.{eqb}
 use lib.IntN.{pos}
 use lib.Ieee.{Float, binary64, ofInt}
@@ -13,8 +12,8 @@ use Rattle.battery.specs.Answer.{refusedWith, answerFinite}
 use Rattle.battery.specs.declared.Battery.{Battery}
 use Rattle.battery.specs.declared.Demand.{Demand}
 use Rattle.battery.specs.declared.Answer.{Answer}
-use Rattle.replies.specs.declared.ServiceClass.{ServiceClass}
-use Rattle.replies.specs.declared.ServiceClass.the-variants.{Combi, Regular, Space, Direct}
+use Rattle.totals.specs.declared.ServiceClass.{ServiceClass}
+use Rattle.totals.specs.Totals.{serviceClass, pumpAfter, directAfter}
 use Rattle.delivery.specs.declared.Run.{Run}
 use Rattle.runs.specs.declared.Ended.{Ended}
 use Rattle.runs.specs.Runs.{endRefusal, reynoldBetween}
@@ -26,29 +25,6 @@ checked b a = cond (answerFinite a) a (refusedWith 23 b)
 -- an answer of a run, unless it ended in 22, 23 or 24
 unfoldable pub unlessRefused : Battery → Ended → Answer → Answer
 unlessRefused b r a = cond (eqb (endRefusal (r .end)) 0) (checked b a) (refusedWith (endRefusal (r .end)) b)
-
--- 'type (u8: 0 combi, 1 regular, 2 space, 3 direct)'
-unfoldable pub serviceClass : Card → ℕ → ServiceClass
-serviceClass c service = cond (eqb service 1) Regular (cond (eqb service 2) Space (cond (eqb service 3) Direct Combi))
-
--- the Rust has no running time for a combi
-unfoldable pub unserved : ServiceClass → Bool
-unserved Combi = true
-unserved Regular = false
-unserved Space = false
-unserved Direct = false
-
-unfoldable pub pumpAfter : ServiceClass → Float → Float → Float
-pumpAfter Combi pump hours = pump
-pumpAfter Regular pump hours = pump ⊕ hours
-pumpAfter Space pump hours = pump ⊕ hours
-pumpAfter Direct pump hours = pump
-
-unfoldable pub directAfter : ServiceClass → Float → Float → Float
-directAfter Combi direct hours = direct
-directAfter Regular direct hours = direct
-directAfter Space direct hours = direct
-directAfter Direct direct hours = direct ⊕ hours
 
 abbrev pub unitsOf : Card → Float
 unitsOf c = ofInt binary64 (pos (c .units))

@@ -65,7 +65,7 @@ pub fn mass_flow(flow: f64) -> f64
 pub fn calculate_heat_transfer_kw_per_k(a: f64, b: f64, flow: f64, reynold: f64) -> Log
     ensures { λ r. ⌜ r ≡ heatTransfer a b flow reynold ⌝ }
 {
-    let log = floats::ln(reynold * flow);
+    let log = bits::ln(reynold * flow);
     match log {
         Log::Value(l) => Log::Value((a * l + b) / floats::WATTS_PER_KILOWATT),
         Log::Refused => Log::Refused,

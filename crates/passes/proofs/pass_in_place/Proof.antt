@@ -1,0 +1,102 @@
+use Rattle.substep.proofs.OneLoop.{Underway, startOf, underway-start, underway-more, underway-end}
+use mathlib.Core.Path.{refl}
+use Prim.Native.Nat.{_≤_, _-_}
+use native.Mathlib.Omega.{arith}
+use borrow.Author.Needs.{needs}
+use Rattle.passes.proofs.pass_in_place.Statement.{statement}
+use Rattle.passes.proofs.pass_in_place.Tie as tie
+
+abbrev Inv-loop : tie.InvT-loop
+Inv-loop course zones₀ n mode own outlet₀ left₀ charged₀ sum₀ spread₀ k₀ zones outlet left charged sum spread k =
+    (k ≤ n) × Underway course n k (startOf zones₀ outlet₀ left₀ charged₀) zones outlet left charged sum spread
+
+abbrev μ-loop : tie.MeasureT-loop
+μ-loop course zones₀ n mode own outlet₀ left₀ charged₀ sum₀ spread₀ k₀ zones outlet left charged sum spread k = n - k
+
+cast-n : tie.Need-cast-n Inv-loop μ-loop
+cast-n c = search needs
+
+charger-heat-requires : tie.Need-charger-heat-requires Inv-loop μ-loop
+charger-heat-requires c κs = search needs
+
+loop-holds : tie.Need-loop-holds Inv-loop μ-loop
+loop-holds c = (omega arith, underway-start _ _ _ _ _ _)
+
+zone-index-requires : tie.Need-zone-index-requires Inv-loop μ-loop
+zone-index-requires c κs = search needs
+
+zone-salt-requires : tie.Need-zone-salt-requires Inv-loop μ-loop
+zone-salt-requires c κs = search needs
+
+mul-zone-step : tie.Need-mul-zone-step Inv-loop μ-loop
+mul-zone-step c = search needs
+
+element-copy-out-zone-step : tie.Need-element-copy-out-zone-step Inv-loop μ-loop
+element-copy-out-zone-step c = search needs
+
+zone-step-requires : tie.Need-zone-step-requires Inv-loop μ-loop
+zone-step-requires c κs = search needs
+
+mul-zones : tie.Need-mul-zones Inv-loop μ-loop
+mul-zones c = search needs
+
+element-write-zones : tie.Need-element-write-zones Inv-loop μ-loop
+element-write-zones c = search needs
+
+mul-finite-step : tie.Need-mul-finite-step Inv-loop μ-loop
+mul-finite-step c = search needs
+
+element-copy-out-finite-step : tie.Need-element-copy-out-finite-step Inv-loop μ-loop
+element-copy-out-finite-step c = search needs
+
+finite-step-requires : tie.Need-finite-step-requires Inv-loop μ-loop
+finite-step-requires c κs = search needs
+
+sum2-step-requires : tie.Need-sum2-step-requires Inv-loop μ-loop
+sum2-step-requires c κs = search needs
+
+add-k : tie.Need-add-k Inv-loop μ-loop
+add-k c = search needs
+
+loop-less : tie.Need-loop-less Inv-loop μ-loop
+loop-less c = search needs
+
+loop-again : tie.Need-loop-again Inv-loop μ-loop
+loop-again c = (
+  omega arith,
+  underway-more _ _ _ refl (c .before .before .before .before .before .before .before .before .before .before .before .before .before .before .before .pre) _ (c .before .before .before .before .before .before .before .before .before .before .loop-test .taken) _ _ _ _ _ _ _ _ _ _ _ (c .before .before .before .before .before .before .before .before .before .before .before .loop .inv .1) (c .before .before .before .before .before .before .before .before .before .zone-index .ensures .0) (c .before .before .before .before .before .before .before .before .zone-salt .ensures) (c .before .before .before .before .before .before .zone-step .ensures) (c .before .before .sum2-step .ensures) (c .before .before .before .before .finite-step .ensures),
+)
+
+pass-fault-requires : tie.Need-pass-fault-requires Inv-loop μ-loop
+pass-fault-requires c κs = search needs
+
+returns : tie.Need-returns Inv-loop μ-loop
+returns c =
+    let l = c .before .before .before .loop in
+    underway-end _ _ _ _ _ (c .before .before .before .before .before .before .before .pre) _ _ _ _ _ _ _ _ (c .before .before .before .before .charger-heat .ensures) (l .inv .0) (c .before .before .loop-test .left) (l .inv .1) (c .pass-fault .ensures)
+
+pub pass-in-place-spec : {M : Type 1} → statement M
+pass-in-place-spec =
+    tie.close
+    (tie.spec
+    Inv-loop
+    μ-loop
+    cast-n
+    charger-heat-requires
+    loop-holds
+    zone-index-requires
+    zone-salt-requires
+    mul-zone-step
+    element-copy-out-zone-step
+    zone-step-requires
+    mul-zones
+    element-write-zones
+    mul-finite-step
+    element-copy-out-finite-step
+    finite-step-requires
+    sum2-step-requires
+    add-k
+    loop-less
+    loop-again
+    pass-fault-requires
+    returns)

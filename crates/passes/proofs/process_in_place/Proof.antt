@@ -1,0 +1,53 @@
+use Rattle.substep.specs.Substep.{zoneTransfer, withoutLogarithm, outcomeOf, substepFrom}
+use Rattle.water.specs.declared.Mode.{Mode}
+use Rattle.substep.specs.declared.Substep.{Substep}
+use Rattle.substep.proofs.Passes.{passed, refused-here}
+use mathlib.Core.Path.{sym, _∙_, ap}
+use borrow.Author.Needs.{needs}
+use Rattle.passes.proofs.process_in_place.Statement.{statement}
+use Rattle.passes.proofs.process_in_place.Tie as tie
+
+zone-transfer-requires : tie.Need-zone-transfer-requires
+zone-transfer-requires c κs = search needs
+
+enum-known-transfer : tie.Need-enum-known-transfer
+enum-known-transfer c = search needs
+
+enum-told : tie.Need-enum-told
+enum-told c = search needs
+
+without-logarithm-requires : tie.Need-without-logarithm-requires
+without-logarithm-requires c κs = search needs
+
+returns : tie.Need-returns
+unfolding withoutLogarithm
+returns c =
+    let b = c .before .before .before .before in
+    let e = sym (refused-here (b .args .card) (b .args .pcm) (b .args .d) (b .args .zones .now) _ (c .before .before .before .zone-transfer .ensures ∙ ap (λ (m : Mode). zoneTransfer m (b .args .card) (b .args .d)) (sym (b .pre .1 .0))) (c .before .enum-told .given .1)) in
+    (ap (λ (v : Substep). v .zones) e, c .without-logarithm .ensures _ ∙ ap outcomeOf e)
+
+course-of-requires : tie.Need-course-of-requires
+course-of-requires c κs = let p = c .before .before .before .before .pre in (sym (p .1 .0), p .1 .1)
+
+pass-in-place-requires : tie.Need-pass-in-place-requires
+pass-in-place-requires c κs = search needs
+
+returns-2 : tie.Need-returns-2
+unfolding substepFrom
+returns-2 c =
+    let b = c .before .before .before .before .before .before .before in
+    let t = c .before .before .before .before .before .before .zone-transfer .ensures ∙ ap (λ (m : Mode). zoneTransfer m (b .args .card) (b .args .d)) (sym (b .pre .1 .0)) in
+    rw (passed (b .args .card) (b .args .pcm) (b .args .d) (b .args .zones .now) _ _ _ t (c .before .before .before .before .transfer .given .1) (c .before .before .course-of .ensures)) (c .pass-in-place .ensures)
+
+pub process-in-place-spec : {M : Type 1} → statement M
+process-in-place-spec =
+    tie.close
+    (tie.spec
+    zone-transfer-requires
+    enum-known-transfer
+    enum-told
+    without-logarithm-requires
+    returns
+    course-of-requires
+    pass-in-place-requires
+    returns-2)
