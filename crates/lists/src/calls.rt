@@ -1,23 +1,11 @@
 // Calls of a record's words, and where the answer stands behind them.
 use battery::Call;
 use battery::Demand;
-use battery::Given;
 use battery::Hydronic;
 ghost use Prim.Native.Nat.{_≤_};
 
-// A mark and a value.
-fn given(s: &[u8], i: usize) -> Given
-    requires { ⌜ i ≤ 512 ⌝ }
-{
-    if words::word_is(s, i, 0) {
-        Given::Absent
-    } else {
-        Given::Value(words::number(s, i + 1))
-    }
-}
-
 fn demand(s: &[u8]) -> Call {
-    let feed = given(s, 6);
+    let feed = words::given(s, 6);
     Call::DemandEnergy(Demand {
         service: words::small(s, 1),
         commit: words::word_is(s, 2, 1),
@@ -43,7 +31,7 @@ fn hydronic(s: &[u8]) -> Call {
 }
 
 fn energy_demand(s: &[u8]) -> Call {
-    let most = given(s, 1);
+    let most = words::given(s, 1);
     Call::ChargeEnergyDemand(most, words::number(s, 3))
 }
 

@@ -1,6 +1,7 @@
 // The words of a record: 8 bytes each, the highest byte first. A word behind the last one reads as 0, and is not written.
 pub mod cards;
 
+use battery::Given;
 use floats::Log;
 ghost use Prim.Native.Nat.{_≤_};
 
@@ -58,6 +59,17 @@ pub fn numbers(s: &[u8], at: usize, n: usize) -> [f64; 64]
         xs[k] = number(s, at + k);
     }
     xs
+}
+
+// A mark and a value.
+pub fn given(s: &[u8], i: usize) -> Given
+    requires { ⌜ i ≤ 512 ⌝ }
+{
+    if word_is(s, i, 0) {
+        Given::Absent
+    } else {
+        Given::Value(number(s, i + 1))
+    }
 }
 
 pub fn word_is(s: &[u8], i: usize, x: u64) -> bool {
