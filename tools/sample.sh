@@ -41,6 +41,7 @@ sample 1000 energy_required new_temperature simultaneous viscosity reynolds heat
 sample 500 zone_properties
 sample 2000 card # each end of each range on both sides
 sample 700 substep
+sample 500 charge_energy_demand
 sample 2000 lists
 
 # What no oracle writes: a record cut short, one that is too long, more unknown ids than get a line.

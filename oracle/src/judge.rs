@@ -433,6 +433,17 @@ impl Zone {
             Err(error) => Err(error.refusal),
         }
     }
+
+    /// With `zones` in the battery. None where the published file refuses (25).
+    pub fn calculate_charge_energy_demand(
+        &self,
+        zones: &[f64],
+        flow_maximum: Option<f64>,
+        target: f64,
+    ) -> Option<f64> {
+        *self.0.zone_temp_c_dist_initial.write() = zones.to_vec();
+        self.0.calculate_charge_energy_demand(flow_maximum, target).ok()
+    }
 }
 
 /// What water and charger bring to one zone.

@@ -590,7 +590,7 @@ fn charge_battery_hydronic(
     Ok(energy)
 }
 
-fn calculate_charge_energy_demand(
+pub fn calculate_charge_energy_demand(
     card: &Card,
     zones: &[f64],
     flow_maximum: Option<f64>,

@@ -13,32 +13,42 @@ use std::path::Path;
 
 type Make = fn(&mut Random) -> Record;
 
-/// Files with one record after another of one function.
-const FUNCTIONS: [(&str, Make); 21] = [
-    ("finite", stand_in_records::finite),
-    ("nearly_equal", stand_in_records::nearly_equal),
-    ("max_zero", stand_in_records::max_zero),
-    ("min", stand_in_records::min),
-    ("square", stand_in_records::square),
-    ("sum2", stand_in_records::sum2),
-    ("ln", stand_in_records::ln),
-    ("truncate", stand_in_records::truncate),
-    ("layer_energy", zone_records::layer_energy),
-    ("soc_to_temp", zone_records::soc_to_temp),
-    ("state_of_charge", zone_records::state_of_charge),
-    ("energy_required", zone_records::energy_required),
-    ("new_temperature", zone_records::new_temperature),
-    ("simultaneous", zone_records::simultaneous),
-    ("viscosity", zone_records::viscosity),
-    ("reynolds", zone_records::reynolds),
-    ("heat_transfer", zone_records::heat_transfer),
-    ("outlet", zone_records::outlet),
-    ("zone_properties", zone_records::zone_properties),
-    ("card", zone_records::card),
-    ("substep", zone_records::substep),
-];
+/// What a file has.
+enum Content {
+    /// One record after another of one function.
+    Records(Make),
+    /// Lists of calls.
+    Lists,
+}
 
-const LISTS: &str = "lists";
+use Content::{Lists, Records};
+
+/// A file's place settles its random numbers, so a new file is the last one.
+const FILES: [(&str, Content); 23] = [
+    ("finite", Records(stand_in_records::finite)),
+    ("nearly_equal", Records(stand_in_records::nearly_equal)),
+    ("max_zero", Records(stand_in_records::max_zero)),
+    ("min", Records(stand_in_records::min)),
+    ("square", Records(stand_in_records::square)),
+    ("sum2", Records(stand_in_records::sum2)),
+    ("ln", Records(stand_in_records::ln)),
+    ("truncate", Records(stand_in_records::truncate)),
+    ("layer_energy", Records(zone_records::layer_energy)),
+    ("soc_to_temp", Records(zone_records::soc_to_temp)),
+    ("state_of_charge", Records(zone_records::state_of_charge)),
+    ("energy_required", Records(zone_records::energy_required)),
+    ("new_temperature", Records(zone_records::new_temperature)),
+    ("simultaneous", Records(zone_records::simultaneous)),
+    ("viscosity", Records(zone_records::viscosity)),
+    ("reynolds", Records(zone_records::reynolds)),
+    ("heat_transfer", Records(zone_records::heat_transfer)),
+    ("outlet", Records(zone_records::outlet)),
+    ("zone_properties", Records(zone_records::zone_properties)),
+    ("card", Records(zone_records::card)),
+    ("substep", Records(zone_records::substep)),
+    ("lists", Lists),
+    ("charge_energy_demand", Records(zone_records::charge_energy_demand)),
+];
 
 /// Bytes of `count` records of one function.
 fn function_file(make: Make, count: u64, mut random: Random) -> Vec<u8> {
@@ -76,20 +86,20 @@ fn random_for(seed: u64, file: usize) -> Random {
 
 /// Writes the files, or only those named.
 pub fn write(folder: &Path, count: u64, seed: u64, only: Option<&[&str]>) -> Result<(), String> {
-    let known = |name: &&str| *name == LISTS || FUNCTIONS.iter().any(|(file, _)| file == name);
+    let known = |name: &&str| FILES.iter().any(|(file, _)| file == name);
     if let Some(name) = only.into_iter().flatten().find(|name| !known(name)) {
         return Err(format!("no vector file is called {name}"));
     }
-    let wanted = |name: &str| only.is_none_or(|names| names.contains(&name));
     fs::create_dir_all(folder).map_err(|error| format!("{}: {error}", folder.display()))?;
-    for (at, (name, make)) in FUNCTIONS.iter().enumerate() {
-        if wanted(name) {
-            save(folder, name, function_file(*make, count, random_for(seed, at)), count)?;
+    for (at, (name, content)) in FILES.iter().enumerate() {
+        if only.is_none_or(|names| names.contains(name)) {
+            let random = random_for(seed, at);
+            let bytes = match content {
+                Records(make) => function_file(*make, count, random),
+                Lists => lists_file(count, random),
+            };
+            save(folder, name, bytes, count)?;
         }
-    }
-    if wanted(LISTS) {
-        let random = random_for(seed, FUNCTIONS.len());
-        save(folder, LISTS, lists_file(count, random), count)?;
     }
     Ok(())
 }

@@ -183,6 +183,12 @@ fn by_plain(record: &Record) -> Option<Record> {
             }
         }
         40 => return substep(w, out),
+        41 => {
+            let (card, zones, flow_maximum) = (w.card(), w.counted(), w.optional());
+            let target = w.float();
+            let energy = plain::calculate_charge_energy_demand(&card, &zones, flow_maximum, target);
+            out.optional(energy.ok())
+        }
         _ => return None,
     })
 }
@@ -200,10 +206,52 @@ fn functions_agree_with_plain() {
             *compared.entry(record.function).or_insert(0u64) += 1;
         }
     }
-    for function in (1..=8).chain(20..=29).chain([31]) {
+    for function in (1..=8).chain(20..=29).chain([31, 41]) {
         assert_eq!(compared[&function], COUNT, "function {function}");
     }
     assert!(compared[&40] > COUNT / 2);
+}
+
+/// Which way the energy to a level goes.
+fn way(record: &Record) -> &'static str {
+    let mut w = Words(&record.words);
+    let (card, zones, flow_maximum) = (w.card(), w.counted(), w.optional());
+    let target = w.float();
+    let (Ok(level), Some(energy)) = (plain::calc_state_of_charge(&card, &zones), w.optional())
+    else {
+        return "refused";
+    };
+    let by_level = plain::calculate_charge_energy_demand(&card, &zones, None, target);
+    if plain::nearly_equal(level, target, 1e-10, f64::EPSILON) {
+        match level < target {
+            true => "nearly equal, below",
+            false => "nearly equal",
+        }
+    } else if level > target {
+        "above the target"
+    } else if flow_maximum.is_none() {
+        "no flow maximum"
+    } else if energy == 0.0 {
+        "flow maximum reached"
+    } else if Ok(energy) == by_level {
+        "to the target"
+    } else {
+        "to the flow maximum"
+    }
+}
+
+#[test]
+fn the_energy_to_a_level_goes_every_way() {
+    let folder = folder("levels");
+    let only = Some(&["charge_energy_demand"][..]);
+    vectors::write(&folder, COUNT, 15, only).expect("the folder is writable");
+    let bytes = fs::read(folder.join("charge_energy_demand.vec")).expect("the file is there");
+    let mut ways = BTreeMap::new();
+    for record in read_all(&bytes).expect("a vector file") {
+        *ways.entry(way(&record)).or_insert(0u64) += 1;
+    }
+    assert_eq!(ways.len(), 8, "{ways:?}");
+    assert!(ways.values().all(|count| *count > COUNT / 40), "{ways:?}");
 }
 
 /// A list's answers by the plain implementation, from its own state.

@@ -6,7 +6,7 @@ use battery::Hydronic;
 ghost use Prim.Native.Nat.{_≤_};
 
 // A mark and a value.
-fn given(s: &[u8], i: usize) -> Given
+pub fn given(s: &[u8], i: usize) -> Given
     requires { ⌜ i ≤ 512 ⌝ }
 {
     if words::word_is(s, i, 0) {

@@ -1,6 +1,7 @@
 // The ids of oracle/VECTORS.md but those of lists, each with the module that replays its records.
 mod cards;
 mod exchanger;
+mod levels;
 mod standins;
 mod substeps;
 mod zones;
@@ -24,6 +25,7 @@ pub fn replay(id: u64, s: &[u8]) -> bool {
         26..=30 => exchanger::replay(id, s),
         31 => cards::card(s),
         40 => substeps::substep(s),
+        41 => levels::charge_energy_demand(s),
         _ => false,
     }
 }

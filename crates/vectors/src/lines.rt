@@ -1,12 +1,12 @@
 // The lines that the program writes. A vector is named by its place in its file, from 0, as `oracle alter` counts.
 use libc::STDOUT_FILENO;
 
-// What VECTORS.md calls the ids from 1 to 8, from 20 to 31, 40 and 51.
-const NAMES: [u8; 217] =
-    *b"finite nearly_equal max_zero min square sum2 ln truncate layer_energy soc_to_temp state_of_charge energy_required new_temperature simultaneous viscosity reynolds heat_transfer outlet zone_properties card substep lists";
+// What VECTORS.md calls the ids from 1 to 8, from 20 to 31, 40, 41 and 51.
+const NAMES: [u8; 238] =
+    *b"finite nearly_equal max_zero min square sum2 ln truncate layer_energy soc_to_temp state_of_charge energy_required new_temperature simultaneous viscosity reynolds heat_transfer outlet zone_properties card substep charge_energy_demand lists";
 
 // The number of names.
-const UNKNOWN: u64 = 22;
+const UNKNOWN: u64 = 23;
 
 // A record that disagrees, or whose id is none.
 pub fn disagrees(file: &[u8], vector: u64, id: u64) {
@@ -74,8 +74,8 @@ fn name_of(id: u64) -> u64 {
     match id {
         1..=8 => id - 1,
         20..=31 => id - 12,
-        40 => 20,
-        51 => 21,
+        40..=41 => id - 20,
+        51 => 22,
         _ => UNKNOWN,
     }
 }

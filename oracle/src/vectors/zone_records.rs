@@ -92,11 +92,16 @@ fn zones(random: &mut Random, card: &Card) -> Vec<f64> {
     (0..card.layers).map(|_| make(random, card)).collect()
 }
 
+/// Zones up to the maximum.
+fn charged_zones(random: &mut Random, card: &Card) -> Vec<f64> {
+    (0..card.layers).map(|_| random.between(card.reference, card.max)).collect()
+}
+
 pub fn state_of_charge(random: &mut Random) -> Record {
     let card = generate::card(random);
     let zones = match random.below(4) {
         0 => generate::full_zones(random, &card),
-        1 => (0..card.layers).map(|_| random.between(card.reference, card.max)).collect(),
+        1 => charged_zones(random, &card),
         _ => zones(random, &card),
     };
     let level = Zone::of_card(&card).calc_state_of_charge(&zones);
@@ -377,4 +382,51 @@ pub fn substep(random: &mut Random) -> Record {
             record.word(u64::from(refusal)).floats(&[0.0; 3]).floats(&vec![0.0; zones.len()])
         }
     }
+}
+
+// ---- Module 6
+
+/// A target level: any, or the battery's own to about the tolerance.
+fn target_level(random: &mut Random, level: f64) -> f64 {
+    match random.below(4) {
+        0 => {
+            let gap = random.pick(&[0.0, 1e-16, 1e-10, 1.01e-10, 1e-9]);
+            let target = level + random.pick(&[1.0, -1.0]) * gap;
+            random.near(target).clamp(0.0, 1.0)
+        }
+        _ => random.within(ranges::FRACTION),
+    }
+}
+
+/// None, any temperature, or one from the battery's to the target's, its ends among them.
+fn flow_maximum(random: &mut Random, card: &Card, from: f64, to: f64) -> Option<f64> {
+    match random.below(8) {
+        0 | 1 => None,
+        2 => Some(random.near(from)),
+        3 => Some(random.near(to)),
+        4 | 5 => Some(random.between(from, to)),
+        _ => Some(generate::any_zone(random, card)),
+    }
+}
+
+pub fn charge_energy_demand(random: &mut Random) -> Record {
+    let card = generate::card(random);
+    let zones = match random.below(8) {
+        0 => generate::full_zones(random, &card),
+        1..=4 => charged_zones(random, &card),
+        _ => zones(random, &card),
+    };
+    let battery = Zone::of_card(&card);
+    // For the choice of inputs a refused battery is full.
+    let level = battery.calc_state_of_charge(&zones).unwrap_or(1.0);
+    let target = target_level(random, level);
+    let (from, to) = (battery.soc_to_temp(level), battery.soc_to_temp(target));
+    let flow_maximum = flow_maximum(random, &card, from, to);
+    let energy = battery.calculate_charge_energy_demand(&zones, flow_maximum, target);
+    Record::new(41)
+        .card(&card)
+        .counted(&zones)
+        .optional(flow_maximum)
+        .float(target)
+        .optional(energy)
 }
