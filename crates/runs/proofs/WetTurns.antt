@@ -1,5 +1,5 @@
 -- The turns of a hydronic charge on zones that lie apart: each way that a turn's tests lead to, and what it means for the run.
-use mathlib.Core.Path.{_≡_, refl, sym, _∙_, ap}
+use mathlib.Core.Path.{_≡_, refl, sym, _∙_, ap, subst}
 use mathlib.Core.Bool.{Bool, true, false}
 use mathlib.Core.List.{List}
 use Prim.Native.Nat.{ℕ, _≤_, _+_, _-_}
@@ -10,10 +10,11 @@ use Rattle.floats.specs.Constants as Constants
 use Rattle.floats.proofs.Branch.{via-true, via-false}
 use Rattle.zone.specs.Heat.{kj}
 use Rattle.zone.specs.declared.Kilojoules.{Kilojoules}
-use Rattle.substep.proofs.Together.{InPlace}
+use Rattle.substep.proofs.Together.{InPlace, put-together}
 use Rattle.substep.specs.Substep.{processHeatBatteryZones, substepWith}
 use Rattle.substep.specs.declared.Drive.{Drive}
 use Rattle.substep.specs.declared.Outcome.{Outcome}
+use Rattle.substep.specs.declared.Substep.{Substep}
 use Rattle.runs.specs.Runs.{reynoldBetween}
 use Rattle.runs.specs.declared.End.{End}
 use Rattle.runs.specs.declared.End.the-variants.{Limit, Level}
@@ -24,10 +25,14 @@ use Rattle.runs.specs.declared.Next.{Next}
 use Rattle.runs.specs.declared.Next.the-variants.{On, Stop}
 use Rattle.runs.specs.declared.WetPace.{WetPace}
 use Rattle.runs.specs.declared.WetTurn.{WetTurn}
-use Rattle.runs.specs.Apart.{wetWith, WetTurnLies, WetEndLies}
+use Rattle.runs.specs.Apart.{wetWith, wetTurnWith, wetEndWith, nextRefusal, WetTurnLies, WetEndLies}
 use Rattle.runs.specs.Hydronic.{wetDrive, clearlyBelow, limitReached, replayBy, replayed, fractionSeconds, hydronicWhole, hydronicRun, hydronicStep}
-use Rattle.runs.proofs.InPlace.{wet-turn-lies, wet-turn-as, replay-turn, wet-turn-on, wet-turn-stops}
+use Rattle.runs.proofs.InPlace.{wet-turn-lies}
 use Rattle.runs.proofs.Runs.{hydronic-stop, hydronic-on, took-one}
+
+-- where the definition comes to another turn
+wet-turn-as : (r : WetTurn) (zones : List Float) (t u : HydronicTurn) → WetTurnLies r zones t → t ≡ u → WetTurnLies r zones u
+wet-turn-as r zones t u l e = subst (WetTurnLies r zones) e l
 
 -- behind the whole substep, whose tests come as they are found
 
@@ -80,11 +85,27 @@ pub replayed-turn :
     InPlace (processHeatBatteryZones (x .card) (x .pcm) d before) o zones →
     ((before zones energies : List Float) → WetTurnLies t zones (replayBy x (n + 1) (wetWith s before) seconds reynold (substepWith o zones energies) (o .fault))) →
     WetTurnLies t zones (replayed x n (wetWith s before) seconds reynold)
-unfolding replayed
+unfolding replayed substepWith
 replayed-turn x n s before zones d o t seconds reynold q h g e =
-    wet-turn-as _ _ _ _ (replay-turn x n s before zones d o t seconds reynold h g (e before zones)) (via-false _ _ (ne-eqb _ _ q) refl)
+    let u = processHeatBatteryZones (x .card) (x .pcm) d before in
+    let w = ap (λ (v : Substep). replayBy x (n + 1) (wetWith s before) seconds reynold v (v .fault)) (put-together u o zones g) in
+    rw (← h) (wet-turn-as _ _ _ _ (e before zones (u .energies)) (via-false _ _ (ne-eqb _ _ q) w))
 
 -- a turn that goes on, and one that stops the run
+
+wet-turn-on : (r : WetTurn) (zones : List Float) (t : HydronicTurn) → WetTurnLies r zones t → r .next ≡ On → wetTurnWith r zones ≡ t
+wet-turn-on r zones t h g = let z : zones ≡ t .run .zones = h .1 (ap nextRefusal g) in rw z (h .0)
+
+wet-turn-stops :
+    (r : WetTurn) (zones : List Float) (t : HydronicTurn) (k : End) (e : HydronicEnd) →
+    WetTurnLies r zones t → r .next ≡ Stop k → record { run = t .run; end = k; substeps = t .substeps } ≡ e →
+    WetEndLies (record { pace = r .pace; end = k; substeps = r .substeps }) zones e
+wet-turn-stops r zones t k e h g d =
+    let z : t .run .zones ≡ e .run .zones = ap (λ (x : HydronicEnd). x .run .zones) d in (
+      ap (λ (v : List Float). wetEndWith (record { pace = r .pace; end = k; substeps = r .substeps }) v) (sym z) ∙
+          ap (λ (v : HydronicTurn). record { run = v .run; end = k; substeps = v .substeps }) (h .0) ∙ d,
+      λ q. h .1 (ap nextRefusal g ∙ q) ∙ z,
+    )
 
 module _ (x : HydronicTask) (steps n : ℕ) (s : WetPace) (before after : List Float) (t : WetTurn)
     (p : n ≤ steps) (q : n ≡ steps → ⊥) (h : n ≡ x .card .budget → ⊥) (l : WetTurnLies t after (hydronicStep x n (wetWith s before))) where
