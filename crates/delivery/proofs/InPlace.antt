@@ -1,8 +1,10 @@
 -- A demand's turn over a substep on zones that lie apart is the definition's.
-use mathlib.Core.Path.{_≡_, sym, _∙_, ap, subst}
+use mathlib.Core.Path.{_≡_, refl, sym, _∙_, ap, subst}
+use mathlib.Core.Bool.{false, not}
 use mathlib.Core.List.{List}
-use Prim.Native.Nat.{ℕ}
-use lib.Ieee.{Float}
+use Prim.Native.Nat.{ℕ, _≤_, _+_, _-_}
+use lib.Ieee.{Float, lt}
+use Rattle.floats.specs.Constants as Constants
 use Rattle.substep.proofs.Together.{InPlace, put-together}
 use Rattle.substep.specs.Substep.{processHeatBatteryZones, substepWith}
 use Rattle.substep.specs.declared.Drive.{Drive}
@@ -22,7 +24,8 @@ use Rattle.delivery.specs.declared.Pace.{Pace}
 use Rattle.delivery.specs.declared.PaceTurn.{PaceTurn}
 use Rattle.delivery.specs.Apart.{runWith, turnWith, endWith, TurnLies, EndLies}
 use Rattle.runs.specs.Apart.{endedWith, nextRefusal, EndedLies}
-use Rattle.delivery.specs.Demand.{demandDrive, demandBy, demandSubstep, demandEnded}
+use Rattle.delivery.specs.Demand.{demandDrive, demandBy, demandSubstep, demandRun, demandEnded}
+use Rattle.delivery.proofs.Turns.{demand-on, demand-stop}
 
 pub turn-lies : (r : PaceTurn) (zones : List Float) (t : DemandTurn) → turnWith r zones ≡ t → TurnLies r zones t
 turn-lies r zones t e = let z : zones ≡ t .run .zones = ap (λ (x : DemandTurn). x .run .zones) e in (ap (turnWith r) (sym z) ∙ e, λ h. z)
@@ -44,10 +47,10 @@ unfolding demandEnded
 demand-lies e zones d r l f =
     (f (d .run .zones) ∙ ap demandEnded (l .0), λ h. l .1 (sym (ap (λ (x : Ended). endRefusal (x .end)) (f zones)) ∙ h))
 
-pub turn-on : (r : PaceTurn) (zones : List Float) (t : DemandTurn) → TurnLies r zones t → r .next ≡ On → turnWith r zones ≡ t
+turn-on : (r : PaceTurn) (zones : List Float) (t : DemandTurn) → TurnLies r zones t → r .next ≡ On → turnWith r zones ≡ t
 turn-on r zones t h g = let z : zones ≡ t .run .zones = h .1 (ap nextRefusal g) in rw z (h .0)
 
-pub turn-stops :
+turn-stops :
     (r : PaceTurn) (zones : List Float) (t : DemandTurn) (k : End) (n : ℕ) (e : DemandEnd) →
     TurnLies r zones t → r .next ≡ Stop k → record { run = t .run; end = k; substeps = n } ≡ e →
     EndLies (record { pace = r .pace; end = k; substeps = n }) zones e
@@ -67,3 +70,14 @@ module _ (x : DemandTask) (s : Pace) (before zones : List Float) (d : Drive) (o 
       let u = processHeatBatteryZones (x .card) (x .pcm) d before in
       let w = ap (λ (v : Substep). demandBy x (runWith s before) v (v .fault)) (put-together u o zones g) in
       rw (← h) (subst (TurnLies t zones) w (e (u .energies)))
+
+-- a turn that goes on, and one that stops the run
+module _ (x : DemandTask) (b n : ℕ) (s : Pace) (before after : List Float) (t : PaceTurn)
+    (p : n ≤ b) (q : n ≡ b → ⊥) (h : not (lt Constants.zero (s .step)) ≡ false) (l : TurnLies t after (demandSubstep x (runWith s before))) where
+  pub run-on : t .next ≡ On → demandRun x (b - (n + 1)) (n + 1) (runWith (t .pace) after) ≡ demandRun x (b - n) n (runWith s before)
+  run-on g = sym (demand-on x b n (runWith s before) _ p q h (turn-on t after _ l g) g)
+
+  pub run-stops : (k : End) (e : DemandEnd) → t .next ≡ Stop k → demandRun x (b - n) n (runWith s before) ≡ e → EndLies (record { pace = t .pace; end = k; substeps = n + 1 }) after e
+  run-stops k e g d =
+      let u = demandSubstep x (runWith s before) in
+      turn-stops t after u k (n + 1) e l g (demand-stop x b n (runWith s before) u p q h refl k (sym (ap (λ (v : DemandTurn). v .next) (l .0)) ∙ g) ∙ d)

@@ -17,7 +17,7 @@ use Rattle.runs.specs.declared.Stopped.{Stopped}
 use Rattle.runs.specs.declared.Ended.{Ended}
 use Rattle.runs.specs.declared.End.{End}
 use Rattle.runs.specs.declared.End.the-variants.{NoLogarithm, NotFiniteRun}
-use Rattle.runs.specs.declared.Next.the-variants.{On, Stop}
+use Rattle.runs.specs.declared.Next.the-variants.{Stop}
 use Rattle.runs.specs.Runs.{endRefusal}
 use Rattle.runs.specs.declared.HydronicTurn.{HydronicTurn}
 use Rattle.runs.specs.declared.HydronicEnd.{HydronicEnd}
@@ -25,9 +25,9 @@ use Rattle.runs.specs.declared.WetEnd.{WetEnd}
 use Rattle.runs.specs.declared.HydronicTask.{HydronicTask}
 use Rattle.runs.specs.declared.WetPace.{WetPace}
 use Rattle.runs.specs.declared.WetTurn.{WetTurn}
-use Rattle.runs.specs.Apart.{endedWith, wetWith, wetTurnWith, wetEndWith, nextRefusal, WetTurnLies, WetEndLies, EndedLies}
+use Rattle.runs.specs.Apart.{endedWith, wetWith, wetTurnWith, wetEndWith, WetTurnLies, WetEndLies, EndedLies}
 use Rattle.zone.specs.declared.KilowattHours.{KilowattHours}
-use Rattle.runs.specs.Hydronic.{wetDrive, replayBy, hydronicBy, hydronicStep, hydronicEnded}
+use Rattle.runs.specs.Hydronic.{wetDrive, hydronicBy, hydronicStep, hydronicEnded}
 use Rattle.runs.specs.Charge.{electricDrive, electricEnded, chargeElectric, lossDrive, lossEnded, batteryHeatLoss}
 
 -- where all is the definition's, zones included
@@ -58,10 +58,6 @@ wet-fault s before zones e n t q d =
     let z : before ≡ t .run .zones = ap (λ (x : HydronicTurn). x .run .zones) d in
     (ap (wetTurnWith (record { pace = s; next = Stop e; substeps = n })) (sym z) ∙ d, λ h. absurd (q h))
 
--- where the definition comes to another turn
-pub wet-turn-as : (r : WetTurn) (zones : List Float) (t u : HydronicTurn) → WetTurnLies r zones t → t ≡ u → WetTurnLies r zones u
-wet-turn-as r zones t u l e = subst (WetTurnLies r zones) e l
-
 -- what a run hands out
 
 pub wet-lies :
@@ -71,48 +67,18 @@ unfolding hydronicEnded
 wet-lies electric e zones d r l f =
     (f (d .run .zones) ∙ ap (hydronicEnded electric) (l .0), λ h. l .1 (sym (ap (λ (x : Ended). endRefusal (x .end)) (f zones)) ∙ h))
 
--- a turn that goes on, and one that stops the run
-
-pub wet-turn-on : (r : WetTurn) (zones : List Float) (t : HydronicTurn) → WetTurnLies r zones t → r .next ≡ On → wetTurnWith r zones ≡ t
-wet-turn-on r zones t h g = let z : zones ≡ t .run .zones = h .1 (ap nextRefusal g) in rw z (h .0)
-
-pub wet-turn-stops :
-    (r : WetTurn) (zones : List Float) (t : HydronicTurn) (k : End) (e : HydronicEnd) →
-    WetTurnLies r zones t → r .next ≡ Stop k → record { run = t .run; end = k; substeps = t .substeps } ≡ e →
-    WetEndLies (record { pace = r .pace; end = k; substeps = r .substeps }) zones e
-wet-turn-stops r zones t k e h g d =
-    let z : t .run .zones ≡ e .run .zones = ap (λ (x : HydronicEnd). x .run .zones) d in (
-      ap (λ (v : List Float). wetEndWith (record { pace = r .pace; end = k; substeps = r .substeps }) v) (sym z) ∙
-          ap (λ (v : HydronicTurn). record { run = v .run; end = k; substeps = v .substeps }) (h .0) ∙ d,
-      λ q. h .1 (ap nextRefusal g ∙ q) ∙ z,
-    )
-
-module _ (x : HydronicTask) (n : ℕ) (s : WetPace) (before zones : List Float) (d : Drive) (o : Outcome) (t : WetTurn) where
-  pub replay-turn :
-      (seconds reynold : Float) →
-      d ≡ wetDrive x seconds reynold →
-      InPlace (processHeatBatteryZones (x .card) (x .pcm) d before) o zones →
-      ((energies : List Float) → WetTurnLies t zones (replayBy x (n + 1) (wetWith s before) seconds reynold (substepWith o zones energies) (o .fault))) →
-      WetTurnLies t zones
-      (replayBy x (n + 1) (wetWith s before) seconds reynold (processHeatBatteryZones (x .card) (x .pcm) (wetDrive x seconds reynold) before) (processHeatBatteryZones (x .card) (x .pcm) (wetDrive x seconds reynold) before .fault))
-  unfolding substepWith
-  replay-turn seconds reynold h g e =
-      let u = processHeatBatteryZones (x .card) (x .pcm) d before in
-      let w = ap (λ (v : Substep). replayBy x (n + 1) (wetWith s before) seconds reynold v (v .fault)) (put-together u o zones g) in
-      rw (← h) (subst (WetTurnLies t zones) w (e (u .energies)))
-
-  -- the zones behind the turn are those of the substep, or of the fractional one
-  pub hydronic-turn :
-      (after : List Float) →
-      d ≡ wetDrive x (x .card .substep) (s .reynold) →
-      InPlace (processHeatBatteryZones (x .card) (x .pcm) d before) o zones →
-      ((energies : List Float) → WetTurnLies t after (hydronicBy x (n + 1) (wetWith s before) (substepWith o zones energies) (o .fault))) →
-      WetTurnLies t after (hydronicStep x n (wetWith s before))
-  unfolding hydronicStep substepWith
-  hydronic-turn after h g e =
-      let u = processHeatBatteryZones (x .card) (x .pcm) d before in
-      let w = ap (λ (v : Substep). hydronicBy x (n + 1) (wetWith s before) v (v .fault)) (put-together u o zones g) in
-      rw (← h) (subst (WetTurnLies t after) w (e (u .energies)))
+-- the zones behind the turn are those of the substep, or of the fractional one
+pub hydronic-turn :
+    (x : HydronicTask) (n : ℕ) (s : WetPace) (before zones : List Float) (d : Drive) (o : Outcome) (t : WetTurn) (after : List Float) →
+    d ≡ wetDrive x (x .card .substep) (s .reynold) →
+    InPlace (processHeatBatteryZones (x .card) (x .pcm) d before) o zones →
+    ((energies : List Float) → WetTurnLies t after (hydronicBy x (n + 1) (wetWith s before) (substepWith o zones energies) (o .fault))) →
+    WetTurnLies t after (hydronicStep x n (wetWith s before))
+unfolding hydronicStep substepWith
+hydronic-turn x n s before zones d o t after h g e =
+    let u = processHeatBatteryZones (x .card) (x .pcm) d before in
+    let w = ap (λ (v : Substep). hydronicBy x (n + 1) (wetWith s before) v (v .fault)) (put-together u o zones g) in
+    rw (← h) (subst (WetTurnLies t after) w (e (u .energies)))
 
 module _ (l : Ledger) (before zones : List Float) (pcm : HeatBatteryPcm) (d : Drive) (o : Outcome) (r : Stopped) where
   pub electric-run :

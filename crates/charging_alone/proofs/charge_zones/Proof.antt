@@ -64,9 +64,10 @@ loop-less c = search needs
 loop-again : tie.Need-loop-again Inv-loop μ-loop
 loop-again c =
     let i = c .before .before .before .before .before .before .before in
-    let p = i .before .before .before .before .before .before .pre in (
+    let b = i .before .before .before .before .before .before in
+    let p = b .pre in (
       omega arith,
-      charging-more _ _ _ refl (p .0) _ (i .before .loop-test .taken) _ _ _ _ _ _ _ _ _ (i .zone-index .ensures .0) (c .before .before .before .before .before .before .zone-salt .ensures) (c .before .before .before .before .charging-step .ensures _) (c .before .before .finite-step .ensures) (p .1) (i .before .before .loop .inv .1),
+      charging-more (b .args .course) _ _ refl (p .0) _ (i .before .loop-test .taken) _ _ _ _ _ _ _ _ _ (i .zone-index .ensures .0) (c .before .before .before .before .before .before .zone-salt .ensures) (c .before .before .before .before .charging-step .ensures _) (c .before .before .finite-step .ensures) (p .1) (i .before .before .loop .inv .1),
     )
 
 pass-fault-requires : tie.Need-pass-fault-requires Inv-loop μ-loop

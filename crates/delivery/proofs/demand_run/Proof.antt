@@ -1,11 +1,9 @@
-use mathlib.Core.Path.{refl, ap}
-use Rattle.delivery.specs.declared.DemandTurn.{DemandTurn}
-use Rattle.delivery.proofs.InPlace.{turn-on, end-lies, turn-stops}
+use Rattle.delivery.proofs.InPlace.{end-lies, run-on, run-stops}
 use native.Mathlib.Nat.{sub-zero}
 use Rattle.delivery.specs.Apart.{runWith}
 use Rattle.delivery.specs.Demand.{demandRun}
-use Rattle.delivery.proofs.Turns.{demand-no-step, demand-over-budget, demand-stop, demand-on}
-use mathlib.Core.Path.{_≡_, sym, _∙_}
+use Rattle.delivery.proofs.Turns.{demand-no-step, demand-over-budget}
+use mathlib.Core.Path.{_≡_, _∙_}
 use Prim.Native.Nat.{_≤_, _-_}
 use native.Mathlib.Omega.{arith}
 use borrow.Author.Needs.{needs}
@@ -43,7 +41,7 @@ loop-less c = search needs
 loop-again : tie.Need-loop-again Inv-loop μ-loop
 loop-again c =
     let l = c .before .before .before .before .before .before .before .before .loop in
-    (omega arith, sym (demand-on _ _ _ _ _ (l .inv .0) (c .before .before .before .before .before .if2 .left) (c .before .before .before .before .before .before .if1 .left) (turn-on _ _ _ (c .before .before .before .demand-substep .ensures) (c .enum-told .given .1)) (c .enum-told .given .1)) ∙ l .inv .1)
+    (omega arith, run-on (c .before .before .before .before .before .before .before .before .before .before .before .before .args .x) _ _ _ _ _ _ (l .inv .0) (c .before .before .before .before .before .if2 .left) (c .before .before .before .before .before .before .if1 .left) (c .before .before .before .demand-substep .ensures) (c .enum-told .given .1) ∙ l .inv .1)
 
 returns : tie.Need-returns Inv-loop μ-loop
 returns c = (end-lies _ _ _ (demand-no-step _ _ _ _ (c .if1 .taken) ∙ c .before .before .loop .inv .1), omega arith)
@@ -54,9 +52,7 @@ returns-2 c = (end-lies _ _ _ (demand-over-budget _ _ _ _ (c .if2 .taken) (c .be
 returns-3 : tie.Need-returns-3 Inv-loop μ-loop
 returns-3 c =
     let l = c .before .before .before .before .before .before .before .before .before .loop in
-    let h = c .before .before .before .before .demand-substep .ensures in
-    let g = c .before .next .given .1 in
-    (turn-stops _ _ _ _ _ _ h g (demand-stop _ _ _ _ _ (l .inv .0) (c .before .before .before .before .before .before .if2 .left) (c .before .before .before .before .before .before .before .if1 .left) refl _ (sym (ap (λ (x : DemandTurn). x .next) (h .0)) ∙ g) ∙ l .inv .1), omega arith)
+    (run-stops (c .before .before .before .before .before .before .before .before .before .before .before .before .before .args .x) _ _ _ _ _ _ (l .inv .0) (c .before .before .before .before .before .before .if2 .left) (c .before .before .before .before .before .before .before .if1 .left) (c .before .before .before .before .demand-substep .ensures) _ _ (c .before .next .given .1) (l .inv .1), omega arith)
 
 pub demand-run-spec : {M : Type 1} → statement M
 demand-run-spec =

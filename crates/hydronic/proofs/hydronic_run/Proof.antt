@@ -1,11 +1,10 @@
-use mathlib.Core.Path.{refl, ap}
-use Rattle.runs.specs.declared.HydronicTurn.{HydronicTurn}
-use Rattle.runs.proofs.InPlace.{wet-turn-on, wet-end-lies, wet-turn-stops}
+use Rattle.runs.proofs.InPlace.{wet-end-lies}
+use Rattle.runs.proofs.WetTurns.{wet-took, wet-on, wet-stop}
 use native.Mathlib.Nat.{sub-zero}
 use Rattle.runs.specs.Apart.{wetWith}
 use Rattle.runs.specs.Hydronic.{hydronicRun}
-use Rattle.runs.proofs.Runs.{hydronic-time, hydronic-over-budget, hydronic-stop, hydronic-on, took-one}
-use mathlib.Core.Path.{_≡_, sym, _∙_}
+use Rattle.runs.proofs.Runs.{hydronic-time, hydronic-over-budget}
+use mathlib.Core.Path.{_≡_, _∙_}
 use Prim.Native.Nat.{_≤_, _-_, _+_}
 use native.Mathlib.Omega.{arith}
 use borrow.Author.Needs.{needs}
@@ -43,16 +42,15 @@ enum-told c = search needs
 
 took : (c : tie.After-enum-told Inv-loop μ-loop) → c .before .before .before .hydronic-step .result .substeps ≡ c .before .before .before .before .before .before .before .loop .substeps + 1
 took c =
-    took-one _ _ _ _ (c .before .before .before .before .before .before .before .loop .inv .0) (c .before .before .before .before .before .before .if1 .left) _ (c .before .before .before .before .before .if2 .left) (wet-turn-on _ _ _ (c .before .before .before .hydronic-step .ensures) (c .enum-told .given .1)) (c .enum-told .given .1)
+    wet-took (c .before .before .before .before .before .before .before .before .before .before .before .before .args .x) _ _ _ _ _ _ (c .before .before .before .before .before .before .before .loop .inv .0) (c .before .before .before .before .before .before .if1 .left) (c .before .before .before .before .before .if2 .left) (c .before .before .before .hydronic-step .ensures) (c .enum-told .given .1)
 
 loop-less : tie.Need-loop-less Inv-loop μ-loop
 loop-less c = let n = took c in omega arith
 
 loop-again : tie.Need-loop-again Inv-loop μ-loop
 loop-again c =
-    let l = c .before .before .before .before .before .before .before .loop in
     let n = took c in
-    (omega arith, omega arith, sym (hydronic-on _ _ _ _ (l .inv .0) (c .before .before .before .before .before .before .if1 .left) _ (c .before .before .before .before .before .if2 .left) (wet-turn-on _ _ _ (c .before .before .before .hydronic-step .ensures) (c .enum-told .given .1)) (c .enum-told .given .1)) ∙ l .inv .2)
+    (omega arith, omega arith, wet-on (c .before .before .before .before .before .before .before .before .before .before .before .before .args .x) _ _ _ _ _ _ (c .before .before .before .before .before .before .before .loop .inv .0) (c .before .before .before .before .before .before .if1 .left) (c .before .before .before .before .before .if2 .left) (c .before .before .before .hydronic-step .ensures) (c .enum-told .given .1) ∙ c .before .before .before .before .before .before .before .loop .inv .2)
 
 returns : tie.Need-returns Inv-loop μ-loop
 returns c = wet-end-lies _ _ _ (hydronic-time _ _ _ _ (c .if1 .taken) ∙ c .before .loop .inv .2)
@@ -62,10 +60,7 @@ returns-2 c = wet-end-lies _ _ _ (hydronic-over-budget _ _ _ _ (c .before .befor
 
 returns-3 : tie.Need-returns-3 Inv-loop μ-loop
 returns-3 c =
-    let l = c .before .before .before .before .before .before .before .before .loop in
-    let h = c .before .before .before .before .hydronic-step .ensures in
-    let g = c .before .next .given .1 in
-    wet-turn-stops _ _ _ _ _ h g (hydronic-stop _ _ _ _ (l .inv .0) (c .before .before .before .before .before .before .before .if1 .left) _ (c .before .before .before .before .before .before .if2 .left) refl _ (sym (ap (λ (x : HydronicTurn). x .next) (h .0)) ∙ g) ∙ l .inv .2)
+    wet-stop (c .before .before .before .before .before .before .before .before .before .before .before .before .before .args .x) _ _ _ _ _ _ (c .before .before .before .before .before .before .before .before .loop .inv .0) (c .before .before .before .before .before .before .before .if1 .left) (c .before .before .before .before .before .before .if2 .left) (c .before .before .before .before .hydronic-step .ensures) _ _ (c .before .next .given .1) (c .before .before .before .before .before .before .before .before .loop .inv .2)
 
 pub hydronic-run-spec : {M : Type 1} → statement M
 hydronic-run-spec =

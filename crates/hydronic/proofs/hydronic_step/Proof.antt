@@ -5,6 +5,7 @@ use Rattle.substep.specs.Substep.{substepWith}
 use Rattle.substep.specs.declared.Drive.{Drive}
 use Rattle.runs.specs.Hydronic.{wetDrive, hydronicBy}
 use mathlib.Core.Path.{sym, ap}
+use native.Mathlib.Omega.{arith}
 use borrow.Author.Needs.{needs}
 use Rattle.hydronic.proofs.hydronic_step.Statement.{statement}
 use Rattle.hydronic.proofs.hydronic_step.Tie as tie
@@ -26,7 +27,7 @@ add-hydronic-whole : tie.Need-add-hydronic-whole
 add-hydronic-whole c = search needs
 
 hydronic-whole-requires : tie.Need-hydronic-whole-requires
-hydronic-whole-requires c κs = search needs
+hydronic-whole-requires c κs = let p = c .before .before .before .before .before .before .before .before .before .pre in (p .0, (omega (arith, p .1 .0), p .1 .1))
 
 enum-told-2 : tie.Need-enum-told-2
 enum-told-2 c = search needs
@@ -42,15 +43,15 @@ add-t21 c = search needs
 
 returns : tie.Need-returns
 unfolding hydronicBy
-returns c = hydronic-turn _ _ _ _ _ _ _ _ _ (c .before .before .before .before .before .before .before .before .wet-drive .ensures) (c .before .before .before .before .process-in-place .ensures) (λ energies. subst (WetTurnLies _ _) (sym (ap (hydronicBy _ _ _ _) (c .before .before .enum-told .given .1))) (c .hydronic-whole .ensures energies))
+returns c = hydronic-turn (c .before .before .before .before .before .before .before .before .before .before .args .x) _ _ _ _ _ _ _ _ (c .before .before .before .before .before .before .before .before .wet-drive .ensures) (c .before .before .before .before .process-in-place .ensures) (λ energies. subst (WetTurnLies _ _) (sym (ap (hydronicBy _ _ _ _) (c .before .before .enum-told .given .1))) (c .hydronic-whole .ensures energies))
 
 returns-2 : tie.Need-returns-2
 unfolding hydronicBy substepWith
-returns-2 c = hydronic-turn _ _ _ _ _ _ _ _ _ (c .before .before .before .before .before .before .wet-drive .ensures) (c .before .before .process-in-place .ensures) (λ energies. wet-fault _ _ _ _ _ _ log-refused (sym (ap (hydronicBy _ _ _ _) (c .enum-told2 .given .1))))
+returns-2 c = hydronic-turn (c .before .before .before .before .before .before .before .before .args .x) _ _ _ _ _ _ _ _ (c .before .before .before .before .before .before .wet-drive .ensures) (c .before .before .process-in-place .ensures) (λ energies. wet-fault _ _ _ _ _ _ log-refused (sym (ap (hydronicBy _ _ _ _) (c .enum-told2 .given .1))))
 
 returns-3 : tie.Need-returns-3
 unfolding hydronicBy substepWith
-returns-3 c = hydronic-turn _ _ _ _ _ _ _ _ _ (c .before .before .before .before .before .before .wet-drive .ensures) (c .before .before .process-in-place .ensures) (λ energies. wet-fault _ _ _ _ _ _ finite-refused (sym (ap (hydronicBy _ _ _ _) (c .enum-told3 .given .1))))
+returns-3 c = hydronic-turn (c .before .before .before .before .before .before .before .before .args .x) _ _ _ _ _ _ _ _ (c .before .before .before .before .before .before .wet-drive .ensures) (c .before .before .process-in-place .ensures) (λ energies. wet-fault _ _ _ _ _ _ finite-refused (sym (ap (hydronicBy _ _ _ _) (c .enum-told3 .given .1))))
 
 pub hydronic-step-spec : {M : Type 1} → statement M
 hydronic-step-spec =

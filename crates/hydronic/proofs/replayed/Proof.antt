@@ -1,6 +1,7 @@
-use Rattle.runs.proofs.InPlace.{wet-turn-lies, wet-turn-as, replay-turn}
-use Rattle.floats.proofs.Branch.{via-true, via-false}
-use borrow.Author.Tests.{eq-eqb, ne-eqb}
+use Rattle.runs.proofs.InPlace.{wet-turn-lies}
+use Rattle.runs.proofs.WetTurns.{replayed-turn}
+use Rattle.floats.proofs.Branch.{via-true}
+use borrow.Author.Tests.{eq-eqb}
 use Rattle.runs.specs.Hydronic.{replayed, wetDrive}
 use mathlib.Core.Path.{refl, ap}
 use Rattle.substep.specs.declared.Drive.{Drive}
@@ -32,8 +33,8 @@ replay-by-requires : tie.Need-replay-by-requires
 replay-by-requires c κs = search needs
 
 returns-2 : tie.Need-returns-2
-unfolding replayed
-returns-2 c = wet-turn-as _ _ _ _ (replay-turn _ _ _ _ _ _ _ _ _ _ (c .before .before .before .before .wet-drive .ensures) (c .before .process-in-place .ensures) (λ energies. c .replay-by .ensures _ _ energies)) (via-false _ _ (ne-eqb _ _ (c .before .before .before .before .before .if1 .left)) refl)
+returns-2 c =
+    replayed-turn (c .before .before .before .before .before .before .before .before .args .x) _ _ _ _ _ _ _ _ _ (c .before .before .before .before .before .if1 .left) (c .before .before .before .before .wet-drive .ensures) (c .before .process-in-place .ensures) (c .replay-by .ensures)
 
 pub replayed-spec : {M : Type 1} → statement M
 replayed-spec =

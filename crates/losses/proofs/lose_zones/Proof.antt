@@ -71,9 +71,10 @@ loop-less c = search needs
 loop-again : tie.Need-loop-again Inv-loop μ-loop
 loop-again c =
     let i = c .before .before .before .before .before .before .before in
-    let p = i .before .before .before .before .before .before .before .pre in (
+    let b = i .before .before .before .before .before .before .before in
+    let p = b .pre in (
       omega arith,
-      losing-more _ _ _ refl (p .0) _ (i .loop-test .taken) _ _ _ _ _ _ _ _ _ (upward _ _ _ (p .1 .0)) (c .before .before .before .before .before .before .zone-salt .ensures) (c .before .before .before .before .loss-step .ensures _) (c .before .before .finite-step .ensures) _ _ (p .1 .0) (rw (i .before .before .before .before .charger-heat .ensures) (p .1 .1)) (c .sum2-step .ensures) (i .before .loop .inv .1),
+      losing-more (b .args .course) _ _ refl (p .0) _ (i .loop-test .taken) _ _ _ _ _ _ _ _ _ (upward _ _ _ (p .1 .0)) (c .before .before .before .before .before .before .zone-salt .ensures) (c .before .before .before .before .loss-step .ensures _) (c .before .before .finite-step .ensures) _ _ (p .1 .0) (rw (i .before .before .before .before .charger-heat .ensures) (p .1 .1)) (c .sum2-step .ensures) (i .before .loop .inv .1),
     )
 
 pass-fault-requires : tie.Need-pass-fault-requires Inv-loop μ-loop
