@@ -67,7 +67,7 @@ loop-less c = search needs
 loop-again : tie.Need-loop-again Inv-loop μ-loop
 loop-again c = (
   omega arith,
-  zones-more (c .before .before .before .before .before .before .before .before .before .before .before .args .course) _ _ _ _ _ _ _ (c .before .before .before .before .before .before .before .loop .inv .1) (c .before .before .before .before .before .zone-index .ensures .0) (c .before .before .before .before .zone-salt .ensures) (c .before .before .before .zone-step .ensures),
+  zones-more _ _ _ _ _ _ _ _ (c .before .before .before .before .before .before .before .loop .inv .1) (c .before .before .before .before .before .zone-index .ensures .0) (c .before .before .before .before .zone-salt .ensures) (c .before .before .before .zone-step .ensures),
 )
 
 returns : tie.Need-returns Inv-loop μ-loop

@@ -64,7 +64,7 @@ loop-less c = search needs
 loop-again : tie.Need-loop-again Inv-loop μ-loop
 loop-again c = (
   omega arith,
-  underway-more (c .before .before .before .before .before .before .before .before .before .before .before .before .before .before .before .args .course) _ _ refl (c .before .before .before .before .before .before .before .before .before .before .before .before .before .before .before .pre) _ (c .before .before .before .before .before .before .before .before .before .before .loop-test .taken) _ _ _ _ _ _ _ _ _ _ _ (c .before .before .before .before .before .before .before .before .before .before .before .loop .inv .1) (c .before .before .before .before .before .before .before .before .before .zone-index .ensures .0) (c .before .before .before .before .before .before .before .before .zone-salt .ensures) (c .before .before .before .before .before .before .zone-step .ensures) (c .before .before .sum2-step .ensures) (c .before .before .before .before .finite-step .ensures),
+  underway-more _ _ _ refl (c .before .before .before .before .before .before .before .before .before .before .before .before .before .before .before .pre) _ (c .before .before .before .before .before .before .before .before .before .before .loop-test .taken) _ _ _ _ _ _ _ _ _ _ _ (c .before .before .before .before .before .before .before .before .before .before .before .loop .inv .1) (c .before .before .before .before .before .before .before .before .before .zone-index .ensures .0) (c .before .before .before .before .before .before .before .before .zone-salt .ensures) (c .before .before .before .before .before .before .zone-step .ensures) (c .before .before .sum2-step .ensures) (c .before .before .before .before .finite-step .ensures),
 )
 
 pass-fault-requires : tie.Need-pass-fault-requires Inv-loop μ-loop
