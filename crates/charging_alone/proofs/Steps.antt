@@ -4,11 +4,12 @@ use mathlib.Core.Bool.{true, false, _&&_}
 use mathlib.Core.List.{List}
 use Prim.Native.Nat.{ℕ, _≤_, _<_, _+_}
 use lib.ListN.{getD, set, replicate}
-use lib.Ieee.{Float, nan, ofBits, add, sub, eq, lt}
+use lib.Ieee.{Float, nan, ofBits, eq, lt}
 use Rattle.floats.specs.F64.{_⊕_}
 use Rattle.floats.specs.Constants.{zero}
 use Rattle.floats.specs.Standins.{finite64, nearlyEqual}
 use Rattle.floats.specs.Sum2.{sum2Step}
+use Rattle.floats.proofs.Sum2Laws.{no-more, noSum, no-sum-more}
 use Rattle.zone.specs.Heat.{kj}
 use Rattle.zone.specs.Layer.{zoneSalt}
 use Rattle.update.specs.Update.{newZoneTemperature}
@@ -25,7 +26,6 @@ use Rattle.substep.specs.declared.Course.{Course}
 use Rattle.substep.specs.declared.Pass.{Pass}
 use Rattle.substep.specs.declared.ZoneStep.{ZoneStep}
 use Rattle.substep.proofs.OneLoop.{zoneStepOf, Underway, no-energy, underway-more}
-use Rattle.substep.proofs.Ordered.{noSum}
 
 module _ (x : Course) (s : Salt) (t inlet : Float) (q : Kilojoules) (k : KilowattHours) where
   module _ (m : x .mode ≡ OnlyCharging) where
@@ -50,8 +50,7 @@ module _ (x : Course) (n : ℕ) (p : Pass) (none : p .energies ≡ replicate 64 
     (d : j ≡ zoneIndex (x .mode) n k) (r : s ≡ zoneSalt (x .salt) j) (e : z ≡ zoneStep x s (getD zones j nan) outlet left charged)
     (t : eq next zero ≡ (eq spread zero && finite64 (getD (set zones j (z .temperature)) j nan))) where
   nothing-more : (f : Float) → f ≡ zero → noSum ≡ sum2Step noSum (zero ⊕ f)
-  unfolding sum2Step ofBits add sub
-  nothing-more f g = rw g
+  nothing-more f g = rw (g, no-more, no-sum-more)
 
   -- no heat, no sum
   pub charging-more :

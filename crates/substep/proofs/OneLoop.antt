@@ -8,13 +8,14 @@ use native.Mathlib.Omega.{arith}
 use native.Mathlib.Numerals.{add-one}
 use lib.ListN.{length, getD, set, replicate, getD-replicate, length-replicate}
 use lib.Seq.{set-getD}
-use lib.Ieee.{Float, nan, ofBits, add, eq}
+use lib.Ieee.{Float, nan, eq}
 use Rattle.floats.specs.F64.{_⊕_}
 use Rattle.floats.specs.Constants as Constants
 use Rattle.floats.specs.Standins.{finite64}
 use Rattle.floats.specs.Sum2.{sum2Step, sum2After, sum2}
 use Rattle.floats.specs.declared.Sum2.{Sum2}
 use Rattle.floats.proofs.Spread.{spread-start}
+use Rattle.floats.proofs.Sum2Laws.{no-more, noSum}
 use Rattle.zone.specs.Heat.{kj, kwh}
 use Rattle.zone.specs.Layer.{zoneSalt}
 use Rattle.water.specs.Water.{zoneProperties}
@@ -35,7 +36,7 @@ use Rattle.substep.specs.declared.ZoneStep.{ZoneStep}
 use Rattle.substep.proofs.Passes.{index-below}
 use Rattle.substep.proofs.Stores.{stored-places, stored-elsewhere}
 use Rattle.substep.proofs.EachZone.{index-once}
-use Rattle.substep.proofs.Ordered.{inOrder, andFinite, noSum, read-more, gathered-more, tests-all, sum-all}
+use Rattle.substep.proofs.Ordered.{inOrder, andFinite, read-more, gathered-more, tests-all, sum-all}
 
 -- the k-th of n zones' step, and the sum and the tests up to it, in the mode's order
 abbrev stepped : Course → ℕ → ℕ → Pass → ZoneStep
@@ -61,8 +62,7 @@ pub record Underway (x : Course) (n k : ℕ) (p : Pass) (zones : List Float) (ou
 
 -- a zero more at a zero
 store-zero : (l : List Float) (j : ℕ) (e : Float) → getD l j nan ≡ Constants.zero → e ≡ Constants.zero → set l j (getD l j nan ⊕ e) ≡ l
-unfolding ofBits add
-store-zero l j e h g = rw (h, g) (ap (set l j) (sym h) ∙ set-getD l j nan)
+store-zero l j e h g = rw (h, g, no-more) (ap (set l j) (sym h) ∙ set-getD l j nan)
 
 -- a zone's step where no water runs
 abbrev pub zoneStepOf : Float → Kilojoules → Kilojoules → KilowattHours → ZoneStep

@@ -8,13 +8,13 @@ use native.Mathlib.Decide.{ℕ-discrete}
 use native.Mathlib.Omega.{arith}
 use lib.ListN.{length, getD, set}
 use lib.Seq.{getD-set-same, getD-set-other}
-use lib.Ieee.{Float, nan, ofBits, add, sub}
+use lib.Ieee.{Float, nan}
 use lib.Ieee.Bits.{is-true}
 use Rattle.floats.specs.Constants as Constants
 use Rattle.floats.specs.Standins.{finite64}
 use Rattle.floats.specs.Sum2.{sum2Step, sum2After}
-use Rattle.floats.specs.declared.Sum2.{Sum2}
 use Rattle.floats.proofs.Order.{same-test}
+use Rattle.floats.proofs.Sum2Laws.{noSum, no-sum-more}
 use Rattle.water.specs.declared.Mode.{Mode}
 use Rattle.water.specs.declared.Mode.the-variants.{OnlyCharging, Losses, Normal}
 use Rattle.card.proofs.Tests.{and-true, true-and}
@@ -31,9 +31,6 @@ inOrder m n f a l (suc k) = f (inOrder m n f a l k) (getD l (zoneIndex m n k) na
 
 abbrev pub andFinite : Bool → Float → Bool
 andFinite b t = b && finite64 t
-
-abbrev pub noSum : Sum2
-noSum = record { s = Constants.zero; c = Constants.zero }
 
 -- the mode's order there and back
 index-back : (m : Mode) (n i : ℕ) → i < n → zoneIndex m n (zoneIndex m n i) ≡ i
@@ -109,14 +106,10 @@ module _ (m : Mode) (n : ℕ) (l : List Float) where
 
 -- zeros sum to nothing in any order
 module _ (n : ℕ) (l : List Float) (zeros : (i : ℕ) → i < n → getD l i nan ≡ Constants.zero) where
-  zero-more : sum2Step noSum Constants.zero ≡ noSum
-  unfolding sum2Step ofBits add sub
-  zero-more = refl
-
   sum-zeros : inOrder OnlyCharging n sum2Step noSum l n ≡ sum2After l n
   sum-zeros =
-      gathered-none OnlyCharging n sum2Step noSum l Constants.zero zero-more zeros n (omega arith) ∙
-      (sym (gathered-none Losses n sum2Step noSum l Constants.zero zero-more zeros n (omega arith)) ∙ sum-losses n l)
+      gathered-none OnlyCharging n sum2Step noSum l Constants.zero no-sum-more zeros n (omega arith) ∙
+      (sym (gathered-none Losses n sum2Step noSum l Constants.zero no-sum-more zeros n (omega arith)) ∙ sum-losses n l)
 
 -- the sum in the mode's order, of energies that are 0 where it is not upward
 pub sum-all :

@@ -2,10 +2,11 @@
 use mathlib.Core.Path.{_≡_, refl, ap, _∙_}
 use mathlib.Core.Bool.{Bool, true, false, cond}
 use lib.Dec.{T}
-use lib.Ieee.{Float, binary64, ofBits, add, lt, neg, fits}
+use lib.Ieee.{Float, binary64, lt, neg, fits}
 use Rattle.floats.specs.F64.{_⊕_, _⊖_}
 use Rattle.floats.specs.Constants.{zero, negligibleEnergy}
 use Rattle.floats.proofs.Negligible.{negligible-compared}
+use Rattle.floats.proofs.Sum2Laws.{no-more}
 use Rattle.floats.proofs.Unchanged.{less-zero}
 use Rattle.zone.specs.declared.Kilojoules.{Kilojoules}
 use Rattle.zone.specs.declared.Salt.{Salt}
@@ -14,8 +15,7 @@ use Rattle.update.specs.declared.Deltas.{Deltas}
 use Rattle.update.specs.declared.ZoneUpdate.{ZoneUpdate}
 
 no-falls : zero ⊕ zero ⊕ zero ≡ zero
-unfolding ofBits add
-no-falls = refl
+no-falls = ap (λ (x : Float). x ⊕ zero) no-more ∙ no-more
 
 abbrev still : Float → ZoneUpdate
 still t = record { temperature = t }

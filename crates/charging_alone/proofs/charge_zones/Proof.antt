@@ -1,6 +1,6 @@
 use lib.Ieee.{ofBits, add}
 use Rattle.substep.proofs.OneLoop.{Underway, startOf, underway-start, underway-end}
-use Rattle.substep.proofs.Ordered.{noSum}
+use Rattle.floats.proofs.Sum2Laws.{noSum}
 use Rattle.charging_alone.proofs.Steps.{charging-more}
 use mathlib.Core.Path.{refl}
 use Prim.Native.Nat.{_≤_, _-_}
