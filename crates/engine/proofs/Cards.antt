@@ -4,7 +4,7 @@ use mathlib.Core.Bool.{Bool, true, false, cond}
 use Rattle.battery.specs.declared.Battery.{Battery}
 use Rattle.battery.specs.declared.Demand.{Demand}
 use Rattle.runs.specs.declared.Ended.{Ended}
-use Rattle.totals.specs.Totals.{serviceClass}
+use Rattle.totals.specs.Classes.{serviceClass}
 use Rattle.replies.specs.Replies.{served, demandKept, demandAnswer}
 
 pub kept-card : (b : Battery) (d : Demand) (r : Ended) → demandKept b d r .card ≡ b .card

@@ -26,7 +26,7 @@ use Rattle.runs.specs.Runs.{faultEnd, endRefusal}
 use Rattle.delivery.specs.Demand.{demandRun, demandEnded}
 use Rattle.runs.specs.Hydronic.{hydronicEnded, wholeSubsteps}
 use Rattle.runs.specs.Charge.{electricEnded, chargeElectric, hydronicTask, hydronicStart, chargeHydronic, chargeBattery, lossEnded, batteryHeatLoss, chargeEnergyDemand}
-use Rattle.totals.specs.Totals.{serviceClass, unserved}
+use Rattle.totals.specs.Classes.{serviceClass, unserved}
 use Rattle.replies.specs.Replies.{checked, unlessRefused, demandStart, demandAnswer, runAnswer, chargedBattery, cooledBattery, closedBattery}
 use Rattle.engine.specs.Steps.{demandTask, demandFrom, demandGiven, demandEnergy, charge, heatLoss, level, readLevel, demandToLevel, wetSource, stepOf}
 use Rattle.runs.specs.declared.Ended.{Ended}

@@ -25,7 +25,7 @@ use Rattle.runs.specs.Charge.{chargeBattery, batteryHeatLoss, chargeEnergyDeman
 use Rattle.runs.specs.declared.Ended.{Ended}
 use Rattle.runs.specs.declared.Source.{Source}
 use Rattle.runs.specs.declared.Source.the-variants.{Electric}
-use Rattle.totals.specs.Totals.{serviceClass, unserved}
+use Rattle.totals.specs.Classes.{serviceClass, unserved}
 use Rattle.replies.specs.Replies.{checked, unlessRefused, demandAnswer, runAnswer, chargedBattery, cooledBattery, closedBattery}
 use Rattle.engine.specs.Steps.{demandFrom, demandGiven, demandEnergy, charge, heatLoss, level, readLevel, demandToLevel, wetSource, stepOf}
 use Rattle.engine.specs.Faults.{demandRunOf, AnswerNotFinite, NoDemandNotFinite, LevelNotFinite}

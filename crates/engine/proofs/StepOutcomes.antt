@@ -29,7 +29,7 @@ use Rattle.runs.specs.declared.Source.the-variants.{Electric, Wet}
 use Rattle.delivery.specs.Demand.{demandRun, demandEnded}
 use Rattle.runs.specs.Hydronic.{hydronicEnded, wholeSubsteps}
 use Rattle.runs.specs.Charge.{electricDrive, electricEnded, chargeElectric, hydronicTask, hydronicStart, chargeHydronic, chargeBattery, lossDrive, lossEnded, batteryHeatLoss, chargeEnergyDemand}
-use Rattle.totals.specs.Totals.{serviceClass, unserved}
+use Rattle.totals.specs.Classes.{serviceClass, unserved}
 use Rattle.replies.specs.Replies.{demandStart, served, demandKept, demandAnswer, chargedBattery, cooledBattery, runAnswer, closedBattery}
 use Rattle.engine.specs.Steps.{demandTask, demandFrom, demandGiven, demandEnergy, charge, heatLoss, level, readLevel, demandToLevel, wetSource, stepOf}
 use Rattle.engine.proofs.Ends.{demand-run-above, demand-run-count, hydronic-run-above, hydronic-run-count}

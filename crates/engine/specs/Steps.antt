@@ -29,7 +29,7 @@ use Rattle.runs.specs.declared.Ended.{Ended}
 use Rattle.runs.specs.Runs.{timeAvailable}
 use Rattle.delivery.specs.Demand.{demandRun, demandEnded}
 use Rattle.runs.specs.Charge.{chargeBattery, batteryHeatLoss, chargeEnergyDemand}
-use Rattle.totals.specs.Totals.{serviceClass, unserved}
+use Rattle.totals.specs.Classes.{serviceClass, unserved}
 use Rattle.replies.specs.Replies.{checked, unlessRefused, unitsOf, demandStart, demandAnswer, chargedBattery, cooledBattery, runAnswer, closedBattery}
 
 -- '`electric_charge`: the card's power where the call's control flag is 1, else 0', where the card charges during a demand

@@ -27,7 +27,7 @@ use Rattle.battery.specs.declared.Given.the-variants.{Absent, Value}
 use Rattle.runs.specs.Runs.{endRefusal}
 use Rattle.delivery.specs.Demand.{demandRun, demandEnded}
 use Rattle.runs.specs.Charge.{chargeBattery, batteryHeatLoss, chargeEnergyDemand}
-use Rattle.totals.specs.Totals.{serviceClass, unserved}
+use Rattle.totals.specs.Classes.{serviceClass, unserved}
 use Rattle.replies.specs.Replies.{checked, unlessRefused, demandStart, demandAnswer, chargedBattery, cooledBattery, closedBattery, runAnswer}
 use Rattle.engine.specs.Steps.{demandTask, demandFrom, demandGiven, demandEnergy, charge, heatLoss, level, readLevel, demandToLevel, wetSource, stepOf}
 use Rattle.runs.specs.declared.End.{End}

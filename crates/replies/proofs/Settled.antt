@@ -19,9 +19,9 @@ use Rattle.runs.specs.declared.Ended.{Ended}
 use Rattle.runs.specs.Runs.{endRefusal}
 use Rattle.runs.specs.Apart.{endedWith, EndedLies}
 use Rattle.totals.specs.declared.ServiceClass.{ServiceClass}
-use Rattle.totals.specs.Totals.{servedTotals, chargedTotals, closedTotals}
+use Rattle.totals.specs.Apart.{servedTotals, chargedTotals, closedTotals}
 use Rattle.replies.specs.Apart.{demandReply, runReply}
-use Rattle.totals.specs.Totals.{serviceClass}
+use Rattle.totals.specs.Classes.{serviceClass}
 use Rattle.replies.specs.Replies.{checked, unlessRefused, served, demandKept, demandAnswer, chargedBattery, cooledBattery, runAnswer, closedBattery}
 
 module _ (l : Ledger) (before zones : List Float) (r : Reply) where

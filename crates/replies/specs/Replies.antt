@@ -13,7 +13,7 @@ use Rattle.battery.specs.declared.Battery.{Battery}
 use Rattle.battery.specs.declared.Demand.{Demand}
 use Rattle.battery.specs.declared.Answer.{Answer}
 use Rattle.totals.specs.declared.ServiceClass.{ServiceClass}
-use Rattle.totals.specs.Totals.{serviceClass, pumpAfter, directAfter}
+use Rattle.totals.specs.Classes.{serviceClass, pumpAfter, directAfter}
 use Rattle.delivery.specs.declared.Run.{Run}
 use Rattle.runs.specs.declared.Ended.{Ended}
 use Rattle.runs.specs.Runs.{endRefusal, reynoldBetween}

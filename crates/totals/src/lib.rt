@@ -4,7 +4,8 @@ use battery::Totals;
 use card::Card;
 use runs::Stopped;
 ghost use mathlib.Core.Path.{_≡_};
-ghost use Rattle.totals.specs.Totals.{serviceClass, unserved as unservedOf, pumpAfter, directAfter, servedTotals, chargedTotals, closedTotals};
+ghost use Rattle.totals.specs.Classes.{serviceClass, unserved as unservedOf, pumpAfter, directAfter};
+ghost use Rattle.totals.specs.Apart.{servedTotals, chargedTotals, closedTotals};
 
 // The class of a service type.
 pub enum ServiceClass {

@@ -1,4 +1,4 @@
-use Rattle.totals.specs.Totals.{directAfter}
+use Rattle.totals.specs.Classes.{directAfter}
 use borrow.Author.Needs.{needs}
 use Rattle.totals.proofs.direct_after.Statement.{statement}
 use Rattle.totals.proofs.direct_after.Tie as tie

@@ -1,4 +1,4 @@
-use Rattle.totals.specs.Totals.{pumpAfter}
+use Rattle.totals.specs.Classes.{pumpAfter}
 use borrow.Author.Needs.{needs}
 use Rattle.totals.proofs.pump_after.Statement.{statement}
 use Rattle.totals.proofs.pump_after.Tie as tie

@@ -1,7 +1,7 @@
 use mathlib.Core.Path.{refl}
 use Rattle.floats.proofs.Branch.{via-true, via-false}
 use borrow.Author.Tests.{eq-eqb, ne-eqb}
-use Rattle.totals.specs.Totals.{serviceClass}
+use Rattle.totals.specs.Classes.{serviceClass}
 use Rattle.totals.proofs.service_class.Statement.{statement}
 use Rattle.totals.proofs.service_class.Tie as tie
 

@@ -1,4 +1,4 @@
-use Rattle.totals.specs.Totals.{unserved}
+use Rattle.totals.specs.Classes.{unserved}
 use borrow.Author.Needs.{needs}
 use Rattle.totals.proofs.unserved.Statement.{statement}
 use Rattle.totals.proofs.unserved.Tie as tie

@@ -1,14 +1,10 @@
--- Document 01: the five totals behind a call, where the zones lie apart.
+-- Document 01: the class of a service type, and the running hours that it counts.
 use Prim.Native.Nat.{ℕ}
 use mathlib.Core.Bool.{Bool, true, false, cond}
 use lib.Dec.{eqb}
 use lib.Ieee.{Float}
-use Rattle.floats.specs.F64.{_⊕_, _⊘_}
-use Rattle.floats.specs.Constants.{zero, hour}
+use Rattle.floats.specs.F64.{_⊕_}
 use Rattle.card.specs.declared.Card.{Card}
-use Rattle.battery.specs.declared.Totals.{Totals}
-use Rattle.battery.specs.declared.Ledger.{Ledger}
-use Rattle.runs.specs.declared.Stopped.{Stopped}
 use Rattle.totals.specs.declared.ServiceClass.{ServiceClass}
 use Rattle.totals.specs.declared.ServiceClass.the-variants.{Combi, Regular, Space, Direct}
 
@@ -34,21 +30,3 @@ directAfter Combi direct hours = direct
 directAfter Regular direct hours = direct
 directAfter Space direct hours = direct
 directAfter Direct direct hours = direct ⊕ hours
-
--- a committed demand: running hours by class, charged electric
-abbrev pub servedTotals : Ledger → ServiceClass → Stopped → Totals
-servedTotals l class s =
-    record {
-      total = l .totals .total ⊕ s .time ⊘ hour;
-      pump = pumpAfter class (l .totals .pump) (s .time ⊘ hour);
-      direct = directAfter class (l .totals .direct) (s .time ⊘ hour);
-      charged = l .totals .charged;
-      electric = s .electric .0;
-    }
-
-abbrev pub chargedTotals : Ledger → Stopped → Totals
-chargedTotals l s =
-    record { total = l .totals .total; pump = l .totals .pump; direct = l .totals .direct; charged = l .totals .charged ⊕ s .energy .0; electric = s .electric .0 }
-
-abbrev pub closedTotals : Ledger → Totals
-closedTotals l = record { total = zero; pump = zero; direct = zero; charged = l .totals .charged; electric = l .totals .electric }
