@@ -23,12 +23,12 @@ use Rattle.entry.specs.Entry.{unchanged, openOf}
 use Rattle.heat_battery.specs.Entries.{entryOf}
 use Rattle.heat_battery.specs.Cases.{OpenCase1, OpenCase2, OpenCase3, OpenCase4, OpenCase10, OpenCase11, Opens, CallCase10, CallCase11, CallCase20, CallCase21}
 use Rattle.heat_battery.specs.Lists.{SheetOfSteps}
-use Rattle.heat_battery.specs.Record.{advancedOf}
+use Rattle.own_record.specs.Record.{advancedOf}
 use Rattle.heat_battery.proofs.OpenCases.{open-0, open-1, open-2, open-3, open-4, open-10, open-11, refused-opening-keeps}
 use Rattle.heat_battery.proofs.CallCases.{call-10, call-11, refused-call-keeps, refusal-line-keeps}
 use Rattle.heat_battery.proofs.CallNumbers.{call-20, call-21}
 use Rattle.heat_battery.proofs.EqualSteps.{sheet-equal-to-steps}
-use Rattle.heat_battery.proofs.OwnRecord.{refused-record-stays}
+use Rattle.own_record.proofs.OwnRecord.{refused-record-stays}
 use Rattle.auditor.specs.declared.Verdict.the-variants.{Accepted, Refused}
 use Rattle.auditor.specs.Audit.{limit, auditOf, limitedAuditOf}
 use Rattle.auditor.specs.Sheet.{Sheet}

@@ -8,5 +8,4 @@ pub mod DemandCases
 pub mod CallNumbers
 pub mod CardCases
 pub mod OpenCases
-pub mod OwnRecord
 pub mod ZonesLent

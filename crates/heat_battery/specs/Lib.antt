@@ -1,4 +1,3 @@
 pub mod Entries
 pub mod Cases
 pub mod Lists
-pub mod Record

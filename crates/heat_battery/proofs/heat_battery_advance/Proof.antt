@@ -51,27 +51,27 @@ use denote.Exit.{yes}
 use Rattle.battery.specs.Ledger.{whole as wholeOf, ledgerOf}
 use Rattle.battery.specs.declared.Battery.{Battery}
 use Rattle.battery.specs.declared.Ledger.{Ledger}
-use Rattle.heat_battery.specs.Record.{Advanced, renewedWith, advancedOf}
-use Rattle.heat_battery.specs.declared.Renewed.{Renewed}
-use Rattle.heat_battery.specs.declared.Shown.{Shown}
+use Rattle.own_record.specs.Record.{Advanced, renewedWith, advancedOf}
+use Rattle.own_record.specs.declared.Renewed.{Renewed}
+use Rattle.own_record.specs.declared.Shown.{Shown}
 use Rattle.battery.proofs.Battery as T
 use Rattle.battery.proofs.Battery.Laws as T′
 use Rattle.battery.proofs.Ledger as L
 use Rattle.battery.proofs.Ledger.Laws as L′
 use Rattle.battery.proofs.Totals as P·Totals
 use Rattle.battery.proofs.Totals.Laws as P·Totals′
-use Rattle.heat_battery.proofs.Renewed as S
-use Rattle.heat_battery.proofs.Renewed.Laws as S′
-use Rattle.heat_battery.proofs.Shown as P·Shown
-use Rattle.heat_battery.proofs.Shown.Laws as P·Shown′
+use Rattle.own_record.proofs.Renewed as S
+use Rattle.own_record.proofs.Renewed.Laws as S′
+use Rattle.own_record.proofs.Shown as P·Shown
+use Rattle.own_record.proofs.Shown.Laws as P·Shown′
 use Rattle.battery.proofs.ledger_of as k
 use Rattle.battery.proofs.ledger_of.Symbol as k-def
 use Rattle.battery.proofs.ledger_of.Symbol.{name as #k}
 use Rattle.battery.proofs.ledger_of.Met as k-thm
-use Rattle.heat_battery.proofs.advance_apart as g
-use Rattle.heat_battery.proofs.advance_apart.Symbol as g-def
-use Rattle.heat_battery.proofs.advance_apart.Symbol.{name as #g}
-use Rattle.heat_battery.proofs.advance_apart.Met as g-thm
+use Rattle.own_record.proofs.advance_apart as g
+use Rattle.own_record.proofs.advance_apart.Symbol as g-def
+use Rattle.own_record.proofs.advance_apart.Symbol.{name as #g}
+use Rattle.own_record.proofs.advance_apart.Met as g-thm
 use Rattle.heat_battery.proofs.ZonesLent.{vals, Zones, spread, zones-val, zones-are, put-back, Way, taken-out, put-in}
 use Rattle.heat_battery.proofs.heat_battery_advance.Key.{name as #f}
 use Rattle.heat_battery.proofs.heat_battery_advance as f
@@ -258,4 +258,4 @@ heat-battery-advance-spec 𝓤 H 𝓜 𝓖 𝓡 =
     (tables 𝓤 H 𝓜 𝓡 code.env .C) (tables 𝓤 H 𝓜 𝓡 code.env .Λ) #f code.function (code.unfolded 𝓤 H 𝓜 𝓡)
     (meets 𝓤 H (𝓖 .A) (givenOf 𝓤 H 𝓜 𝓖) (𝓜 .mem) (𝓡 .run) (tablesOf 𝓤 H 𝓜 (tables 𝓤 H 𝓜 𝓡 code.env))
     (cited 𝓤 H (K 𝓤 H (𝓖 .A) (𝓜 .mem) (𝓡 .run)) 𝓜 𝓡 code.env #k k-def.routine code.calls-battery·ledger-of (k-thm.met 𝓤 H 𝓜 𝓖 𝓡))
-    (cited 𝓤 H (G 𝓤 H (𝓖 .A) (𝓜 .mem) (𝓡 .run)) 𝓜 𝓡 code.env #g g-def.routine code.calls-heat-battery·advance-apart (g-thm.met 𝓤 H 𝓜 𝓖 𝓡)))
+    (cited 𝓤 H (G 𝓤 H (𝓖 .A) (𝓜 .mem) (𝓡 .run)) 𝓜 𝓡 code.env #g g-def.routine code.calls-own-record·advance-apart (g-thm.met 𝓤 H 𝓜 𝓖 𝓡)))

@@ -1,10 +1,10 @@
 use Rattle.battery.specs.Answer.{refusedWith}
 use Rattle.replies.proofs.Settled.{settled-answer, settled-other}
-use Rattle.heat_battery.specs.Record.{shownOf, advancedBy, advancedRead, advancedOf}
+use Rattle.own_record.specs.Record.{shownOf, advancedBy, advancedRead, advancedOf}
 use mathlib.Core.Path.{sym, _∙_, ap}
 use borrow.Author.Needs.{needs}
-use Rattle.heat_battery.proofs.advance_apart.Statement.{statement}
-use Rattle.heat_battery.proofs.advance_apart.Tie as tie
+use Rattle.own_record.proofs.advance_apart.Statement.{statement}
+use Rattle.own_record.proofs.advance_apart.Tie as tie
 
 read-call-requires : tie.Need-read-call-requires
 read-call-requires c κs = search needs

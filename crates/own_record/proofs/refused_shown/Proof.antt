@@ -1,6 +1,6 @@
 use mathlib.Core.Path.{refl}
-use Rattle.heat_battery.proofs.refused_shown.Statement.{statement}
-use Rattle.heat_battery.proofs.refused_shown.Tie as tie
+use Rattle.own_record.proofs.refused_shown.Statement.{statement}
+use Rattle.own_record.proofs.refused_shown.Tie as tie
 
 returns : tie.Need-returns
 returns c = refl

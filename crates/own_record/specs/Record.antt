@@ -13,8 +13,8 @@ use Rattle.engine.specs.Steps.{advanceOf}
 use Rattle.calls.specs.Calls.{callOf}
 use Rattle.calls.specs.declared.ReadCall.{ReadCall}
 use Rattle.calls.specs.declared.ReadCall.the-variants.{Good, Bad}
-use Rattle.heat_battery.specs.declared.Shown.{Shown}
-use Rattle.heat_battery.specs.declared.Renewed.{Renewed}
+use Rattle.own_record.specs.declared.Shown.{Shown}
+use Rattle.own_record.specs.declared.Renewed.{Renewed}
 
 -- a battery after a call, and what the call answers
 pub record Advanced : Type 0 where

@@ -8,7 +8,7 @@ use Rattle.engine.proofs.AdvanceKeeps.{advance-refused-keeps-state}
 use Rattle.calls.specs.Calls.{callOf}
 use Rattle.calls.specs.declared.ReadCall.{ReadCall}
 use Rattle.calls.specs.declared.ReadCall.the-variants.{Good, Bad}
-use Rattle.heat_battery.specs.Record.{shownOf, advancedBy, advancedRead, advancedOf}
+use Rattle.own_record.specs.Record.{shownOf, advancedBy, advancedRead, advancedOf}
 
 read-stays : (version : ℕ) (b : Battery) (r : ReadCall) → (advancedRead version b r .shown .refusal ≡ 0 → ⊥) → advancedRead version b r .battery ≡ b
 unfolding advancedRead advancedBy shownOf refusedWith

@@ -1,0 +1,87 @@
+// A call on the caller's own battery, its zones where they lie: what is left of the totals, and what is shown.
+use battery::Ledger;
+use battery::Reply;
+use battery::Totals;
+use calls::ReadCall;
+ghost use mathlib.Core.Path.{_≡_};
+ghost use Rattle.battery.specs.Ledger.{whole};
+ghost use Rattle.own_record.specs.Record.{replyShown, refusedShown, renewedWith, advancedOf};
+
+// The version of the calls' bytes.
+const VERSION: u8 = 1;
+
+// What a call answers, without the battery.
+#[repr(C)]
+pub struct Shown {
+    // 0 for none
+    pub refusal: u8,
+    // 1 where there is an outlet temperature
+    pub mark: u8,
+    pub substeps: u32,
+    // kWh, or the state of charge
+    pub energy: f64,
+    pub outlet: f64,
+    // seconds
+    pub time: f64,
+}
+
+// What a call leaves of a battery besides its zones, and what it shows.
+pub struct Renewed {
+    pub totals: Totals,
+    pub shown: Shown,
+}
+
+// What an answer shows.
+fn reply_shown(a: Reply) -> Shown
+    ensures { λ r. ⌜ r ≡ replyShown a ⌝ }
+{
+    Shown {
+        refusal: a.refusal,
+        mark: a.mark,
+        substeps: a.substeps,
+        energy: a.energy,
+        outlet: a.outlet,
+        time: a.time,
+    }
+}
+
+// What a refusal shows.
+fn refused_shown(refusal: u8) -> Shown
+    ensures { λ r. ⌜ r ≡ refusedShown refusal ⌝ }
+{
+    Shown {
+        refusal,
+        mark: 0,
+        substeps: 0,
+        energy: 0.0,
+        outlet: 0.0,
+        time: 0.0,
+    }
+}
+
+// A call's bytes on a battery whose zones lie apart. Refused, its zones and totals are as they were.
+pub fn advance_apart(l: Ledger, call: &[u8], zones: &mut [f64; 64]) -> Renewed
+    ensures { λ r. ⌜ renewedWith l r (now (zones .exit)) ≡ advancedOf 1 (whole l (now (zones .entry))) (now (call .entry)) ⌝ }
+{
+    let read = calls::read_call(VERSION, call);
+    match read {
+        ReadCall::Bad => {
+            let totals = l.totals;
+            let shown = refused_shown(10);
+            Renewed { totals, shown }
+        }
+        ReadCall::Good(c) => {
+            let before = *zones;
+            let a = engine::steps::advance_in_place(VERSION, l, c, zones);
+            if a.refusal == 0 {
+                let totals = a.totals;
+                let shown = reply_shown(a);
+                return Renewed { totals, shown };
+            }
+            *zones = before;
+            let totals = l.totals;
+            let shown = refused_shown(a.refusal);
+            Renewed { totals, shown }
+        }
+    }
+}
