@@ -1,11 +1,10 @@
 // Replays the vector files that its arguments name (oracle/VECTORS.md) and compares every answer bit for bit.
 mod calls;
-mod lines;
 
 use std::num::wrapping_add_u64;
+use vector_files::Run;
+use vector_files::lines;
 ghost use Prim.Native.Nat.{_≤_};
-
-const MOST_WORDS: u64 = 512;
 
 // The ids of a list of calls. Its start compares nothing.
 const START: u64 = 50;
@@ -14,49 +13,6 @@ const CALL: u64 = 51;
 
 // Disagreements of one file that get a line of their own.
 const MOST_LINES: u64 = 10;
-
-// What a file has shown so far.
-struct Run {
-    // the place of the next record, from 0
-    place: u64,
-    agree: u64,
-    disagree: u64,
-    // whether there may be another record
-    going: bool,
-}
-
-fn fresh() -> Run {
-    Run {
-        place: 0,
-        agree: 0,
-        disagree: 0,
-        going: true,
-    }
-}
-
-fn ended(run: Run) -> Run {
-    Run {
-        place: run.place,
-        agree: run.agree,
-        disagree: run.disagree,
-        going: false,
-    }
-}
-
-// Behind a record that adds to the counts.
-fn counted(run: Run, agree: u64, disagree: u64) -> Run {
-    Run {
-        place: wrapping_add_u64(run.place, 1),
-        agree: wrapping_add_u64(run.agree, agree),
-        disagree: wrapping_add_u64(run.disagree, disagree),
-        going: true,
-    }
-}
-
-// What cannot be read counts as a record that disagrees, and nothing behind it is read.
-fn spoilt(run: Run) -> Run {
-    ended(counted(run, 0, 1))
-}
 
 fn agrees(id: u64, words: &[u8], held: &mut [u8]) -> bool {
     if id == CALL {
@@ -69,25 +25,24 @@ fn agrees(id: u64, words: &[u8], held: &mut [u8]) -> bool {
 fn compared(file: &[u8], run: Run, id: u64, words: &[u8], held: &mut [u8]) -> Run {
     if id == START {
         lists::start(words, held);
-        return counted(run, 0, 0);
+        return vector_files::counted(run, 0, 0);
     }
     if agrees(id, words, held) {
-        return counted(run, 1, 0);
+        return vector_files::counted(run, 1, 0);
     }
     if run.disagree < MOST_LINES {
         lines::disagrees(file, run.place, id);
     }
-    counted(run, 0, 1)
+    vector_files::counted(run, 0, 1)
 }
 
 // Reads a record's words, as many as `words` holds, and compares it.
 fn next_words(fd: i32, file: &[u8], run: Run, id: u64, words: &mut [u8], held: &mut [u8]) -> Run {
-    let got = io::read_full(fd, words);
-    if got < words.len() {
-        lines::cut(file, run.place);
-        return spoilt(run);
+    let run = vector_files::read_words(fd, file, run, words);
+    if run.going {
+        return compared(file, run, id, words, held);
     }
-    compared(file, run, id, words, held)
+    run
 }
 
 // The same of a record whose words take `size` bytes.
@@ -100,28 +55,17 @@ fn sized_record(fd: i32, file: &[u8], run: Run, id: u64, size: usize, held: &mut
 
 // Reads and compares the next record, if there is one.
 fn next_record(fd: i32, file: &[u8], run: Run, held: &mut [u8]) -> Run {
-    let mut head = [0u8; 4];
-    let got = io::read_full(fd, &mut head);
-    if got == 0 {
-        return ended(run);
+    let head = vector_files::read_head(fd, file, run);
+    let run = head.run;
+    if run.going {
+        return sized_record(fd, file, run, head.id, head.size, held);
     }
-    if got < 4 {
-        lines::cut(file, run.place);
-        return spoilt(run);
-    }
-    let front = codec::read_be(&head, 0, 4);
-    let id = front / 65536;
-    let words = front % 65536;
-    if words > MOST_WORDS {
-        lines::too_long(file, run.place, words);
-        return spoilt(run);
-    }
-    sized_record(fd, file, run, id, 8 * (words as usize), held)
+    run
 }
 
 // All records of an open file. Nothing says that a file ends, so the turns are counted down, from a number that no run uses up.
 fn records(fd: i32, file: &[u8], held: &mut [u8]) -> Run {
-    let mut run = fresh();
+    let mut run = vector_files::fresh();
     let mut turns = u64::MAX;
     while turns > 0 && run.going {
         run = next_record(fd, file, run, held);
@@ -154,7 +98,7 @@ fn replay_file(i: usize) -> Run {
     let fd = os::open_read(&space[..length]);
     if fd < 0 {
         lines::not_opened(&space[..length]);
-        return spoilt(fresh());
+        return vector_files::spoilt(vector_files::fresh());
     }
     replay_open(fd, &space[..length])
 }

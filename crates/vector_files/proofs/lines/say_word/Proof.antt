@@ -1,8 +1,8 @@
 -- `say_word` is safe and ends: i stays at most the number of bytes.
 use Prim.Native.Nat.{_≤_, _-_}
 use borrow.Author.Needs.{needs}
-use Rattle.vectors.proofs.lines.say_word.Statement.{statement}
-use Rattle.vectors.proofs.lines.say_word.Tie as tie
+use Rattle.vector_files.proofs.lines.say_word.Statement.{statement}
+use Rattle.vector_files.proofs.lines.say_word.Tie as tie
 
 abbrev Inv-loop : tie.InvT-loop
 Inv-loop words k left₀ i₀ i-end left i = i ≤ i-end
