@@ -10,3 +10,4 @@ pub mod Outcomes
 pub mod Exact
 pub mod Refusals
 pub mod ReadCalls
+pub mod Words

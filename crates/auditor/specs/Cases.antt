@@ -1,4 +1,4 @@
--- Each of 40 to 43 'is given only in its case': the cases, in the words of a sheet.
+-- Each of 40 to 44 'is given only in its case': the cases, in the words of a sheet, and which verdicts there are.
 use Prim.Native.Nat.{ℕ, _≤_}
 use mathlib.Core.Path.{_≡_}
 use mathlib.Core.Bool.{false}
@@ -10,6 +10,8 @@ use Rattle.card.specs.declared.Card.{Card}
 use Rattle.battery.specs.declared.Call.{Call}
 use Rattle.records.specs.Cards.{cardLength, cardAt}
 use Rattle.sheet.specs.Answers.{answerAt, agrees}
+use Rattle.auditor.specs.declared.Verdict.{Verdict}
+use Rattle.auditor.specs.declared.Verdict.the-variants.{Accepted, Refused}
 use Rattle.auditor.specs.Sheet.{Line, bytesOf, Laid, CardAccepted, expected, Sheet}
 
 -- '40 no first byte or not 1'
@@ -60,3 +62,8 @@ pub record Disagrees (bs : List ℕ) (k : ℕ) : Type 0 where
 -- the refusals that there are, with their index
 abbrev pub Known : ℕ → ℕ → Type 0
 Known r i = ((r ≡ 40) × (i ≡ 0)) ⊎ (((r ≡ 41) × (i ≡ 0)) ⊎ (((r ≡ 42) × (1 ≤ i)) ⊎ ((r ≡ 43) × (1 ≤ i))))
+
+-- the verdicts that the program and the C audit give
+abbrev pub Given : Verdict → Type 0
+Given (Accepted n) = Unit
+Given (Refused r i) = Known r i ⊎ ((r ≡ 44) × (i ≡ 0))

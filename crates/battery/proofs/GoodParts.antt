@@ -9,6 +9,8 @@ use lib.ListN.{getD}
 use lib.Ieee.{nan}
 use Rattle.floats.specs.Standins.{finite64}
 use Rattle.card.specs.Card.{cardRefusal}
+use Rattle.card.specs.declared.Card.{Card}
+use Rattle.card.proofs.Accepted.{accepted-budget}
 use Rattle.battery.specs.Battery.{GoodBattery}
 use Rattle.battery.specs.Shape.{AnswerShape}
 use Rattle.battery.specs.declared.Battery.{Battery}
@@ -37,9 +39,13 @@ module _ (version : ℕ) (b : Battery) (g : GoodBattery version b) where
   pub good-totals : FiniteTotals b
   good-totals = finite-totals b (accepted-battery version b (g .accepted) .totals)
 
--- an answer's whole numbers fit a line: a byte, a mark, and no more than the budget, a u16
-pub shape-fits : (version : ℕ) (b : Battery) (a : Answer) → AnswerShape version b a → b .card .budget < 65536 → (a .refusal < 256) × (a .mark ≤ 1) × (a .substeps < 65536)
-shape-fits version b a s h = let n = s .substeps in (on (s .refusal), mark (s .mark), omega arith)
+-- an answer's whole numbers fit a line: a byte, a mark, and no more than the budget, which an accepted card holds to 65,535
+pub shape-fits : (version : ℕ) (b : Battery) (a : Answer) → AnswerShape version b a → (a .refusal < 256) × (a .mark ≤ 1) × (a .substeps < 65536)
+shape-fits version b a s =
+    let n = s .substeps in
+    let most = accepted-budget version (a .battery .card) (good-card version (a .battery) (s .good)) .1 in
+    let same = ap (λ (c : Card). c .budget) (s .card) in
+    (on (s .refusal), mark (s .mark), omega arith)
   where
     on : (a .refusal ≡ 0) ⊎ ((20 ≤ a .refusal) × (a .refusal ≤ 25)) → a .refusal < 256
     on (inl e) = omega arith

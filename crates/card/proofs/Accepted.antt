@@ -90,3 +90,15 @@ accepted-layers version c h =
     let p = and-true (leb 1 (c .layers)) _ (accepted version c h .counts) in
     let q = and-true (leb (c .layers) 64) _ (p .1) in
     (leb-le 1 (c .layers) (p .0), leb-le (c .layers) 64 (q .0))
+
+-- 'budget (u16, 1..65535)'
+pub accepted-budget : (version : ℕ) (c : Card) → cardRefusal version c ≡ 0 → (1 ≤ c .budget) × (c .budget ≤ 65535)
+unfolding countsInRange
+accepted-budget version c h =
+    let p = and-true (leb 1 (c .layers)) _ (accepted version c h .counts) in
+    let q = and-true (leb (c .layers) 64) _ (p .1) in
+    let r = and-true (leb 1 (c .units)) _ (q .1) in
+    let s = and-true (leb (c .units) 1000) _ (r .1) in
+    let t = and-true (leb (c .simultaneous) 1) _ (s .1) in
+    let u = and-true (leb 1 (c .budget)) (leb (c .budget) 65535) (t .1) in
+    (leb-le 1 (c .budget) (u .0), leb-le (c .budget) 65535 (u .1))

@@ -13,7 +13,8 @@ use Rattle.card.specs.declared.CardVerdict.the-variants.{Accepted, OutOf
 -- 'layers (u8, 1..64), units (u16, 1..1000), simultaneous (u8, 0 or 1), budget (u16, 1..65535)'
 unfoldable pub countsInRange : Card → Bool
 countsInRange c =
-    leb 1 (c .layers) && (leb (c .layers) 64 && (leb 1 (c .units) && (leb (c .units) 1000 && (leb (c .simultaneous) 1 && leb 1 (c .budget)))))
+    leb 1 (c .layers) && (leb (c .layers) 64 && (leb 1 (c .units) && (leb (c .units) 1000 && (leb (c .simultaneous) 1
+    && (leb 1 (c .budget) && leb (c .budget) 65535)))))
 
 -- substep and timestep
 unfoldable pub timesInRange : Card → Bool

@@ -75,7 +75,10 @@ fn counts_in_range(card: Card) -> bool
                 1 <= card.units,
                 floats::both(
                     card.units <= 1000,
-                    floats::both(card.simultaneous <= 1, 1 <= card.budget),
+                    floats::both(
+                        card.simultaneous <= 1,
+                        floats::both(1 <= card.budget, card.budget <= 65535),
+                    ),
                 ),
             ),
         ),

@@ -16,15 +16,14 @@ use Rattle.heat_battery.specs.Cases.{Opens}
 use Rattle.heat_battery.specs.Lists.{sheetOf, sparedOf}
 use Rattle.heat_battery.proofs.OpenCases.{open-0}
 use Rattle.heat_battery.proofs.EqualSteps.{sheet-equal-to-steps, fresh-encoded, spared-is}
-use Rattle.heat_battery.proofs.GoodAnswers.{budget-fits}
 use Rattle.auditor.specs.Sheet.{linesBytes, stepsFrom, Sheet}
 use Rattle.auditor.proofs.Stepped.{all-laid, all-agree}
 use Rattle.auditor.proofs.Exact.{exact}
-use Rattle.demands.specs.Promises.{Bytes, AList}
+use Rattle.demands.specs.Promises.{AList}
 use Rattle.demands.proofs.Spared.{AllGood, spared-good}
 use Rattle.demands.proofs.Lined.{LinedUp, lined-up}
 
-module _ (card rec free : List ℕ) (calls : List (List ℕ)) (bytes : Bytes card) (h : Opens 1 card rec free) where
+module _ (card rec free : List ℕ) (calls : List (List ℕ)) (h : Opens 1 card rec free) where
   abbrev b : Battery
   b = fresh (cardAt 1 card)
 
@@ -39,7 +38,7 @@ module _ (card rec free : List ℕ) (calls : List (List ℕ)) (bytes : Bytes car
 
   up : LinedUp (cardAt 1 card) b spare
   unfolding fresh
-  up = lined-up (cardAt 1 card) spare b (fresh-encoded 1 card (h .card-good) .good) (budget-fits 1 card bytes) refl all-good
+  up = lined-up (cardAt 1 card) spare b (fresh-encoded 1 card (h .card-good) .good) refl all-good
 
   first-bytes : (r : List ℕ) → openingBytes 1 card ++ r ≡ 1 ∷ (beBytes 2 (cardLength 1) ++ (card ++ r))
   unfolding openingBytes beBytes
@@ -67,12 +66,13 @@ module _ (card rec free : List ℕ) (calls : List (List ℕ)) (bytes : Bytes car
       }
 
 -- A opens with code 0: its sheet, after any calls whatsoever, is accepted, and is what it should be
-pub a-list : (card rec free : List ℕ) (calls : List (List ℕ)) → Bytes card → openOf 1 card rec free .code ≡ 0 → AList card rec free calls
-a-list card rec free calls bytes o =
+pub a-list : (card rec free : List ℕ) (calls : List (List ℕ)) → openOf 1 card rec free .code ≡ 0 → AList card rec free calls
+a-list card rec free calls o =
     let h = open-0 1 card rec free .0 o in
     let s = sheet-equal-to-steps 1 card rec free h calls in
     record {
-      verdict = exact (sheetOf 1 card rec free calls) (length (sparedOf 1 card rec free calls)) .1 (a-sheet card rec free calls bytes h);
+      verdict = exact (sheetOf 1 card rec free calls) (length (sparedOf 1 card rec free calls)) .1 (a-sheet card rec free calls h);
       bytes = s .sheet;
+      fits = s .fits;
       behind = s .behind;
     }

@@ -1,4 +1,5 @@
 pub mod Spared
 pub mod Lined
 pub mod AList
+pub mod Numbers
 pub mod Promises

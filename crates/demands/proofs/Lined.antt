@@ -39,7 +39,7 @@ pub record LinedUp (c : Card) (b : Battery) (calls : List (List ℕ)) : Type 0 w
   pub count : length lines ≡ length calls
   pub stepped : Stepped 1 c b lines read
 
-module _ (c : Card) (b : Battery) (g : GoodBattery 1 b) (few : b .card .budget < 65536) (own : b .card ≡ c) (call : List ℕ) (d : Call)
+module _ (c : Card) (b : Battery) (g : GoodBattery 1 b) (own : b .card ≡ c) (call : List ℕ) (d : Call)
     (reads : callOf 1 call ≡ Good d) (in-range : callInRange 1 c d ≡ true) where
   abbrev s : Answer
   s = stepOf 1 b d
@@ -48,7 +48,7 @@ module _ (c : Card) (b : Battery) (g : GoodBattery 1 b) (few : b .card .budget <
   same-card = step-keeps-card 1 b d ∙ own
 
   shows : GoodAnswer 1 s
-  shows = answer-good 1 b d g few
+  shows = answer-good 1 b d g
 
   abbrev line : Line
   line = record { head = beBytes 2 (lineLength 1 (s .battery .card) (length call)); call = call; answer = answerBytes 1 s }
@@ -90,10 +90,10 @@ module _ (c : Card) (b : Battery) (g : GoodBattery 1 b) (few : b .card .budget <
         stepped = (line-laid, line-agrees, u .stepped);
       }
 
-pub lined-up : (c : Card) (calls : List (List ℕ)) (b : Battery) → GoodBattery 1 b → b .card .budget < 65536 → b .card ≡ c → AllGood c calls → LinedUp c b calls
+pub lined-up : (c : Card) (calls : List (List ℕ)) (b : Battery) → GoodBattery 1 b → b .card ≡ c → AllGood c calls → LinedUp c b calls
 unfolding stepLines
-lined-up c [] b g few own all = record { lines = []; read = []; bytes = refl; count = refl; stepped = tt }
-lined-up c (call ∷ calls) b g few own all =
+lined-up c [] b g own all = record { lines = []; read = []; bytes = refl; count = refl; stepped = tt }
+lined-up c (call ∷ calls) b g own all =
     let d = all .0 .0 in
-    lined-first c b g few own call d (all .0 .1) (all .0 .2) calls
-    (lined-up c calls (stepOf 1 b d .battery) (step-keeps-good 1 b d g) (rw (step-keeps-card 1 b d) few) (step-keeps-card 1 b d ∙ own) (all .1))
+    lined-first c b g own call d (all .0 .1) (all .0 .2) calls
+    (lined-up c calls (stepOf 1 b d .battery) (step-keeps-good 1 b d g) (step-keeps-card 1 b d ∙ own) (all .1))

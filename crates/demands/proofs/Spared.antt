@@ -34,7 +34,7 @@ module _ (card : List ℕ) where
           → AllGood (b .card) (spared 1 rec free (call ∷ calls))
       on ih (kept-10 h) = rw (spared-more 1 rec call free calls (unchanged 10 rec free) h, nothing-used rec free 10 refl) (ih b rec free e)
       on ih (kept-11 h) = rw (spared-more 1 rec call free calls (unchanged 11 rec free) h, nothing-used rec free 11 refl) (ih b rec free e)
-      on ih (stepped d k i h) =
+      on ih (stepped d k i h room) =
           let s = stepOf 1 b d in
           let rec′ = recordBytes 1 card (s .battery) in
           let free′ = drop (length (lineBytes 1 call s)) free in

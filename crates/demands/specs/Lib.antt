@@ -1,1 +1,2 @@
 pub mod Promises
+pub mod Example

@@ -1,8 +1,9 @@
 -- What the demands promise, in the words of the crates below: the entries' openOf and entryOf, the auditor's auditOf.
-use Prim.Native.Nat.{ℕ, _<_}
+use Prim.Native.Nat.{ℕ, _≤_}
 use mathlib.Core.Path.{_≡_}
-use mathlib.Core.List.{List, _++_}
-use lib.ListN.{length, drop, getD}
+use mathlib.Core.Logic.{_⊎_}
+use mathlib.Core.List.{List, [], _∷_, _++_}
+use lib.ListN.{length, drop}
 use Rattle.battery.specs.Battery.{fresh}
 use Rattle.records.specs.Cards.{cardAt}
 use Rattle.sheet.specs.Lines.{openingBytes}
@@ -10,9 +11,10 @@ use Rattle.heat_battery.specs.Lists.{sheetOf, behindSheet, sparedOf, stepLines}
 use Rattle.auditor.specs.Audit.{auditOf}
 use Rattle.auditor.specs.declared.Verdict.the-variants.{Accepted}
 
--- a memory's bytes are bytes
-abbrev pub Bytes : List ℕ → Type 0
-Bytes bs = (i : ℕ) → getD bs i 0 < 256
+-- one of these numbers
+abbrev pub OneOf : List ℕ → ℕ → Type 0
+OneOf [] n = ⊥
+OneOf (x ∷ xs) n = (n ≡ x) ⊎ OneOf xs n
 
 -- 'For every accepted card that opens A's sheet, and every list of calls from a fresh battery (any kind, any fields, refused ones included),
 -- B accepts the sheet that A then has, however few bytes were free.' `free` is the lent buffer, `calls` are any bytes whatsoever.
@@ -21,5 +23,7 @@ pub record AList (card rec free : List ℕ) (calls : List (List ℕ)) : Type 0 w
   pub verdict : auditOf (sheetOf 1 card rec free calls) ≡ Accepted (length (sparedOf 1 card rec free calls))
   -- the version, line 0 and, for each such call in order, a line with the call's own bytes and the steps' answer
   pub bytes : sheetOf 1 card rec free calls ≡ openingBytes 1 card ++ stepLines 1 (fresh (cardAt 1 card)) (sparedOf 1 card rec free calls)
+  -- within the buffer
+  pub fits : length (sheetOf 1 card rec free calls) ≤ length free
   -- the bytes behind are as before
   pub behind : behindSheet 1 card rec free calls ≡ drop (length (sheetOf 1 card rec free calls)) free

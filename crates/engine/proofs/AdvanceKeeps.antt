@@ -117,11 +117,11 @@ module _ (version : ℕ) (b : Battery) (call : Call) where
         let n = line .substeps in
         by-step (λ (a : Answer). a .substeps ≤ b .card .budget) (count-within-budget version b call g) (omega arith)
 
-    -- the whole numbers fit a line, where the budget is a u16
-    pub advance-fits : b .card .budget < 65536 → (advanceOf version b call .refusal < 256) × (advanceOf version b call .mark ≤ 1) × (advanceOf version b call .substeps < 65536)
-    advance-fits h =
+    -- the whole numbers fit a line
+    pub advance-fits : (advanceOf version b call .refusal < 256) × (advanceOf version b call .mark ≤ 1) × (advanceOf version b call .substeps < 65536)
+    advance-fits =
         let n = line .substeps in
         let m = line .mark in
         let r = refused-number 10 b in
-        by-step (λ (a : Answer). (a .refusal < 256) × (a .mark ≤ 1) × (a .substeps < 65536)) (shape-fits version b (stepOf version b call) (answer-shape version b call g) h)
+        by-step (λ (a : Answer). (a .refusal < 256) × (a .mark ≤ 1) × (a .substeps < 65536)) (shape-fits version b (stepOf version b call) (answer-shape version b call g))
         (omega arith, omega arith, omega arith)

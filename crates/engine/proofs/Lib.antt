@@ -20,3 +20,6 @@ pub mod NoLogarithm
 pub mod NotFinite
 pub mod ByKind
 pub mod ByValue
+pub mod DemandCases
+pub mod Causes
+pub mod StepCases

@@ -1,6 +1,6 @@
 -- 22 only where the count equals the budget and another substep is due.
 use mathlib.Core.Path.{_≡_, refl, sym, _∙_}
-use mathlib.Core.Bool.{_&&_}
+use mathlib.Core.Bool.{false, _&&_}
 use Prim.Native.Nat.{ℕ, zero}
 use native.Mathlib.Omega.{arith}
 use native.Mathlib.Nat.{zero-add}
@@ -58,12 +58,12 @@ fault-not-over Nothing h = let z : _≡_ {A = ℕ} 0 1 = cc in omega arith
 fault-not-over Logarithm h = let z : _≡_ {A = ℕ} 0 1 = cc in omega arith
 fault-not-over NotFinite h = let z : _≡_ {A = ℕ} 0 1 = cc in omega arith
 
-module _ (b : Battery) (d : Demand) where
+module _ (b : Battery) (d : Demand) (asked : le (d .required) tolerance ≡ false) where
   ran : (feed : Float) → d .feed ≡ Value feed → demandEnded (demandRun (demandTask b d feed) (b .card .budget) 0 (demandStart b)) .end ≡ OverBudget → DemandUsed b d
   unfolding demandEnded
   ran feed e h =
       let o = demand-run-over (demandTask b d feed) (b .card .budget) 0 (demandStart b) h in
-      record { feed = feed; given = e; over = record { ended = o .ended; used = o .used ∙ zero-add (b .card .budget); due = o .due } }
+      record { asked = asked; feed = feed; given = e; over = record { ended = o .ended; used = o .used ∙ zero-add (b .card .budget); due = o .due } }
 
   answers : (r : Ended) → demandAnswer b d r .refusal ≡ 0
   unfolding demandAnswer
@@ -97,7 +97,7 @@ module _ (b : Battery) where
   demand-over d =
       by-test (λ (c : Answer). c .refusal ≡ 22 → DemandUsed b d) (le (d .required) tolerance) (checked b (plainAnswer Constants.zero b)) (demandGiven b d (d .feed))
       (λ t h. absurd (checked-not-over b (plainAnswer Constants.zero b) (plain-answers Constants.zero b) h))
-      (λ t h. demand-given b d (d .feed) refl h)
+      (λ t h. demand-given b d t (d .feed) refl h)
 
   electric-over : (power target : Float) → charge b (Electric power) target .refusal ≡ 22 → ⊥
   unfolding charge chargeBattery chargeElectric electricEnded

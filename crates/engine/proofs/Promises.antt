@@ -4,13 +4,8 @@ use mathlib.Core.Bool.{Bool, true, false, cond}
 use mathlib.Core.Logic.{_⊎_, inl, inr}
 use Prim.Native.Nat.{ℕ, _≤_}
 use native.Mathlib.Omega.{arith}
-use lib.Dec.{leb}
 use Rattle.floats.specs.F64.{_⊕_}
 use Rattle.floats.specs.Constants.{zero}
-use Rattle.card.specs.Card.{countsInRange, cardRefusal}
-use Rattle.card.specs.declared.Card.{Card}
-use Rattle.card.proofs.Accepted.{accepted}
-use Rattle.card.proofs.Tests.{and-true, leb-le}
 use Rattle.battery.specs.Battery.{GoodBattery}
 use Rattle.battery.specs.Answer.{refusedWith, answerFinite}
 use Rattle.battery.specs.Shape.{RefusalLine}
@@ -19,17 +14,6 @@ use Rattle.battery.specs.declared.Answer.{Answer}
 use Rattle.battery.proofs.Accepted.{accepted-battery, stays-good}
 use Rattle.battery.proofs.Answers.{finite-answer, refused-finite}
 use Rattle.engine.proofs.Outcomes.{Outcome, refused, answered}
-
--- 'budget (u16, 1..65535)'
-pub accepted-budget : (version : ℕ) (c : Card) → cardRefusal version c ≡ 0 → 1 ≤ c .budget
-unfolding countsInRange
-accepted-budget version c h =
-    let p = and-true (leb 1 (c .layers)) _ (accepted version c h .counts) in
-    let q = and-true (leb (c .layers) 64) _ (p .1) in
-    let r = and-true (leb 1 (c .units)) _ (q .1) in
-    let s = and-true (leb (c .units) 1000) _ (r .1) in
-    let t = and-true (leb (c .simultaneous) 1) (leb 1 (c .budget)) (s .1) in
-    leb-le 1 (c .budget) (t .1)
 
 pub refusal-line : (r : ℕ) (b : Battery) (a : Answer) → a ≡ refusedWith r b → RefusalLine b a
 unfolding refusedWith

@@ -6,6 +6,7 @@ use Prim.Native.Nat.{ℕ, _≤_}
 use lib.Ieee.{Float}
 use Rattle.floats.specs.F64.{_⊕_}
 use Rattle.floats.specs.Constants.{zero}
+use Rattle.card.proofs.Accepted.{accepted-budget}
 use Rattle.battery.specs.Answer.{answerFinite}
 use Rattle.battery.specs.Battery.{GoodBattery}
 use Rattle.battery.specs.Kinds.{isCharge, onlyAsks}
@@ -20,7 +21,7 @@ use Rattle.battery.proofs.Answers.{finite-answer}
 use Rattle.engine.specs.Steps.{stepOf}
 use Rattle.engine.proofs.Outcomes.{Outcome}
 use Rattle.engine.proofs.StepOutcomes.{step-outcome}
-use Rattle.engine.proofs.Promises.{accepted-budget, outcome-refusals, outcome-refused, outcome-finite, outcome-asked, outcome-charged, outcome-uncharged, outcome-card, outcome-mark, outcome-count, outcome-good, outcome-all-finite}
+use Rattle.engine.proofs.Promises.{outcome-refusals, outcome-refused, outcome-finite, outcome-asked, outcome-charged, outcome-uncharged, outcome-card, outcome-mark, outcome-count, outcome-good, outcome-all-finite}
 
 module _ (version : ℕ) (b : Battery) (call : Call) where
   outcome : Outcome b (isCharge call) (onlyAsks call) (stepOf version b call)
@@ -70,7 +71,7 @@ module _ (version : ℕ) (b : Battery) (call : Call) where
     pub count-within-budget : stepOf version b call .substeps ≤ b .card .budget
     count-within-budget =
         outcome-count b (isCharge call) (onlyAsks call) (stepOf version b call) outcome
-        (accepted-budget version (b .card) (accepted-battery version b (g .accepted) .card))
+        (accepted-budget version (b .card) (accepted-battery version b (g .accepted) .card) .0)
 
     pub answer-shape : AnswerShape version b (stepOf version b call)
     answer-shape =

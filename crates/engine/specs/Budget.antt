@@ -2,10 +2,11 @@
 use Prim.Native.Nat.{ℕ, _<_}
 use mathlib.Core.Path.{_≡_}
 use mathlib.Core.Logic.{_⊎_}
+use mathlib.Core.Bool.{false}
 use lib.Dec.{T}
-use lib.Ieee.{Float, lt, neg}
+use lib.Ieee.{Float, lt, le, neg}
 use Rattle.floats.specs.F64.{_⊕_}
-use Rattle.floats.specs.Constants.{zero}
+use Rattle.floats.specs.Constants.{zero, tolerance}
 use Rattle.zone.specs.Heat.{kj}
 use Rattle.battery.specs.declared.Battery.{Battery}
 use Rattle.battery.specs.declared.Given.the-variants.{Value}
@@ -53,6 +54,7 @@ pub record HydronicOver (x : HydronicTask) (steps : ℕ) (e : HydronicEnd) : Typ
 
 -- the call's run
 pub record DemandUsed (b : Battery) (d : Demand) : Type 0 where
+  pub asked : le (d .required) tolerance ≡ false
   pub feed : Float
   pub given : d .feed ≡ Value feed
   pub over : DemandOver (b .card .budget) (demandRun (demandTask b d feed) (b .card .budget) 0 (demandStart b))

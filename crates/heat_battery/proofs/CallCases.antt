@@ -41,7 +41,7 @@ pub data CallWay (version : ℕ) (rec call free : List ℕ) (a : After) : Type 0
   line : GetsLine version rec call free → (c : Call) → callOf version call ≡ Good c → a ≡ entered version rec call free (stepOf version (recordOf version rec) c)
       → CallWay version rec call free a
 
-no-call : {A : Type 0} {c : Call} (r : ReadCall) → r ≡ Bad → r ≡ Good c → A
+pub no-call : {A : Type 0} {c : Call} (r : ReadCall) → r ≡ Bad → r ≡ Good c → A
 no-call r h k = let z : _≡_ {A = ℕ} 0 1 = cc in absurd (omega arith)
 
 pub same-call : {c d : Call} (r : ReadCall) → r ≡ Good c → r ≡ Good d → d ≡ c
@@ -50,7 +50,7 @@ same-call r h k = cc
 good-laid : (version : ℕ) (rec : List ℕ) → GoodRecord version rec → LaidRecord version rec
 good-laid version rec g = record { card-there = g .card-there; card-accepted = g .card-accepted; long = g .long }
 
-not-ten : (r : ℕ) → (r ≡ 0) ⊎ ((20 ≤ r) × (r ≤ 25)) → (r ≡ 10 → ⊥) × (r ≡ 11 → ⊥)
+pub not-ten : (r : ℕ) → (r ≡ 0) ⊎ ((20 ≤ r) × (r ≤ 25)) → (r ≡ 10 → ⊥) × (r ≡ 11 → ⊥)
 not-ten r (inl e) = (λ z. omega arith, λ z. omega arith)
 not-ten r (inr e) = (λ z. omega arith, λ z. omega arith)
 

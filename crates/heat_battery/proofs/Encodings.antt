@@ -40,7 +40,8 @@ lined version card call free s = record { code = s .refusal; record' = recordByt
 pub data Entered (version : ℕ) (card : List ℕ) (b : Battery) (rec call free : List ℕ) : Type 0 where
   kept-10 : entryOf version rec call free ≡ unchanged 10 rec free → Entered version card b rec call free
   kept-11 : entryOf version rec call free ≡ unchanged 11 rec free → Entered version card b rec call free
-  stepped : (c : Call) → callOf version call ≡ Good c → callInRange version (b .card) c ≡ true → entryOf version rec call free ≡ lined version card call free (stepOf version b c) → Entered version card b rec call free
+  stepped : (c : Call) → callOf version call ≡ Good c → callInRange version (b .card) c ≡ true → entryOf version rec call free ≡ lined version card call free (stepOf version b c)
+      → length (lineBytes version call (stepOf version b c)) ≤ length free → Entered version card b rec call free
 
 module _ (version : ℕ) (card : List ℕ) (b : Battery) (rec : List ℕ) (e : Encoded version card b rec) where
   read-back : recordOf version rec ≡ b
@@ -72,6 +73,7 @@ module _ (version : ℕ) (card : List ℕ) (b : Battery) (rec : List ℕ) (e : E
           stepped c k (ap (λ (y : Card). callInRange version y c) (sym card-is) ∙ x .call-good .in-range c k)
           (h ∙ ap (entered version rec call free) s
           ∙ ap (λ (y : List ℕ). record { code = stepOf version b c .refusal; record' = y; sheet = over (lineBytes version call (stepOf version b c)) free }) (renewed-is c))
+          (rw (length-lineBytes version call (stepOf version b c), step-keeps-card version b c, ← card-is) (x .room))
 
   -- the encoding after the step
   pub step-encoded : (c : Call) → Encoded version card (stepOf version b c .battery) (recordBytes version card (stepOf version b c .battery))

@@ -2,8 +2,9 @@
 use mathlib.Core.Path.{_≡_, refl, sym, ap, _∙_}
 use mathlib.Core.List.{List, [], _∷_, _++_}
 use mathlib.Core.Bool.{true, false, cond}
-use Prim.Native.Nat.{ℕ, _+_}
-use lib.ListN.{length, take, drop, length-append}
+use Prim.Native.Nat.{ℕ, _+_, _-_, _≤_}
+use native.Mathlib.Omega.{arith}
+use lib.ListN.{length, take, drop, length-append, length-drop}
 use lib.Seq.{drop-drop, take-at}
 use lib.Ieee.{binary64}
 use lib.Ieee.Bits.{ofBits-fits}
@@ -68,13 +69,14 @@ module _ (version : ℕ) (card : List ℕ) (b : Battery) (rec call free : List �
       record {
         lines = w ∙ h .lines ∙ ap (stepLines version b) (sym s);
         encoded = rw (s, r) (h .encoded);
+        fits = rw w (h .fits);
         behind = k ∙ h .behind ∙ ap (λ (x : List ℕ). drop (length x) free) (sym w);
       }
 
   -- a call that gets its line, before the others
   module _ (s : Answer) (answered : answerTo version b call ≡ s) (e : entryOf version rec call free ≡ lined version card call free s)
       (has : noLine (lined version card call free s) ≡ false) (taken : take (lineTaken (lined version card call free s)) (lined version card call free s .sheet) ≡ lineBytes version call s)
-      (behind : freeBehind (lined version card call free s) ≡ drop (length (lineBytes version call s)) free) where
+      (behind : freeBehind (lined version card call free s) ≡ drop (length (lineBytes version call s)) free) (room : length (lineBytes version call s) ≤ length free) where
     abbrev a : After
     a = lined version card call free s
 
@@ -102,26 +104,28 @@ module _ (version : ℕ) (card : List ℕ) (b : Battery) (rec call free : List �
         let r : recordAfter version rec free (call ∷ calls) ≡ recordAfter version rec′ free′ calls = record-more version rec call free calls a e ∙ rw behind in
         let k : freeAfter version rec free (call ∷ calls) ≡ freeAfter version rec′ free′ calls = free-more version rec call free calls a e ∙ rw behind in
         let n : length l + length (written version rec′ free′ calls) ≡ length (written version rec free (call ∷ calls)) = sym (ap length w ∙ simp length-append) in
+        let f : length (written version rec′ free′ calls) ≤ length free - length l = simp length-drop at (h .fits) in
         record {
           lines = w ∙ ap (λ (x : List ℕ). l ++ x) (h .lines) ∙ sym (ap (stepLines version b) p ∙ lines-more (spared version rec′ free′ calls));
           encoded = rw (p, r, state-more (spared version rec′ free′ calls)) (h .encoded);
+          fits = omega (arith, n, f, room);
           behind = k ∙ h .behind ∙ drop-drop (length (written version rec′ free′ calls)) (length l) free ∙ ap (λ (x : ℕ). drop x free) n;
         }
 
 pub equal-to-steps : (version : ℕ) (card : List ℕ) (calls : List (List ℕ)) (b : Battery) (rec free : List ℕ) → Encoded version card b rec
     → SameAsSteps version card b rec free calls
 unfolding written spared recordAfter freeAfter stepLines stateAfter noLine
-equal-to-steps version card [] b rec free e = record { lines = refl; encoded = e; behind = refl }
+equal-to-steps version card [] b rec free e = record { lines = refl; encoded = e; fits = omega arith; behind = refl }
 equal-to-steps version card (call ∷ calls) b rec free e = on (λ b′ rec′ free′ h. equal-to-steps version card calls b′ rec′ free′ h) (entry-on-encoding version card b rec e call free)
   where
     on : ((b′ : Battery) (rec′ free′ : List ℕ) → Encoded version card b′ rec′ → SameAsSteps version card b′ rec′ free′ calls) → Entered version card b rec call free
         → SameAsSteps version card b rec free (call ∷ calls)
     on ih (kept-10 h) = skipped version card b rec call free calls 10 refl h (ih b rec free e)
     on ih (kept-11 h) = skipped version card b rec call free calls 11 refl h (ih b rec free e)
-    on ih (stepped c k i h) =
+    on ih (stepped c k i h room) =
         let s = stepOf version b c in
         lined-first version card b rec call free calls s (answer-is version card b rec e call free c k) h (gets-line version card b rec e call free c k) (line-taken version card b rec e call free c k)
-        (free-behind version card b rec e call free c k)
+        (free-behind version card b rec e call free c k) room
         (ih (s .battery) (recordBytes version card (s .battery)) (drop (length (lineBytes version call s)) free) (step-encoded version card b rec e c))
 
 -- ---- from opening on
@@ -177,8 +181,10 @@ module _ (version : ℕ) (card rec free : List ℕ) (h : Opens version card rec 
     sheet-equal-to-steps =
         let s = equal-to-steps version card calls b r left (fresh-encoded version card (h .card-good)) in
         let n : length first + length (written version r left calls) ≡ length (sheetOf version card rec free calls) = sym (ap length sheet-is ∙ simp length-append) in
+        let f : length (written version r left calls) ≤ length free - length first = simp length-drop at (s .fits) in
         record {
           sheet = sheet-is ∙ ap (λ (x : List ℕ). first ++ x) (s .lines ∙ ap (stepLines version b) (sym spared-is));
           encoded = rw (spared-is, record-is) (s .encoded);
+          fits = omega (arith, n, f, length-openingBytes version card (h .card-good .long), h .room);
           behind = behind-is ∙ s .behind ∙ drop-drop (length (written version r left calls)) (length first) free ∙ ap (λ (x : ℕ). drop x free) n;
         }

@@ -4,8 +4,8 @@ pub mod CallCases
 pub mod Encodings
 pub mod EqualSteps
 pub mod GoodAnswers
-pub mod DemandCases
 pub mod CallNumbers
 pub mod CardCases
 pub mod OpenCases
 pub mod ZonesLent
+pub mod OwnCases

@@ -1,11 +1,11 @@
--- Document 01, 'Who can cause a refusal': the case of each number that A's entries give before a step runs, apart from what the entries compute.
+-- Document 01, 'Who can cause a refusal': the case of each number that A's entries give, apart from what the entries compute.
 use Prim.Native.Nat.{ℕ, _+_, _*_, _≤_, _<_}
 use mathlib.Core.Path.{_≡_}
 use mathlib.Core.Logic.{_⊎_}
 use mathlib.Core.List.{List}
 use mathlib.Core.Bool.{true, false}
-use lib.ListN.{length}
-use lib.Ieee.{Float, lt, le}
+use lib.ListN.{length, getD}
+use lib.Ieee.{nan, lt, le}
 use Rattle.floats.specs.Constants.{maxRelative, tolerance, ratedAmbient}
 use Rattle.floats.specs.Standins.{finite64, nearlyEqual}
 use Rattle.codec.specs.Bytes.{nthF64}
@@ -13,11 +13,9 @@ use Rattle.card.specs.Card.{cardInRange, cardRefusal}
 use Rattle.card.specs.declared.Card.{Card}
 use Rattle.call_ranges.specs.Call.{callInRange}
 use Rattle.battery.specs.declared.Call.{Call}
-use Rattle.battery.specs.declared.Call.the-variants.{DemandEnergy}
-use Rattle.battery.specs.declared.Demand.{Demand}
-use Rattle.battery.specs.declared.Given.the-variants.{Absent, Value}
+use Rattle.battery.specs.declared.Battery.{Battery}
 use Rattle.records.specs.Cards.{cardLength, cardAt}
-use Rattle.records.specs.Records.{recordLength}
+use Rattle.records.specs.Records.{recordLength, recordOf}
 use Rattle.calls.specs.Calls.{callOf}
 use Rattle.sheet.specs.Lines.{openingLength, lineSize}
 use Rattle.calls.specs.Laid.{LaidCall}
@@ -108,21 +106,35 @@ pub record GetsLine (version : ℕ) (rec call free : List ℕ) : Type 0 where
   pub call-good : GoodCall version (cardAt version rec) call
   pub room : lineSize version (cardAt version rec) (length call) ≤ length free
 
--- '20 required above 1e-10 without return temperature'
-pub record CallCase20 (version : ℕ) (rec call free : List ℕ) : Type 0 where
+-- one of 20 to 25: the call gets a line, and the call that was read is in the number's case (crates/engine/specs/Cases.antt)
+pub record LineCase (Case : Battery → Call → Type 0) (version : ℕ) (rec call free : List ℕ) : Type 0 where
   pub gets-line : GetsLine version rec call free
-  pub demand : Demand
-  pub read : callOf version call ≡ Good (DemandEnergy demand)
-  pub above : lt tolerance (demand .required) ≡ true
-  pub absent : demand .feed ≡ Absent
+  pub asked : Call
+  pub read : callOf version call ≡ Good asked
+  pub case-of : Case (recordOf version rec) asked
 
--- '21 committed, required above 1e-10, service type 0'; '20 before 21'
-pub record CallCase21 (version : ℕ) (rec call free : List ℕ) : Type 0 where
-  pub gets-line : GetsLine version rec call free
-  pub demand : Demand
-  pub read : callOf version call ≡ Good (DemandEnergy demand)
-  pub above : lt tolerance (demand .required) ≡ true
-  pub temperature : Float
-  pub given : demand .feed ≡ Value temperature
-  pub committed : demand .commit ≡ true
-  pub combi : demand .service ≡ 0
+-- ---- a call on the caller's own record, without a sheet
+
+-- a record that 10 lets through; its count is its card's layers
+pub record GoodOwn (version : ℕ) (b : Battery) : Type 0 where
+  pub card-accepted : cardRefusal version (b .card) ≡ 0
+  pub count : b .count ≡ b .card .layers
+  pub zones : (i : ℕ) → i < b .card .layers → finite64 (getD (b .zones) i nan) ≡ true
+  pub total : finite64 (b .total) ≡ true
+  pub pump : finite64 (b .pump) ≡ true
+  pub direct : finite64 (b .direct) ≡ true
+  pub charged : finite64 (b .charged) ≡ true
+  pub electric : finite64 (b .electric) ≡ true
+
+-- '10 a call field not finite or out of range .., or a battery handed in whose card 1 to 4 refuse or whose zones or totals aren't finite'
+pub data OwnCase10 (version : ℕ) (b : Battery) (call : List ℕ) : Type 0 where
+  bad-own : (GoodOwn version b → ⊥) → OwnCase10 version b call
+  bad-own-call : (GoodCall version (b .card) call → ⊥) → OwnCase10 version b call
+
+-- one of 20 to 25
+pub record OwnCase (Case : Battery → Call → Type 0) (version : ℕ) (b : Battery) (call : List ℕ) : Type 0 where
+  pub own-good : GoodOwn version b
+  pub call-good : GoodCall version (b .card) call
+  pub asked : Call
+  pub read : callOf version call ≡ Good asked
+  pub case-of : Case b asked

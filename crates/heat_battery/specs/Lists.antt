@@ -1,5 +1,5 @@
 -- Document 01, 'What demand 3 speaks of': a list of calls on A's entries, and on the steps.
-use Prim.Native.Nat.{ℕ, _+_}
+use Prim.Native.Nat.{ℕ, _+_, _≤_}
 use mathlib.Core.Path.{_≡_}
 use mathlib.Core.List.{List, [], _∷_, _++_}
 use mathlib.Core.Bool.{Bool, cond, _||_}
@@ -112,14 +112,16 @@ pub record Encoded (version : ℕ) (card : List ℕ) (b : Battery) (rec : List �
   pub good : GoodBattery version b
   pub bytes : rec ≡ recordBytes version card b
 
--- after the calls: each line and the record are the encodings of the steps' answer and state, and the bytes behind are as before
+-- after the calls: each line and the record are the encodings of the steps' answer and state, the lines lie within the lent part, and the bytes behind are as before
 pub record SameAsSteps (version : ℕ) (card : List ℕ) (b : Battery) (rec free : List ℕ) (calls : List (List ℕ)) : Type 0 where
   pub lines : written version rec free calls ≡ stepLines version b (spared version rec free calls)
   pub encoded : Encoded version card (stateAfter version b (spared version rec free calls)) (recordAfter version rec free calls)
+  pub fits : length (written version rec free calls) ≤ length free
   pub behind : freeAfter version rec free calls ≡ drop (length (written version rec free calls)) free
 
 -- the same of A's sheet, from the fresh battery on
 pub record SheetOfSteps (version : ℕ) (card rec free : List ℕ) (calls : List (List ℕ)) : Type 0 where
   pub sheet : sheetOf version card rec free calls ≡ openingBytes version card ++ stepLines version (fresh (cardAt version card)) (sparedOf version card rec free calls)
   pub encoded : Encoded version card (stateAfter version (fresh (cardAt version card)) (sparedOf version card rec free calls)) (lastRecord version card rec free calls)
+  pub fits : length (sheetOf version card rec free calls) ≤ length free
   pub behind : behindSheet version card rec free calls ≡ drop (length (sheetOf version card rec free calls)) free

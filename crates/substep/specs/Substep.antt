@@ -134,9 +134,3 @@ withTransfer c pcm d zones (Value u) =
 
 unfoldable pub processHeatBatteryZones : Card → HeatBatteryPcm → Drive → List Float → Substep
 processHeatBatteryZones c pcm d zones = withTransfer c pcm d zones (zoneTransfer (d .mode) c d)
-
--- document 01's numbers, 0 for none
-unfoldable pub faultNumber : Fault → ℕ
-faultNumber Nothing = 0
-faultNumber NotFinite = 23
-faultNumber Logarithm = 24

@@ -18,9 +18,12 @@ both-requires-4 c κs = search needs
 both-requires-5 : tie.Need-both-requires-5
 both-requires-5 c κs = search needs
 
+both-requires-6 : tie.Need-both-requires-6
+both-requires-6 c κs = search needs
+
 returns : tie.Need-returns
 unfolding countsInRange
-returns c = rw (← (c .before .before .before .before .both .ensures), ← (c .before .before .before .both2 .ensures), ← (c .before .before .both3 .ensures), ← (c .before .both4 .ensures), ← (c .both5 .ensures))
+returns c = rw (← (c .before .before .before .before .before .both .ensures), ← (c .before .before .before .before .both2 .ensures), ← (c .before .before .before .both3 .ensures), ← (c .before .before .both4 .ensures), ← (c .before .both5 .ensures), ← (c .both6 .ensures))
 
 pub counts-in-range-spec : {M : Type 1} → statement M
 counts-in-range-spec =
@@ -31,4 +34,5 @@ counts-in-range-spec =
     both-requires-3
     both-requires-4
     both-requires-5
+    both-requires-6
     returns)

@@ -74,24 +74,24 @@ module _ (b : Battery) (a : Answer) (z : a .refusal ≡ 0) where
       on false = unfold refusedWith in end-late (r .end)
 
 module _ (b : Battery) where
-  charge-late : (source : Source) (target : Float) → Late (charge b source target .refusal)
+  pub charge-late : (source : Source) (target : Float) → Late (charge b source target .refusal)
   unfolding charge runAnswer
   charge-late source target = let r = chargeBattery b source target in run-late b (runAnswer r (chargedBattery b r)) refl r
 
-  loss-late : Late (heatLoss b .refusal)
+  pub loss-late : Late (heatLoss b .refusal)
   unfolding heatLoss runAnswer
   loss-late = let r = batteryHeatLoss b in run-late b (runAnswer r (cooledBattery b r)) refl r
 
-  plain-late : (c : Battery) (energy : Float) → Late (checked b (plainAnswer energy c) .refusal)
+  pub plain-late : (c : Battery) (energy : Float) → Late (checked b (plainAnswer energy c) .refusal)
   unfolding plainAnswer
   plain-late c energy = checked-late b (plainAnswer energy c) refl
 
-  level-late : (s : StateOfCharge) → Late (readLevel b s .refusal)
+  pub level-late : (s : StateOfCharge) → Late (readLevel b s .refusal)
   unfolding readLevel refusedWith
   level-late Above = inr (omega arith)
   level-late (Charged soc) = plain-late b soc
 
-  to-level-late : (most : Given) (target : Float) (s : StateOfCharge) → Late (demandToLevel b most target s .refusal)
+  pub to-level-late : (most : Given) (target : Float) (s : StateOfCharge) → Late (demandToLevel b most target s .refusal)
   unfolding demandToLevel refusedWith
   to-level-late most target Above = inr (omega arith)
   to-level-late most target (Charged soc) = plain-late b (chargeEnergyDemand b most target soc .0)

@@ -1,0 +1,199 @@
+-- What `Refused` tells of a call refused with 22 to 25 refuses it: the run's end, an answer that is not finite, or the level.
+use mathlib.Core.Path.{_≡_, refl, sym, _∙_, ap}
+use mathlib.Core.Bool.{Bool, true, false, _&&_}
+use mathlib.Core.Logic.{_⊎_, inl, inr}
+use Prim.Native.Nat.{ℕ, _≤_}
+use native.Mathlib.Omega.{arith}
+use borrow.Author.Tests.{eq-eqb, ne-eqb}
+use lib.Ieee.{Float, le}
+use Rattle.floats.specs.Constants.{zero, tolerance}
+use Rattle.card.specs.Derived.{derived}
+use Rattle.card.proofs.Tests.{and-true}
+use Rattle.battery.specs.Answer.{plainAnswer, answerFinite}
+use Rattle.battery.specs.declared.Battery.{Battery}
+use Rattle.battery.specs.declared.Given.{Given}
+use Rattle.battery.specs.declared.Given.the-variants.{Value}
+use Rattle.battery.specs.declared.Demand.{Demand}
+use Rattle.battery.specs.declared.Hydronic.{Hydronic}
+use Rattle.battery.specs.declared.Answer.{Answer}
+use Rattle.battery.specs.declared.Call.{Call}
+use Rattle.battery.specs.declared.Call.the-variants.{DemandEnergy, ChargeElectric, ChargeHydronic, HeatLoss, CloseTimestep, ReadStateOfCharge, ChargeEnergyDemand}
+use Rattle.call_ranges.specs.Call.{demandInRange, callInRange}
+use Rattle.substep.specs.Substep.{processHeatBatteryZones}
+use Rattle.substep.specs.declared.Fault.{Fault}
+use Rattle.substep.specs.declared.Fault.the-variants.{Logarithm, NotFinite}
+use Rattle.runs.specs.Runs.{faultEnd, endRefusal}
+use Rattle.runs.specs.Hydronic.{hydronicEnded}
+use Rattle.runs.specs.Charge.{electricDrive, electricEnded, chargeElectric, chargeHydronic, chargeBattery, lossDrive, lossEnded, batteryHeatLoss, chargeEnergyDemand}
+use Rattle.runs.specs.declared.End.{End}
+use Rattle.runs.specs.declared.End.the-variants.{OverBudget}
+use Rattle.runs.specs.declared.Ended.{Ended}
+use Rattle.runs.specs.declared.Source.{Source}
+use Rattle.runs.specs.declared.Source.the-variants.{Electric}
+use Rattle.delivery.specs.Demand.{demandEnded}
+use Rattle.totals.specs.Classes.{serviceClass, unserved}
+use Rattle.replies.specs.Replies.{checked, unlessRefused, demandAnswer, runAnswer, chargedBattery, cooledBattery, closedBattery}
+use Rattle.engine.specs.Steps.{demandFrom, demandGiven, demandEnergy, charge, heatLoss, level, readLevel, demandToLevel, wetSource, stepOf}
+use Rattle.engine.specs.Budget.{BudgetUsed}
+use Rattle.engine.specs.Faults.{demandRunOf, hydronicRunOf, DemandFaulted, AnswerNotFinite, NotFiniteFound, NoLogarithmTaken, OverFull}
+use Rattle.engine.specs.Cases.{Runs}
+use Rattle.engine.proofs.Promises.{refused-number}
+use Rattle.engine.proofs.Refused.{RunWhy, DemandWhy, LevelWhy, ChargeWhy, Why}
+use Rattle.engine.proofs.DemandCases.{required-above, class-zero}
+
+-- ---- from the cause to the number
+
+module _ (n : ℕ) (l : 22 ≤ n) (b : Battery) where
+  checked-refuses : (a : Answer) → n ≡ 23 → answerFinite a ≡ false → checked b a .refusal ≡ n
+  unfolding checked
+  checked-refuses a e h = rw h (refused-number 23 b ∙ sym e)
+
+  run-refuses : (r : Ended) (a : Answer) → RunWhy n r a → unlessRefused b r a .refusal ≡ n
+  unfolding unlessRefused
+  run-refuses r a (inl h) =
+      rw (ne-eqb (endRefusal (r .end)) 0 (λ z. omega arith)) (refused-number (endRefusal (r .end)) b ∙ h)
+  run-refuses r a (inr w) = rw (eq-eqb (endRefusal (r .end)) 0 (w .1 .ended)) (checked-refuses a (w .0) (w .1 .found))
+
+  module _ (d : Demand) (in-range : demandInRange (b .card) d ≡ true) (runs : Runs b (DemandEnergy d)) where
+    -- a demand with a return temperature that 21 doesn't refuse is served
+    is-served : le (d .required) tolerance ≡ false → (feed : Float) → d .feed ≡ Value feed → (d .commit && unserved (serviceClass (b .card) (d .service))) ≡ false
+    is-served asked feed e = on (d .commit && unserved (serviceClass (b .card) (d .service))) refl
+      where
+        on : (t : Bool) → (d .commit && unserved (serviceClass (b .card) (d .service))) ≡ t → t ≡ false
+        on true h =
+            let p = and-true (d .commit) _ h in
+            absurd (runs .1
+            (record {
+              above = required-above (b .card) d in-range asked;
+              temperature = feed;
+              given = e;
+              committed = p .0;
+              combi = class-zero (b .card) d in-range (p .1);
+            }))
+        on false h = refl
+
+    from-refuses : (w : DemandWhy n b d) → demandFrom b d (w .feed) .refusal ≡ n
+    unfolding demandFrom
+    from-refuses w =
+        let r = demandEnded (demandRunOf b d (w .feed)) in
+        rw (is-served (w .asked) (w .feed) (w .given)) (run-refuses r (demandAnswer b d r) (w .why))
+
+    demand-refuses : Why n b (DemandEnergy d) → demandEnergy b d .refusal ≡ n
+    unfolding demandEnergy demandGiven
+    demand-refuses (inl w) = rw (w .1 .asked) (checked-refuses (plainAnswer zero b) (w .0) (w .1 .found))
+    demand-refuses (inr w) = rw (w .asked) (ap (λ (g : Given). demandGiven b d g .refusal) (w .given) ∙ from-refuses w)
+
+  level-refuses : LevelWhy n b (λ soc. soc) → readLevel b (level b) .refusal ≡ n
+  unfolding readLevel
+  level-refuses (inl w) = rw (w .1) (refused-number 25 b ∙ sym (w .0))
+  level-refuses (inr w) = rw (w .1 .read) (checked-refuses (plainAnswer (w .1 .soc) b) (w .0) (w .1 .found))
+
+  to-level-refuses :
+      (most : Given) (target : Float) → LevelWhy n b (λ soc. chargeEnergyDemand b most target soc .0) → demandToLevel b most target (level b) .refusal ≡ n
+  unfolding demandToLevel
+  to-level-refuses most target (inl w) = rw (w .1) (refused-number 25 b ∙ sym (w .0))
+  to-level-refuses most target (inr w) =
+      rw (w .1 .read) (checked-refuses (plainAnswer (chargeEnergyDemand b most target (w .1 .soc) .0) b) (w .0) (w .1 .found))
+
+  charge-refuses : (source : Source) (target : Float) → ChargeWhy n b source target → charge b source target .refusal ≡ n
+  unfolding charge
+  charge-refuses source target w =
+      let r = chargeBattery b source target in
+      run-refuses r (runAnswer r (chargedBattery b r)) w
+
+  loss-refuses : Why n b HeatLoss → heatLoss b .refusal ≡ n
+  unfolding heatLoss
+  loss-refuses w =
+      let r = batteryHeatLoss b in
+      run-refuses r (runAnswer r (cooledBattery b r)) w
+
+pub why-refuses : (n : ℕ) → 22 ≤ n → (version : ℕ) (b : Battery) (call : Call) → callInRange version (b .card) call ≡ true → Runs b call → Why n b call → stepOf version b call .refusal ≡ n
+unfolding stepOf callInRange
+why-refuses n l version b (DemandEnergy d) i runs w = demand-refuses n l b d i runs w
+why-refuses n l version b (ChargeElectric power target) i runs w = charge-refuses n l b (Electric power) target w
+why-refuses n l version b (ChargeHydronic h) i runs w = charge-refuses n l b (wetSource h) (h .target) w
+why-refuses n l version b HeatLoss i runs w = loss-refuses n l b w
+why-refuses n l version b CloseTimestep i runs w = checked-refuses n l b (plainAnswer zero (closedBattery b)) (w .0) (w .1)
+why-refuses n l version b ReadStateOfCharge i runs w = level-refuses n l b w
+why-refuses n l version b (ChargeEnergyDemand most target) i runs w = to-level-refuses n l b most target w
+
+-- ---- from the case to the cause
+
+-- an end by its number
+over-22 : (e : End) → e ≡ OverBudget → endRefusal e ≡ 22
+unfolding endRefusal
+over-22 e h = rw h
+
+logarithm-24 : (e : End) → e ≡ faultEnd Logarithm → endRefusal e ≡ 24
+unfolding endRefusal faultEnd
+logarithm-24 e h = rw h
+
+not-finite-23 : (e : End) → e ≡ faultEnd NotFinite → endRefusal e ≡ 23
+unfolding endRefusal faultEnd
+not-finite-23 e h = rw h
+
+module _ (b : Battery) where
+  -- the ends of the runs are those that the calls hand out
+  demand-end : (d : Demand) (feed : Float) → demandEnded (demandRunOf b d feed) .end ≡ demandRunOf b d feed .end
+  unfolding demandEnded
+  demand-end d feed = refl
+
+  hydronic-end : (h : Hydronic) → chargeBattery b (wetSource h) (h .target) .end ≡ hydronicRunOf b h .end
+  unfolding chargeBattery wetSource chargeHydronic hydronicEnded
+  hydronic-end h = refl
+
+  electric-end : (power target : Float) → chargeBattery b (Electric power) target .end ≡ faultEnd (processHeatBatteryZones (b .card) (derived (b .card)) (electricDrive b power target) (b .zones) .fault)
+  unfolding chargeBattery chargeElectric electricEnded
+  electric-end power target = refl
+
+  loss-end : batteryHeatLoss b .end ≡ faultEnd (processHeatBatteryZones (b .card) (derived (b .card)) (lossDrive b) (b .zones) .fault)
+  unfolding batteryHeatLoss lossEnded
+  loss-end = refl
+
+  demand-ended : (n : ℕ) (f : Fault) → ((e : End) → e ≡ faultEnd f → endRefusal e ≡ n) → (d : Demand) → DemandFaulted f b d → DemandWhy n b d
+  demand-ended n f number d w =
+      record { asked = w .asked; feed = w .feed; given = w .given; why = inl (number _ (demand-end d (w .feed) ∙ w .ended)) }
+
+  pub budget-why : (call : Call) → BudgetUsed b call → Why 22 b call
+  budget-why (DemandEnergy d) w =
+      inr (record { asked = w .asked; feed = w .feed; given = w .given; why = inl (over-22 _ (demand-end d (w .feed) ∙ w .over .ended)) })
+  budget-why (ChargeElectric power target) w = absurd w
+  budget-why (ChargeHydronic h) w = inl (over-22 _ (hydronic-end h ∙ w .over .ended))
+  budget-why HeatLoss w = absurd w
+  budget-why CloseTimestep w = absurd w
+  budget-why ReadStateOfCharge w = absurd w
+  budget-why (ChargeEnergyDemand most target) w = absurd w
+
+  pub logarithm-why : (call : Call) → NoLogarithmTaken b call → Why 24 b call
+  logarithm-why (DemandEnergy d) w = inr (demand-ended 24 Logarithm logarithm-24 d w)
+  logarithm-why (ChargeElectric power target) w = absurd w
+  logarithm-why (ChargeHydronic h) w = inl (logarithm-24 _ (hydronic-end h ∙ w .ended))
+  logarithm-why HeatLoss w = absurd w
+  logarithm-why CloseTimestep w = absurd w
+  logarithm-why ReadStateOfCharge w = absurd w
+  logarithm-why (ChargeEnergyDemand most target) w = absurd w
+
+  -- a run's own substep, or its answer
+  run-23 : {A : Type 0} (r : Ended) (a : Answer) → (A → r .end ≡ faultEnd NotFinite) → A ⊎ AnswerNotFinite r a → RunWhy 23 r a
+  run-23 r a f (inl w) = inl (not-finite-23 (r .end) (f w))
+  run-23 r a f (inr w) = inr (refl, w)
+
+  pub not-finite-why : (call : Call) → NotFiniteFound b call → Why 23 b call
+  not-finite-why (DemandEnergy d) (inl w) = inr (demand-ended 23 NotFinite not-finite-23 d w)
+  not-finite-why (DemandEnergy d) (inr (inl w)) = inr (record { asked = w .asked; feed = w .feed; given = w .given; why = inr (refl, w .answer) })
+  not-finite-why (DemandEnergy d) (inr (inr w)) = inl (refl, w)
+  not-finite-why (ChargeElectric power target) w = run-23 _ _ (λ s. electric-end power target ∙ ap faultEnd (s .fault)) w
+  not-finite-why (ChargeHydronic h) w = run-23 _ _ (λ s. hydronic-end h ∙ s .ended) w
+  not-finite-why HeatLoss w = run-23 _ _ (λ s. loss-end ∙ ap faultEnd (s .fault)) w
+  not-finite-why CloseTimestep w = (refl, w)
+  not-finite-why ReadStateOfCharge w = inr (refl, w)
+  not-finite-why (ChargeEnergyDemand most target) w = inr (refl, w)
+
+  pub full-why : (call : Call) → OverFull b call → Why 25 b call
+  full-why (DemandEnergy d) w = absurd w
+  full-why (ChargeElectric power target) w = absurd w
+  full-why (ChargeHydronic h) w = absurd w
+  full-why HeatLoss w = absurd w
+  full-why CloseTimestep w = absurd w
+  full-why ReadStateOfCharge w = inl (refl, w .above)
+  full-why (ChargeEnergyDemand most target) w = inl (refl, w .above)

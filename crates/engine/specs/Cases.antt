@@ -1,0 +1,61 @@
+-- Document 01, 'Who can cause a refusal': the case of each of 20 to 25, by the battery and the call. A case says what its number's sentence says, and that
+-- what comes before it doesn't apply.
+use mathlib.Core.Path.{_≡_}
+use mathlib.Core.Bool.{true}
+use lib.Ieee.{Float, lt}
+use Rattle.floats.specs.Constants.{tolerance}
+use Rattle.battery.specs.declared.Battery.{Battery}
+use Rattle.battery.specs.declared.Demand.{Demand}
+use Rattle.battery.specs.declared.Given.the-variants.{Absent, Value}
+use Rattle.battery.specs.declared.Call.{Call}
+use Rattle.battery.specs.declared.Call.the-variants.{DemandEnergy, ChargeElectric, ChargeHydronic, HeatLoss, CloseTimestep, ReadStateOfCharge, ChargeEnergyDemand}
+use Rattle.engine.specs.Budget.{BudgetUsed}
+use Rattle.engine.specs.Faults.{NotFiniteFound, NoLogarithmTaken, OverFull}
+
+-- '20 required above 1e-10 without return temperature'
+pub record NoReturn (d : Demand) : Type 0 where
+  pub above : lt tolerance (d .required) ≡ true
+  pub absent : d .feed ≡ Absent
+
+-- '21 committed, required above 1e-10, service type 0'; '20 before 21'
+pub record NoService (d : Demand) : Type 0 where
+  pub above : lt tolerance (d .required) ≡ true
+  pub temperature : Float
+  pub given : d .feed ≡ Value temperature
+  pub committed : d .commit ≡ true
+  pub combi : d .service ≡ 0
+
+abbrev pub Case20 : Battery → Call → Type 0
+Case20 b (DemandEnergy d) = NoReturn d
+Case20 b (ChargeElectric power target) = ⊥
+Case20 b (ChargeHydronic h) = ⊥
+Case20 b HeatLoss = ⊥
+Case20 b CloseTimestep = ⊥
+Case20 b ReadStateOfCharge = ⊥
+Case20 b (ChargeEnergyDemand most target) = ⊥
+
+abbrev pub Case21 : Battery → Call → Type 0
+Case21 b (DemandEnergy d) = NoService d
+Case21 b (ChargeElectric power target) = ⊥
+Case21 b (ChargeHydronic h) = ⊥
+Case21 b HeatLoss = ⊥
+Case21 b CloseTimestep = ⊥
+Case21 b ReadStateOfCharge = ⊥
+Case21 b (ChargeEnergyDemand most target) = ⊥
+
+-- neither 20 nor 21, which stand 'before the first substep'
+abbrev pub Runs : Battery → Call → Type 0
+Runs b call = (Case20 b call → ⊥) × (Case21 b call → ⊥)
+
+-- 'The first to occur is given': each of these names the place of the run at which it occurs, or an answer behind a run to its end
+abbrev pub Case22 : Battery → Call → Type 0
+Case22 b call = Runs b call × BudgetUsed b call
+
+abbrev pub Case23 : Battery → Call → Type 0
+Case23 b call = Runs b call × NotFiniteFound b call
+
+abbrev pub Case24 : Battery → Call → Type 0
+Case24 b call = Runs b call × NoLogarithmTaken b call
+
+abbrev pub Case25 : Battery → Call → Type 0
+Case25 b call = Runs b call × OverFull b call
