@@ -3,3 +3,4 @@ pub mod Lined
 pub mod AList
 pub mod Numbers
 pub mod Promises
+pub mod Example

@@ -21,30 +21,39 @@ exampleCard =
     ++ num 0x4010000000000000 ++ num 0x4040000000000000 ++ num 0x4000000000000000
     ++ num 0x3FB999999999999A ++ num 0x4024000000000000 ++ num 0 ++ num 0x408F400000000000 ++ num 0x4018000000000000 ++ num 0x3FD0000000000000 ++ num 0x4044000000000000 ++ num 0)
 
--- a record of the card's length, and a buffer for line 0 and two call lines
-abbrev pub exampleRecord : List ℕ
-exampleRecord = replicate 206 0
+-- the record of the card with one zone, at these bits, and charged totals at these
+abbrev pub recordAt : ℕ → ℕ → List ℕ
+recordAt zone charged = exampleCard ++ num zone ++ num 0 ++ num 0 ++ num 0 ++ num charged ++ num charged
 
-abbrev pub exampleFree : List ℕ
-exampleFree = replicate 367 0
+-- a fresh battery, at 40 °C
+abbrev pub freshRecord : List ℕ
+freshRecord = recordAt 0x4044000000000000 0
 
--- an electric charge of 0.08 kW to level 1; a demand for 1 kWh without return temperature; a kind that there isn't; closing the timestep, for which no room is left
-abbrev pub exampleCalls : List (List ℕ)
-exampleCalls =
-    (2 ∷ (num 0x3FB47AE147AE147B ++ num 0x3FF0000000000000))
-    ∷ (1 ∷ 1 ∷ 1 ∷ 0 ∷ (num 0x3FF0000000000000 ++ num 0 ++ replicate 9 0))
-    ∷ (9 ∷ [])
-    ∷ (5 ∷ [])
-    ∷ []
+-- what opening writes: the version and line 0
+abbrev pub exampleOpening : List ℕ
+exampleOpening = 1 ∷ (beBytes 2 158 ++ exampleCard)
 
--- the numbers that the entry gives, call after call
-abbrev pub numbersFrom : List ℕ → List ℕ → List (List ℕ) → List ℕ
-numbersFrom rec free [] = []
-numbersFrom rec free (call ∷ calls) =
-    let a = entryOf 1 rec call free in
-    a .code ∷ numbersFrom (a .record') (freeBehind a) calls
+-- an electric charge of 0.08 kW to level 1: answered, the zone at 56 °C, 0.08 kWh charged
+abbrev pub exampleCharge : List ℕ
+exampleCharge = 2 ∷ (num 0x3FB47AE147AE147B ++ num 0x3FF0000000000000)
 
-abbrev pub exampleNumbers : List ℕ
-exampleNumbers =
-    let o = openOf 1 exampleCard exampleRecord exampleFree in
-    numbersFrom (o .record') (drop (openingLength 1) (o .sheet)) exampleCalls
+abbrev pub chargeLine : List ℕ
+chargeLine =
+    beBytes 2 95 ++ exampleCharge ++ (0 ∷ num 0x3FB47AE147AE147B) ++ replicate 9 0 ++ num 0 ++ beBytes 4 1
+    ++ num 0x404C000000000000 ++ num 0 ++ num 0 ++ num 0 ++ num 0x3FB47AE147AE147B ++ num 0x3FB47AE147AE147B
+
+abbrev pub chargedRecord : List ℕ
+chargedRecord = recordAt 0x404C000000000000 0x3FB47AE147AE147B
+
+-- a demand for 1 kWh without return temperature: refused with 20, zone and totals as before
+abbrev pub exampleDemand : List ℕ
+exampleDemand = 1 ∷ 1 ∷ 1 ∷ 0 ∷ (num 0x3FF0000000000000 ++ num 0 ++ replicate 9 0)
+
+abbrev pub refusedLine : List ℕ
+refusedLine =
+    beBytes 2 107 ++ exampleDemand ++ (20 ∷ num 0) ++ replicate 9 0 ++ num 0 ++ beBytes 4 0
+    ++ num 0x404C000000000000 ++ num 0 ++ num 0 ++ num 0 ++ num 0x3FB47AE147AE147B ++ num 0x3FB47AE147AE147B
+
+-- the sheet of the two
+abbrev pub exampleSheet : List ℕ
+exampleSheet = exampleOpening ++ chargeLine ++ refusedLine

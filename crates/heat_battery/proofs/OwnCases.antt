@@ -70,11 +70,11 @@ module _ (version : ℕ) (b : Battery) (call : List ℕ) where
   -- the number of a call that is read
   number : (c : Call) → callOf version call ≡ Good c → n ≡ advanceOf version b c .refusal
   unfolding advancedOf advancedRead advancedBy shownOf
-  number c e = rw e
+  number c e = ap (λ (r : ReadCall). advancedRead version b r .shown .refusal) e
 
   bad-number : callOf version call ≡ Bad → n ≡ 10
   unfolding advancedOf advancedRead advancedBy shownOf refusedWith
-  bad-number e = rw e
+  bad-number e = ap (λ (r : ReadCall). advancedRead version b r .shown .refusal) e
 
   refused-ten : (c : Call) → callOf version call ≡ Good c → (batteryAccepted version b && callInRange version (b .card) c) ≡ false → n ≡ 10
   unfolding advanceOf refusedWith
