@@ -51,6 +51,7 @@ same-verdict (Refused r i) (Refused s j) g k h =
 -- within the limit, N × 256 exactly when the bytes are a sheet with N lines
 pub word-accepts : (bs : List ℕ) (n : ℕ) → length bs ≤ limit → (verdictWord (limitedAuditOf bs) ≡ n * 256) ↔ Sheet bs n
 unfolding verdictWord
-word-accepts bs n l =
-    (λ h. exact bs n .0 (rw (within-limit bs l) at (same-verdict (limitedAuditOf bs) (Accepted n) (verdict-given bs) tt h)),
-    λ s. ap verdictWord (within-limit bs l ∙ exact bs n .1 s))
+word-accepts bs n l = (
+  λ h. exact bs n .0 (rw (within-limit bs l) at (same-verdict (limitedAuditOf bs) (Accepted n) (verdict-given bs) tt h)),
+  λ s. ap verdictWord (within-limit bs l ∙ exact bs n .1 s),
+)

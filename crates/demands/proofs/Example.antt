@@ -43,22 +43,11 @@ use Rattle.heat_battery.specs.Lists.{noLine, lineTaken, freeBehind, recordAfter
 use Rattle.auditor.specs.declared.Verdict.the-variants.{Accepted}
 use Rattle.demands.specs.Example.{exampleCard, freshRecord, exampleOpening, exampleCharge, chargeLine, chargedRecord, exampleDemand, refusedLine, exampleSheet}
 
--- A opens with this card
-pub example-opens : openOf 1 exampleCard (replicate 206 0) (replicate 161 0) ≡ record { code = 0; record' = freshRecord; sheet = exampleOpening }
+-- A opens with this card; the first call is answered and the second refused, and they write these bytes; B accepts the sheet
+pub example :
+    (openOf 1 exampleCard (replicate 206 0) (replicate 161 0) ≡ record { code = 0; record' = freshRecord; sheet = exampleOpening })
+    × (entryOf 1 freshRecord exampleCharge (replicate 97 0) ≡ record { code = 0; record' = chargedRecord; sheet = chargeLine })
+    × (entryOf 1 chargedRecord exampleDemand (replicate 109 0) ≡ record { code = 20; record' = chargedRecord; sheet = refusedLine })
+    × (auditOf exampleSheet ≡ Accepted 2)
 unfolding mantissa exponent series lnAt lnNormal ln finite64 magnitude larger nearlyEqual maxZero min square truncate sum2Step sum2After sum2 be beBytes f64Of f64Bytes over kilowattHours kilojoules layerEnergyStored tempAt socToTemp zoneSalt storedEnergy levelOf stateOfCharge zoneEnergyRequired within isSubstep isTimestep isTemperature isCapacity isVelocity isDiameter isCoefficient isFlow isPower deliveringFromAbove delivering retrievingFromBelow retrieving newZoneTemperature zoneFalls counted chargingWithdrawn chargingAdded chargingFull zoneSimultaneousCharging kinematicViscosity reynoldNumber massFlow transferOf heatTransfer outletTemp zoneProperties countsInRange timesInRange temperaturesInRange capacitiesInRange exchangerInRange powersInRange cardInRange cardVerdict verdictNumber cardRefusal saltOf energyAt derived refusedWith plainAnswer answerFinite freshZones fresh zonesFinite totalsFinite batteryAccepted kindOf isCharge onlyAsks finiteTotals numbersFinite refusedReply plainReply settled isLevel isGivenTemperature demandInRange hydronicInRange callInRange zoneIndex zoneCharge zoneStep zoneAt zonesAfter perLayer zoneTransfer courseOf chargerHeat passFrom substepWith outcomeOf withoutLogarithm passFinite passFault substepFrom withTransfer processHeatBatteryZones electricDrive electricEnded chargeElectric hydronicTask hydronicStart chargeHydronic chargeBattery lossDrive lossEnded batteryHeatLoss energyDeficit chargeEnergyDemand wetDrive clearlyBelow limitReached replayBy replayed fractionSeconds hydronicWhole hydronicBy hydronicStep hydronicRun hydronicEnded wholeSubsteps faultEnd endRefusal reynoldBetween timeAvailable demandDrive capped nextStep demandMet cut runAfter demandDelivered demandBy demandSubstep demandRun demandEnded serviceClass unserved pumpAfter directAfter checked unlessRefused demandStart served demandKept demandAnswer chargedBattery cooledBattery runAnswer closedBattery askedOf askedStep demandPower demandTask demandFrom demandGiven demandEnergy charge heatLoss level readLevel demandToLevel wetSource stepOf advanceOf callLength markOk givenAt demandAt demandCall hydronicAt chargeDemandCall bareCall callBy callOf cardLength cardAt zonesAt zonesBytes totalsBytes stateLength stateAt stateBytes recordLength recordOf recordBytes headLength answerLength answerAt headBytes answerBytes marksOk sameNumber sameZones sameTotals agrees lineLength lineSize lineBytes openingLength openingBytes openOf renewed lineAfter recordLaid callPart answerPart behind headOk lineCall judge auditLine auditFrom cardLineOk auditLines auditOf limitedAuditOf verdictWord stepsFrom expected entryRead entryOf noLine lineTaken freeBehind recordAfter freeAfter written spared sheetOf behindSheet lastRecord sparedOf answerRead answerTo stateAfter stepLines ofBits toBits ofInt add sub mul div neg lt le eq fits
-example-opens = refl
-
--- its first call is answered, and writes these bytes
-pub example-answers : entryOf 1 freshRecord exampleCharge (replicate 97 0) ≡ record { code = 0; record' = chargedRecord; sheet = chargeLine }
-unfolding mantissa exponent series lnAt lnNormal ln finite64 magnitude larger nearlyEqual maxZero min square truncate sum2Step sum2After sum2 be beBytes f64Of f64Bytes over kilowattHours kilojoules layerEnergyStored tempAt socToTemp zoneSalt storedEnergy levelOf stateOfCharge zoneEnergyRequired within isSubstep isTimestep isTemperature isCapacity isVelocity isDiameter isCoefficient isFlow isPower deliveringFromAbove delivering retrievingFromBelow retrieving newZoneTemperature zoneFalls counted chargingWithdrawn chargingAdded chargingFull zoneSimultaneousCharging kinematicViscosity reynoldNumber massFlow transferOf heatTransfer outletTemp zoneProperties countsInRange timesInRange temperaturesInRange capacitiesInRange exchangerInRange powersInRange cardInRange cardVerdict verdictNumber cardRefusal saltOf energyAt derived refusedWith plainAnswer answerFinite freshZones fresh zonesFinite totalsFinite batteryAccepted kindOf isCharge onlyAsks finiteTotals numbersFinite refusedReply plainReply settled isLevel isGivenTemperature demandInRange hydronicInRange callInRange zoneIndex zoneCharge zoneStep zoneAt zonesAfter perLayer zoneTransfer courseOf chargerHeat passFrom substepWith outcomeOf withoutLogarithm passFinite passFault substepFrom withTransfer processHeatBatteryZones electricDrive electricEnded chargeElectric hydronicTask hydronicStart chargeHydronic chargeBattery lossDrive lossEnded batteryHeatLoss energyDeficit chargeEnergyDemand wetDrive clearlyBelow limitReached replayBy replayed fractionSeconds hydronicWhole hydronicBy hydronicStep hydronicRun hydronicEnded wholeSubsteps faultEnd endRefusal reynoldBetween timeAvailable demandDrive capped nextStep demandMet cut runAfter demandDelivered demandBy demandSubstep demandRun demandEnded serviceClass unserved pumpAfter directAfter checked unlessRefused demandStart served demandKept demandAnswer chargedBattery cooledBattery runAnswer closedBattery askedOf askedStep demandPower demandTask demandFrom demandGiven demandEnergy charge heatLoss level readLevel demandToLevel wetSource stepOf advanceOf callLength markOk givenAt demandAt demandCall hydronicAt chargeDemandCall bareCall callBy callOf cardLength cardAt zonesAt zonesBytes totalsBytes stateLength stateAt stateBytes recordLength recordOf recordBytes headLength answerLength answerAt headBytes answerBytes marksOk sameNumber sameZones sameTotals agrees lineLength lineSize lineBytes openingLength openingBytes openOf renewed lineAfter recordLaid callPart answerPart behind headOk lineCall judge auditLine auditFrom cardLineOk auditLines auditOf limitedAuditOf verdictWord stepsFrom expected entryRead entryOf noLine lineTaken freeBehind recordAfter freeAfter written spared sheetOf behindSheet lastRecord sparedOf answerRead answerTo stateAfter stepLines ofBits toBits ofInt add sub mul div neg lt le eq fits
-example-answers = refl
-
--- its second is refused, and writes these
-pub example-refuses : entryOf 1 chargedRecord exampleDemand (replicate 109 0) ≡ record { code = 20; record' = chargedRecord; sheet = refusedLine }
-unfolding mantissa exponent series lnAt lnNormal ln finite64 magnitude larger nearlyEqual maxZero min square truncate sum2Step sum2After sum2 be beBytes f64Of f64Bytes over kilowattHours kilojoules layerEnergyStored tempAt socToTemp zoneSalt storedEnergy levelOf stateOfCharge zoneEnergyRequired within isSubstep isTimestep isTemperature isCapacity isVelocity isDiameter isCoefficient isFlow isPower deliveringFromAbove delivering retrievingFromBelow retrieving newZoneTemperature zoneFalls counted chargingWithdrawn chargingAdded chargingFull zoneSimultaneousCharging kinematicViscosity reynoldNumber massFlow transferOf heatTransfer outletTemp zoneProperties countsInRange timesInRange temperaturesInRange capacitiesInRange exchangerInRange powersInRange cardInRange cardVerdict verdictNumber cardRefusal saltOf energyAt derived refusedWith plainAnswer answerFinite freshZones fresh zonesFinite totalsFinite batteryAccepted kindOf isCharge onlyAsks finiteTotals numbersFinite refusedReply plainReply settled isLevel isGivenTemperature demandInRange hydronicInRange callInRange zoneIndex zoneCharge zoneStep zoneAt zonesAfter perLayer zoneTransfer courseOf chargerHeat passFrom substepWith outcomeOf withoutLogarithm passFinite passFault substepFrom withTransfer processHeatBatteryZones electricDrive electricEnded chargeElectric hydronicTask hydronicStart chargeHydronic chargeBattery lossDrive lossEnded batteryHeatLoss energyDeficit chargeEnergyDemand wetDrive clearlyBelow limitReached replayBy replayed fractionSeconds hydronicWhole hydronicBy hydronicStep hydronicRun hydronicEnded wholeSubsteps faultEnd endRefusal reynoldBetween timeAvailable demandDrive capped nextStep demandMet cut runAfter demandDelivered demandBy demandSubstep demandRun demandEnded serviceClass unserved pumpAfter directAfter checked unlessRefused demandStart served demandKept demandAnswer chargedBattery cooledBattery runAnswer closedBattery askedOf askedStep demandPower demandTask demandFrom demandGiven demandEnergy charge heatLoss level readLevel demandToLevel wetSource stepOf advanceOf callLength markOk givenAt demandAt demandCall hydronicAt chargeDemandCall bareCall callBy callOf cardLength cardAt zonesAt zonesBytes totalsBytes stateLength stateAt stateBytes recordLength recordOf recordBytes headLength answerLength answerAt headBytes answerBytes marksOk sameNumber sameZones sameTotals agrees lineLength lineSize lineBytes openingLength openingBytes openOf renewed lineAfter recordLaid callPart answerPart behind headOk lineCall judge auditLine auditFrom cardLineOk auditLines auditOf limitedAuditOf verdictWord stepsFrom expected entryRead entryOf noLine lineTaken freeBehind recordAfter freeAfter written spared sheetOf behindSheet lastRecord sparedOf answerRead answerTo stateAfter stepLines ofBits toBits ofInt add sub mul div neg lt le eq fits
-example-refuses = refl
-
--- and B accepts the sheet
-pub example-accepted : auditOf exampleSheet ≡ Accepted 2
-unfolding mantissa exponent series lnAt lnNormal ln finite64 magnitude larger nearlyEqual maxZero min square truncate sum2Step sum2After sum2 be beBytes f64Of f64Bytes over kilowattHours kilojoules layerEnergyStored tempAt socToTemp zoneSalt storedEnergy levelOf stateOfCharge zoneEnergyRequired within isSubstep isTimestep isTemperature isCapacity isVelocity isDiameter isCoefficient isFlow isPower deliveringFromAbove delivering retrievingFromBelow retrieving newZoneTemperature zoneFalls counted chargingWithdrawn chargingAdded chargingFull zoneSimultaneousCharging kinematicViscosity reynoldNumber massFlow transferOf heatTransfer outletTemp zoneProperties countsInRange timesInRange temperaturesInRange capacitiesInRange exchangerInRange powersInRange cardInRange cardVerdict verdictNumber cardRefusal saltOf energyAt derived refusedWith plainAnswer answerFinite freshZones fresh zonesFinite totalsFinite batteryAccepted kindOf isCharge onlyAsks finiteTotals numbersFinite refusedReply plainReply settled isLevel isGivenTemperature demandInRange hydronicInRange callInRange zoneIndex zoneCharge zoneStep zoneAt zonesAfter perLayer zoneTransfer courseOf chargerHeat passFrom substepWith outcomeOf withoutLogarithm passFinite passFault substepFrom withTransfer processHeatBatteryZones electricDrive electricEnded chargeElectric hydronicTask hydronicStart chargeHydronic chargeBattery lossDrive lossEnded batteryHeatLoss energyDeficit chargeEnergyDemand wetDrive clearlyBelow limitReached replayBy replayed fractionSeconds hydronicWhole hydronicBy hydronicStep hydronicRun hydronicEnded wholeSubsteps faultEnd endRefusal reynoldBetween timeAvailable demandDrive capped nextStep demandMet cut runAfter demandDelivered demandBy demandSubstep demandRun demandEnded serviceClass unserved pumpAfter directAfter checked unlessRefused demandStart served demandKept demandAnswer chargedBattery cooledBattery runAnswer closedBattery askedOf askedStep demandPower demandTask demandFrom demandGiven demandEnergy charge heatLoss level readLevel demandToLevel wetSource stepOf advanceOf callLength markOk givenAt demandAt demandCall hydronicAt chargeDemandCall bareCall callBy callOf cardLength cardAt zonesAt zonesBytes totalsBytes stateLength stateAt stateBytes recordLength recordOf recordBytes headLength answerLength answerAt headBytes answerBytes marksOk sameNumber sameZones sameTotals agrees lineLength lineSize lineBytes openingLength openingBytes openOf renewed lineAfter recordLaid callPart answerPart behind headOk lineCall judge auditLine auditFrom cardLineOk auditLines auditOf limitedAuditOf verdictWord stepsFrom expected entryRead entryOf noLine lineTaken freeBehind recordAfter freeAfter written spared sheetOf behindSheet lastRecord sparedOf answerRead answerTo stateAfter stepLines ofBits toBits ofInt add sub mul div neg lt le eq fits
-example-accepted = refl
+example = (refl, refl, refl, refl)

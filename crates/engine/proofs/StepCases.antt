@@ -74,21 +74,25 @@ module _ (version : ℕ) (b : Battery) (call : Call) (r : callInRange version (b
   ran n p q h = (λ w. p (sym h ∙ step-20 version b call r .1 w), λ w. q (sym h ∙ step-21 version b call r .1 w))
 
   pub step-22 : (stepOf version b call .refusal ≡ 22) ↔ Case22 b call
-  step-22 =
-      (λ h. (ran 22 (λ z. omega arith) (λ z. omega arith) h, over-budget-only version b call h),
-      λ w. why-refuses 22 (omega arith) version b call r (w .0) (budget-why b call (w .1)))
+  step-22 = (
+    λ h. (ran 22 (λ z. omega arith) (λ z. omega arith) h, over-budget-only version b call h),
+    λ w. why-refuses 22 (omega arith) version b call r (w .0) (budget-why b call (w .1)),
+  )
 
   pub step-23 : (stepOf version b call .refusal ≡ 23) ↔ Case23 b call
-  step-23 =
-      (λ h. (ran 23 (λ z. omega arith) (λ z. omega arith) h, not-finite-only version b call h),
-      λ w. why-refuses 23 (omega arith) version b call r (w .0) (not-finite-why b call (w .1)))
+  step-23 = (
+    λ h. (ran 23 (λ z. omega arith) (λ z. omega arith) h, not-finite-only version b call h),
+    λ w. why-refuses 23 (omega arith) version b call r (w .0) (not-finite-why b call (w .1)),
+  )
 
   pub step-24 : (stepOf version b call .refusal ≡ 24) ↔ Case24 b call
-  step-24 =
-      (λ h. (ran 24 (λ z. omega arith) (λ z. omega arith) h, no-logarithm-only version b call h),
-      λ w. why-refuses 24 (omega arith) version b call r (w .0) (logarithm-why b call (w .1)))
+  step-24 = (
+    λ h. (ran 24 (λ z. omega arith) (λ z. omega arith) h, no-logarithm-only version b call h),
+    λ w. why-refuses 24 (omega arith) version b call r (w .0) (logarithm-why b call (w .1)),
+  )
 
   pub step-25 : (stepOf version b call .refusal ≡ 25) ↔ Case25 b call
-  step-25 =
-      (λ h. (ran 25 (λ z. omega arith) (λ z. omega arith) h, over-full-only version b call h),
-      λ w. why-refuses 25 (omega arith) version b call r (w .0) (full-why b call (w .1)))
+  step-25 = (
+    λ h. (ran 25 (λ z. omega arith) (λ z. omega arith) h, over-full-only version b call h),
+    λ w. why-refuses 25 (omega arith) version b call r (w .0) (full-why b call (w .1)),
+  )
