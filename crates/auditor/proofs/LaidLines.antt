@@ -119,11 +119,13 @@ module _ (version : ℕ) (c : Card) (bs : List ℕ) (call : Call) (h : lineCall 
 
   pub front-laid : callInRange version c call ≡ true → Laid version c (frontLine version c bs) call
   front-laid k =
+      let says : be (take 2 bs) ≡ length (callPart version bs) + length (answerPart version c bs) =
+      at-front .says ∙ rw (call-long version c bs at-front, answer-long version c bs at-front) in
       record {
         two = length-take-le 2 bs (omega (arith, at-front .whole));
-        counts = at-front .says ∙ rw (call-long version c bs at-front, answer-long version c bs at-front);
+        counts = rw says;
         reads = tests .2;
-        in-range = k;
+        in-range = rw k;
         long = answer-long version c bs at-front;
-        marks = tests .1;
+        marks = rw (tests .1);
       }

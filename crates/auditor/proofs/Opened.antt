@@ -88,5 +88,5 @@ opened bs one k =
       two = length-take-le 2 (drop 1 bs) (simp length-drop (omega (arith, l .long)));
       counts = l .says;
       long = length-take-le (cardLength 1) (drop 3 bs) (simp length-drop (omega (arith, l .long)));
-      accepted = l .accepted;
+      accepted = rw (l .accepted);
     }

@@ -67,8 +67,8 @@ module _ (n : ℕ) (l : 22 ≤ n) (b : Battery) where
               above = required-above (b .card) d in-range asked;
               temperature = feed;
               given = e;
-              committed = p .0;
-              combi = class-zero (b .card) d in-range (p .1);
+              committed = rw (p .0);
+              combi = rw (class-zero (b .card) d in-range (p .1));
             }))
         on false h = refl
 

@@ -39,7 +39,7 @@ module _ (b : Battery) (d : Demand) (r : demandInRange (b .card) d ≡ true) whe
       on (late l) h = absurd (late-not (demandEnergy b d .refusal) l .1 h)
       on (twenty a f e) h = absurd (omega arith)
       on (twenty-one a t f m s e) h =
-          record { above = required-above (b .card) d r a; temperature = t; given = f; committed = m; combi = class-zero (b .card) d r s }
+          record { above = required-above (b .card) d r a; temperature = t; given = f; committed = rw m; combi = rw (class-zero (b .card) d r s) }
 
 -- every other kind gives neither
 no-20 : (n : ℕ) → Late n → (n ≡ 20) ↔ ⊥
