@@ -58,9 +58,14 @@ done
 echo 'unknown.vec: 2 more disagree' >>../stdout
 expect unknown.vec 0 12
 
-# One altered vector.
+# Two altered vectors. A substep's last output is the energy of its last zone.
 "$oracle" alter viscosity.vec altered.vec 17
 echo 'altered.vec: vector 17 of viscosity disagrees' >>../stdout
 expect altered.vec 999 1
+"$oracle" vectors few --count 20 --seed "$seed" --only substep
+"$oracle" alter few/substep.vec energy.vec 17
+rm -r few
+echo 'energy.vec: vector 17 of substep disagrees' >>../stdout
+expect energy.vec 19 1
 
 echo "total: $agree agree, $disagree disagree" >>../stdout

@@ -409,12 +409,13 @@ impl Zone {
         (!take_logarithm_refused()).then_some((energy, outlet))
     }
 
-    /// One substep on `zones`: outlet, Sum2 of delivered, charged; or refusal 23 or 24.
+    /// One substep on `zones`: outlet, each zone's energy and charged, as the published file
+    /// hands them out; or refusal 23 or 24.
     pub fn process_heat_battery_zones(
         &self,
         zones: &mut [f64],
         pass: &Pass,
-    ) -> Result<(f64, f64, f64), u8> {
+    ) -> Result<(f64, Vec<f64>, f64), u8> {
         RUN.set(Run::with_budget(1));
         let done = self.0.process_heat_battery_zones(
             pass.inlet,
@@ -428,10 +429,7 @@ impl Zone {
             Some(pass.hex_a),
             Some(pass.hex_b),
         );
-        match done {
-            Ok((outlet, delivered, charged)) => Ok((outlet, sum2(&delivered), charged)),
-            Err(error) => Err(error.refusal),
-        }
+        done.map_err(|error| error.refusal)
     }
 
     /// With `zones` in the battery. None where the published file refuses (25).

@@ -407,7 +407,9 @@ pub enum Mode {
 
 pub struct Substep {
     pub outlet: f64,
-    /// Kilojoules given to the water or lost, by Sum2.
+    /// Kilojoules that each zone gave to the water or lost; none in charging alone.
+    pub energies: Vec<f64>,
+    /// Their Sum2.
     pub delivered: f64,
     /// Kilowatt-hours charged electrically.
     pub charged: f64,
@@ -476,7 +478,7 @@ fn charging_alone(
         }
         *zone = calculate_new_zone_temperature(&salt, *zone, now.transfer);
     }
-    Substep { outlet: 0.0, delivered: 0.0, charged: now.charged }
+    Substep { outlet: 0.0, energies: Vec::new(), delivered: 0.0, charged: now.charged }
 }
 
 /// Every zone's share of the rated losses, by its temperature above the surroundings.
@@ -484,13 +486,14 @@ fn losses(card: &Card, zones: &mut [f64], seconds: f64, rated: f64) -> Substep {
     let salt = salt(card);
     let rated_difference = card.max - 20.0;
     let all = rated * seconds / 3600.0 * 3600.0;
-    let mut lost = Vec::with_capacity(zones.len());
+    let mut energies = Vec::with_capacity(zones.len());
     for zone in zones.iter_mut() {
         let energy = max_zero(all / f64::from(card.layers) * (*zone - AMBIENT) / rated_difference);
         *zone = calculate_new_zone_temperature(&salt, *zone, energy);
-        lost.push(energy);
+        energies.push(energy);
     }
-    Substep { outlet: 0.0, delivered: sum2(&lost), charged: 0.0 }
+    let delivered = sum2(&energies);
+    Substep { outlet: 0.0, energies, delivered, charged: 0.0 }
 }
 
 /// What the water of a substep is to its zones.
@@ -507,18 +510,19 @@ fn normal(card: &Card, zones: &mut [f64], seconds: f64, water: Water) -> Substep
     let salt = salt(card);
     let mut now = Charging { q_max: water.q_max, charged: 0.0, transfer: 0.0 };
     let mut temperature = water.inlet;
-    let mut delivered = Vec::with_capacity(zones.len());
+    let mut energies = Vec::with_capacity(zones.len());
     for zone in zones.iter_mut() {
         let after = outlet(water.layer_transfer, *zone, temperature, water.mass_flow);
         now.transfer = WATER * 3600.0 * water.mass_flow * (after - temperature) * seconds;
-        delivered.push(now.transfer);
+        energies.push(now.transfer);
         if now.q_max < 0.0 {
             now = process_zone_simultaneous_charging(&salt, *zone, card.reference, now);
         }
         *zone = calculate_new_zone_temperature(&salt, *zone, now.transfer);
         temperature = after;
     }
-    Substep { outlet: temperature, delivered: sum2(&delivered), charged: now.charged }
+    let delivered = sum2(&energies);
+    Substep { outlet: temperature, energies, delivered, charged: now.charged }
 }
 
 // ---- Module 6

@@ -131,8 +131,13 @@ fn substep(w: &mut Words, out: Record) -> Option<Record> {
     };
     let mut steps = Substeps { card: &card, done: 0 };
     Some(match steps.run(&mut zones, seconds, mode) {
-        Ok(s) => out.word(0).floats(&[s.outlet, s.delivered, s.charged]).floats(&zones),
-        Err(refusal) => out.word(refusal.into()).floats(&vec![0.0; 3 + zones.len()]),
+        Ok(s) => {
+            // The published file adds each energy to a 0.
+            let mut energies = vec![0.0; zones.len()];
+            energies.iter_mut().zip(&s.energies).for_each(|(sum, energy)| *sum += energy);
+            out.word(0).floats(&[s.outlet, s.delivered, s.charged]).floats(&zones).floats(&energies)
+        }
+        Err(refusal) => out.word(refusal.into()).floats(&vec![0.0; 3 + 2 * zones.len()]),
     })
 }
 

@@ -16,25 +16,25 @@ abbrev pub charged : Kilojoules → KilowattHours → Kilojoules → Charged
 charged q k e = record { left = q; charged = k; heat = e }
 
 -- k and the heat q, counted in kilowatt-hours
-unfoldable pub counted : KilowattHours → Float → KilowattHours
-counted k q = kwh (k .0 ⊕ kilowattHours (kj q) .0)
+unfoldable pub counted : KilowattHours → Kilojoules → KilowattHours
+counted k q = kwh (k .0 ⊕ kilowattHours q .0)
 
 -- a zone below its target, where the water takes e ≥ 0 from it; n is what the zone needs, n ≤ 0
 unfoldable pub chargingWithdrawn : Kilojoules → Kilojoules → Kilojoules → KilowattHours → Charged
 chargingWithdrawn n q e k =
     cond (le (e .0) (neg (q .0)))
     (cond (lt (n .0) (q .0 ⊕ e .0))
-    (charged (kj zero) (counted (counted k (e .0)) (neg (q .0 ⊕ e .0))) (kj (zero ⊕ (q .0 ⊕ e .0))))
-    (charged (kj (q .0 ⊕ e .0 ⊖ n .0)) (counted (counted k (e .0)) (neg (n .0))) (kj (zero ⊕ n .0))))
-    (charged (kj zero) (counted k (neg (q .0))) (kj (e .0 ⊕ q .0)))
+    (charged (kj zero) (counted (counted k e) (kj (neg (q .0 ⊕ e .0)))) (kj (zero ⊕ (q .0 ⊕ e .0))))
+    (charged (kj (q .0 ⊕ e .0 ⊖ n .0)) (counted (counted k e) (kj (neg (n .0)))) (kj (zero ⊕ n .0))))
+    (charged (kj zero) (counted k (kj (neg (q .0)))) (kj (e .0 ⊕ q .0)))
 
 -- a zone below its target, where the water adds heat, e < 0
 unfoldable pub chargingAdded : Kilojoules → Kilojoules → Kilojoules → KilowattHours → Charged
 chargingAdded n q e k =
     cond (lt (n .0) (q .0 ⊕ e .0))
-    (charged (kj zero) (counted k (neg (q .0))) (kj (q .0 ⊕ e .0)))
+    (charged (kj zero) (counted k (kj (neg (q .0)))) (kj (q .0 ⊕ e .0)))
     (cond (le (n .0) (e .0))
-    (charged (kj (q .0 ⊖ (n .0 ⊖ e .0))) (counted k (neg (n .0 ⊖ e .0))) n)
+    (charged (kj (q .0 ⊖ (n .0 ⊖ e .0))) (counted k (kj (neg (n .0 ⊖ e .0)))) n)
     (charged q k e))
 
 -- a zone at its target or above
@@ -42,8 +42,8 @@ unfoldable pub chargingFull : Kilojoules → Kilojoules → KilowattHours → Ch
 chargingFull q e k =
     cond (le zero (e .0))
     (cond (lt (e .0) (neg (q .0)))
-    (charged (kj (q .0 ⊕ e .0)) (counted k (e .0)) (kj zero))
-    (charged (kj zero) (counted k (neg (q .0))) (kj (e .0 ⊕ q .0))))
+    (charged (kj (q .0 ⊕ e .0)) (counted k e) (kj zero))
+    (charged (kj zero) (counted k (kj (neg (q .0)))) (kj (e .0 ⊕ q .0))))
     (charged q k e)
 
 unfoldable pub zoneSimultaneousCharging : Salt → Float → Float → Kilojoules → Kilojoules → KilowattHours → Charged

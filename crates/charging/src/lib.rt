@@ -15,10 +15,10 @@ pub struct Charged {
 }
 
 // The energy charged so far and the heat q, counted in kilowatt-hours.
-fn counted(charged: KilowattHours, q: f64) -> KilowattHours
+fn counted(charged: KilowattHours, q: Kilojoules) -> KilowattHours
     ensures { λ r. ⌜ r ≡ countedOf charged q ⌝ }
 {
-    let more = Kilojoules(q).kilowatt_hours();
+    let more = q.kilowatt_hours();
     KilowattHours(charged.0 + more.0)
 }
 
@@ -33,23 +33,23 @@ fn charging_withdrawn(
 {
     if -left.0 >= e.0 {
         let rest = left.0 + e.0;
-        let recovered = counted(charged, e.0);
+        let recovered = counted(charged, e);
         if rest > required.0 {
-            let all = counted(recovered, -rest);
+            let all = counted(recovered, Kilojoules(-rest));
             return Charged {
                 left: Kilojoules(0.0),
                 charged: all,
                 heat: Kilojoules(0.0 + rest),
             };
         }
-        let some = counted(recovered, -required.0);
+        let some = counted(recovered, Kilojoules(-required.0));
         return Charged {
             left: Kilojoules(rest - required.0),
             charged: some,
             heat: Kilojoules(0.0 + required.0),
         };
     }
-    let part = counted(charged, -left.0);
+    let part = counted(charged, Kilojoules(-left.0));
     Charged {
         left: Kilojoules(0.0),
         charged: part,
@@ -67,7 +67,7 @@ fn charging_added(
     ensures { λ r. ⌜ r ≡ chargingAdded required left e charged ⌝ }
 {
     if left.0 + e.0 > required.0 {
-        let all = counted(charged, -left.0);
+        let all = counted(charged, Kilojoules(-left.0));
         return Charged {
             left: Kilojoules(0.0),
             charged: all,
@@ -75,7 +75,7 @@ fn charging_added(
         };
     }
     if e.0 >= required.0 {
-        let some = counted(charged, -(required.0 - e.0));
+        let some = counted(charged, Kilojoules(-(required.0 - e.0)));
         return Charged {
             left: Kilojoules(left.0 - (required.0 - e.0)),
             charged: some,
@@ -95,14 +95,14 @@ fn charging_full(left: Kilojoules, e: Kilojoules, charged: KilowattHours) -> Cha
 {
     if e.0 >= 0.0 {
         if -left.0 > e.0 {
-            let recovered = counted(charged, e.0);
+            let recovered = counted(charged, e);
             return Charged {
                 left: Kilojoules(left.0 + e.0),
                 charged: recovered,
                 heat: Kilojoules(0.0),
             };
         }
-        let part = counted(charged, -left.0);
+        let part = counted(charged, Kilojoules(-left.0));
         return Charged {
             left: Kilojoules(0.0),
             charged: part,

@@ -72,7 +72,7 @@ fn charge_zones(card: Card, course: Course, d: Drive, zones: &mut [f64; 64]) -> 
         left = z.left;
         charged = z.charged;
     }
-    let fault = substep::pass_fault(spread == 0.0, outlet, 0.0, charged);
+    let fault = substep::pass_fault(spread == 0.0, outlet, Kilojoules(0.0), charged);
     Outcome {
         outlet,
         delivered: Kilojoules(0.0),

@@ -14,7 +14,8 @@ use Rattle.floats.specs.Sum2.{sum2}
 use Rattle.floats.specs.declared.Log.{Log}
 use Rattle.floats.specs.declared.Log.the-variants.{Value, Refused}
 use Rattle.floats.proofs.Cases.{by-test}
-use Rattle.zone.specs.Heat.{kwh, kilowattHours}
+use Rattle.zone.specs.Heat.{kj, kwh, kilowattHours}
+use Rattle.zone.specs.declared.Kilojoules.{Kilojoules}
 use Rattle.water.specs.Water.{transferOf, heatTransfer}
 use Rattle.water.specs.declared.Mode.{Mode}
 use Rattle.water.specs.declared.Mode.the-variants.{OnlyCharging, Losses, Normal}
@@ -72,12 +73,12 @@ zone-refuses Losses c d h = never (cc)
 zone-refuses Normal c d h =
     (refl, ln-refuses (d .reynold ⊗ d .flow) (transfer-refuses (d .a) (d .b) (ln (d .reynold ⊗ d .flow)) (layer-refuses c (transferOf (d .a) (d .b) (ln (d .reynold ⊗ d .flow))) h)))
 
-no-logarithm-fault : (c : Card) (p : Pass) (sum : Float) → passFault c p sum ≡ Logarithm → ⊥
+no-logarithm-fault : (c : Card) (p : Pass) (sum : Kilojoules) → passFault c p sum ≡ Logarithm → ⊥
 unfolding passFault
 no-logarithm-fault c p sum =
     by-test (λ (f : Fault). f ≡ Logarithm → ⊥) (passFinite c p sum) Nothing NotFinite (λ t h. never (cc)) (λ t h. never (cc))
 
-not-finite-fault : (c : Card) (p : Pass) (sum : Float) → passFault c p sum ≡ NotFinite → passFinite c p sum ≡ false
+not-finite-fault : (c : Card) (p : Pass) (sum : Kilojoules) → passFault c p sum ≡ NotFinite → passFinite c p sum ≡ false
 unfolding passFault
 not-finite-fault c p sum =
     by-test (λ (f : Fault). f ≡ NotFinite → passFinite c p sum ≡ false) (passFinite c p sum) Nothing NotFinite (λ t h. never (cc)) (λ t h. t)
@@ -88,14 +89,14 @@ module _ (c : Card) (pcm : HeatBatteryPcm) (d : Drive) (zones : List Float) wher
   with-refused Refused h = refl
   with-refused (Value u) h =
       let p = passOf c pcm d zones u in
-      absurd (no-logarithm-fault c p (sum2 (p .energies) (c .layers)) h)
+      absurd (no-logarithm-fault c p (kj (sum2 (p .energies) (c .layers))) h)
 
   with-not-finite : (l : Log) → zoneTransfer (d .mode) c d ≡ l → withTransfer c pcm d zones l .fault ≡ NotFinite → PassNotFinite c pcm d zones
   unfolding withTransfer withoutLogarithm substepFrom
   with-not-finite Refused e h = never (cc)
   with-not-finite (Value u) e h =
       let p = passOf c pcm d zones u in
-      record { transfer = u; taken = e; found = not-finite-fault c p (sum2 (p .energies) (c .layers)) h }
+      record { transfer = u; taken = e; found = not-finite-fault c p (kj (sum2 (p .energies) (c .layers))) h }
 
   -- 24 only where the logarithm refuses its argument, in a demand's or hydronic substep
   pub logarithm-only : processHeatBatteryZones c pcm d zones .fault ≡ Logarithm → ArgumentRefused d

@@ -13,6 +13,7 @@ use Rattle.floats.specs.declared.Log.{Log}
 use Rattle.floats.specs.declared.Log.the-variants.{Value, Refused}
 use Rattle.floats.proofs.Cases.{by-test}
 use Rattle.zone.specs.Heat.{kj, kwh, kilowattHours}
+use Rattle.zone.specs.declared.Kilojoules.{Kilojoules}
 use Rattle.card.specs.Derived.{derived}
 use Rattle.card.specs.declared.Card.{Card}
 use Rattle.card.specs.declared.HeatBatteryPcm.{HeatBatteryPcm}
@@ -56,7 +57,7 @@ Finite n zones = zonesFinite zones n ≡ true
 
 -- one substep without a fault
 
-pass-tested : (c : Card) (p : Pass) (sum : Float) → passFault c p sum ≡ Nothing → Finite (c .layers) (p .zones)
+pass-tested : (c : Card) (p : Pass) (sum : Kilojoules) → passFault c p sum ≡ Nothing → Finite (c .layers) (p .zones)
 unfolding passFault passFinite
 pass-tested c p sum =
     by-test (λ (f : Fault). f ≡ Nothing → Finite (c .layers) (p .zones)) (passFinite c p sum) Nothing NotFinite

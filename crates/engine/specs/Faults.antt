@@ -71,7 +71,7 @@ passOf c pcm d zones u = zonesAfter (courseOf c pcm d u) (c .layers) (c .layers)
 pub record PassNotFinite (c : Card) (pcm : HeatBatteryPcm) (d : Drive) (zones : List Float) : Type 0 where
   pub transfer : Float
   pub taken : zoneTransfer (d .mode) c d ≡ Value transfer
-  pub found : passFinite c (passOf c pcm d zones transfer) (sum2 (passOf c pcm d zones transfer .energies) (c .layers)) ≡ false
+  pub found : passFinite c (passOf c pcm d zones transfer) (kj (sum2 (passOf c pcm d zones transfer .energies) (c .layers))) ≡ false
 
 -- the test of each fault
 abbrev pub FaultTest : Fault → Card → HeatBatteryPcm → Drive → List Float → Type 0

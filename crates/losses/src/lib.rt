@@ -25,13 +25,13 @@ fn loss_step(
     salt: Salt,
     zone: f64,
     left: Kilojoules,
-    share: f64,
+    share: Kilojoules,
     charged: KilowattHours,
 ) -> ZoneStep
-    requires { ⌜ (course .mode ≡ Mode.Losses) × ((lt (left .0) zero ≡ false) × (share ≡ left .0 ⊘ ofInt binary64 (pos (course .shared .layers)))) ⌝ }
+    requires { ⌜ (course .mode ≡ Mode.Losses) × ((lt (left .0) zero ≡ false) × (share .0 ≡ left .0 ⊘ ofInt binary64 (pos (course .shared .layers)))) ⌝ }
     ensures { λ r. ⌜ ((inlet : Float) → r ≡ zoneStep course salt zone inlet left charged) ⌝ }
 {
-    let energy = floats::max_zero(share * (zone - course.shared.inlet) / course.shared.rated);
+    let energy = floats::max_zero(share.0 * (zone - course.shared.inlet) / course.shared.rated);
     let update = update::calculate_new_zone_temperature(salt, zone, Kilojoules(energy));
     ZoneStep {
         temperature: update.temperature,
@@ -58,17 +58,17 @@ fn lose_zones(card: Card, course: Course, d: Drive, zones: &mut [f64; 64]) -> Ou
     let mut spread = 0.0;
     for k in 0..n {
         let salt = zone::layer::zone_salt(own, k);
-        let z = loss_step(course, salt, zones[k], left, share, charged);
+        let z = loss_step(course, salt, zones[k], left, Kilojoules(share), charged);
         zones[k] = z.temperature;
         spread = floats::finite_step(spread, zones[k]);
         sum = floats::sum2_step(sum, 0.0 + z.energy.0);
         outlet = z.outlet;
     }
-    let delivered = sum.s + sum.c;
+    let delivered = Kilojoules(sum.s + sum.c);
     let fault = substep::pass_fault(spread == 0.0, outlet, delivered, charged);
     Outcome {
         outlet,
-        delivered: Kilojoules(delivered),
+        delivered,
         charged,
         fault,
     }

@@ -39,11 +39,11 @@ pub fn pass_in_place(card: Card, course: Course, d: Drive, zones: &mut [f64; 64]
         left = z.left;
         charged = z.charged;
     }
-    let delivered = sum.s + sum.c;
+    let delivered = Kilojoules(sum.s + sum.c);
     let fault = substep::pass_fault(spread == 0.0, outlet, delivered, charged);
     Outcome {
         outlet,
-        delivered: Kilojoules(delivered),
+        delivered,
         charged,
         fault,
     }

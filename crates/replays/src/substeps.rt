@@ -30,19 +30,24 @@ fn answer_is(s: &[u8], at: usize, n: usize, r: Substep) -> bool
     requires { ⌜ (at ≤ 256) × (n ≤ 64) ⌝ }
 {
     let zones = r.zones;
+    let energies = r.energies;
     let heat = words::three_are(s, at + 1, r.outlet, r.delivered.0, r.charged.0);
-    let after = floats::both(heat, words::numbers_are(s, at + 4, zones, n));
-    floats::both(words::word_is(s, at, 0), after)
+    let each = floats::both(
+        words::numbers_are(s, at + 4, zones, n),
+        words::numbers_are(s, at + 4 + n, energies, n),
+    );
+    floats::both(words::word_is(s, at, 0), floats::both(heat, each))
 }
 
 // A refusal, and zeros behind it.
 fn refusal_is(s: &[u8], at: usize, n: usize, refusal: u64) -> bool
     requires { ⌜ (at ≤ 256) × (n ≤ 64) ⌝ }
 {
-    let zeros = floats::both(
-        words::numbers_are(s, at + 1, [0.0; 64], 3),
+    let each = floats::both(
         words::numbers_are(s, at + 4, [0.0; 64], n),
+        words::numbers_are(s, at + 4 + n, [0.0; 64], n),
     );
+    let zeros = floats::both(words::numbers_are(s, at + 1, [0.0; 64], 3), each);
     floats::both(words::word_is(s, at, refusal), zeros)
 }
 
@@ -64,7 +69,7 @@ pub fn substep(s: &[u8]) -> bool {
         let zones = words::numbers(s, FIRST_ZONE, n);
         let d = drive(s, n);
         let r = by_value::process_heat_battery_zones(card, pcm::derived(card), d, zones);
-        let shape = floats::both(words::has(s, 37 + 2 * n), words::word_is(s, 23, n as u64));
+        let shape = floats::both(words::has(s, 37 + 3 * n), words::word_is(s, 23, n as u64));
         return floats::both(shape, outputs_are(s, n + 33, n, r));
     }
     false

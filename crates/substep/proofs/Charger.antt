@@ -12,6 +12,7 @@ use Rattle.floats.proofs.Product.{mul-number-left}
 use Rattle.floats.proofs.ProductLaws.{mul-nonneg, mul-nonpos-nonneg}
 use Rattle.floats.proofs.Quotient.{div-number-left, div-nonneg, div-nonpos}
 use Rattle.floats.proofs.Difference.{neg-nonpos, neg-nonneg}
+use Rattle.zone.specs.Heat.{kilojoules}
 use Rattle.substep.specs.Substep.{chargerHeat}
 use Rattle.substep.specs.declared.Drive.{Drive}
 
@@ -36,12 +37,12 @@ module _ (power seconds : Float) (S : T (le zero seconds)) (N : T (number (neg p
 
 -- a charger's power is at least 0: its heat, which a zone would give up, is at most 0
 pub charger-nonpositive : (d : Drive) → T (le zero (d .power)) → T (le zero (d .seconds)) → T (number (chargerHeat d .0)) → T (le (chargerHeat d .0) zero)
-unfolding chargerHeat
+unfolding chargerHeat kilojoules
 charger-nonpositive d P S N = nonpositive (d .power) (d .seconds) S N P
 
 -- of losses the heat is not negative
 pub charger-not-negative : (d : Drive) → T (le (d .power) zero) → T (le zero (d .seconds)) → lt (chargerHeat d .0) zero ≡ false
-unfolding chargerHeat
+unfolding chargerHeat kilojoules
 charger-not-negative d P S =
     let q = neg (d .power) ⊗ d .seconds ⊘ hour ⊗ hour in
     same-test (lt q zero) false (λ h. lt→not-le q zero h (nonnegative (d .power) (d .seconds) S (lt-number-l q zero h) P)) (λ h. absurd h)

@@ -11,7 +11,7 @@ use Rattle.floats.specs.Standins.{finite64}
 use Rattle.floats.specs.Sum2.{sum2}
 use Rattle.floats.specs.declared.Log.{Log}
 use Rattle.floats.specs.declared.Log.the-variants.{Value, Refused}
-use Rattle.zone.specs.Heat.{kj, kwh}
+use Rattle.zone.specs.Heat.{kj, kwh, kilojoules}
 use Rattle.zone.specs.Layer.{socToTemp, zoneSalt}
 use Rattle.update.specs.Update.{newZoneTemperature}
 use Rattle.charging.specs.Charging.{charged, zoneSimultaneousCharging}
@@ -93,9 +93,9 @@ courseOf c pcm d transfer =
       target = targetOf c pcm (d .target);
     }
 
--- the charger's heat over the substep, at first
+-- the charger's heat over the substep, at first: kilowatts times hours
 unfoldable pub chargerHeat : Drive → Kilojoules
-chargerHeat d = kj (neg (d .power) ⊗ d .seconds ⊘ hour ⊗ hour)
+chargerHeat d = kilojoules (kwh (neg (d .power) ⊗ d .seconds ⊘ hour))
 
 unfoldable pub passFrom : Drive → List Float → Pass
 passFrom d zones =
@@ -115,17 +115,17 @@ withoutLogarithm zones =
     record { zones = zones; energies = replicate 64 Constants.zero; outlet = Constants.zero; delivered = kj Constants.zero; charged = kwh Constants.zero; fault = Logarithm }
 
 -- '23 after a substep a zone, outlet, delivered sum or charged energy is not finite'
-unfoldable pub passFinite : Card → Pass → Float → Bool
+unfoldable pub passFinite : Card → Pass → Kilojoules → Bool
 passFinite c p sum =
-    zonesFinite (p .zones) (c .layers) && (finite64 (p .outlet) && (finite64 sum && finite64 (p .charged .0)))
+    zonesFinite (p .zones) (c .layers) && (finite64 (p .outlet) && (finite64 (sum .0) && finite64 (p .charged .0)))
 
-unfoldable pub passFault : Card → Pass → Float → Fault
+unfoldable pub passFault : Card → Pass → Kilojoules → Fault
 passFault c p sum = cond (passFinite c p sum) Nothing NotFinite
 
 unfoldable pub substepFrom : Card → Pass → Substep
 substepFrom c p =
-    let sum = sum2 (p .energies) (c .layers) in
-    record { zones = p .zones; energies = p .energies; outlet = p .outlet; delivered = kj sum; charged = p .charged; fault = passFault c p sum }
+    let sum = kj (sum2 (p .energies) (c .layers)) in
+    record { zones = p .zones; energies = p .energies; outlet = p .outlet; delivered = sum; charged = p .charged; fault = passFault c p sum }
 
 unfoldable pub withTransfer : Card → HeatBatteryPcm → Drive → List Float → Log → Substep
 withTransfer c pcm d zones Refused = withoutLogarithm zones

@@ -220,23 +220,21 @@ pub fn course_of(
     }
 }
 
-// The charger's heat over the substep, at first.
+// The charger's heat over the substep, at first: kilowatts times hours.
 pub fn charger_heat(d: Drive) -> Kilojoules
     ensures { λ r. ⌜ r ≡ chargerHeat d ⌝ }
 {
-    let heat = -d.power * d.seconds / floats::SECONDS_PER_HOUR
-        * floats::KILOJOULES_PER_KILOWATT_HOUR;
-    Kilojoules(heat)
+    KilowattHours(-d.power * d.seconds / floats::SECONDS_PER_HOUR).kilojoules()
 }
 
-pub fn pass_fault(zones: bool, outlet: f64, sum: f64, charged: KilowattHours) -> Fault
-    ensures { λ r. ⌜ r ≡ cond (zones && (finite64 outlet && (finite64 sum && finite64 (charged .0)))) Fault.Nothing Fault.NotFinite ⌝ }
+pub fn pass_fault(zones: bool, outlet: f64, sum: Kilojoules, charged: KilowattHours) -> Fault
+    ensures { λ r. ⌜ r ≡ cond (zones && (finite64 outlet && (finite64 (sum .0) && finite64 (charged .0)))) Fault.Nothing Fault.NotFinite ⌝ }
 {
     let finite = floats::both(
         zones,
         floats::both(
             floats::is_finite(outlet),
-            floats::both(floats::is_finite(sum), floats::is_finite(charged.0)),
+            floats::both(floats::is_finite(sum.0), floats::is_finite(charged.0)),
         ),
     );
     if finite {

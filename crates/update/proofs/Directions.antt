@@ -32,7 +32,7 @@ module _ (s : Salt) (g : GoodSalt s) (t : Float) (F : T (finite64 t)) (e : Kiloj
   pub positive-never-raises : T (le zero (e .0)) → T (le (newZoneTemperature s t e .temperature) t)
   unfolding newZoneTemperature ofBits
   positive-never-raises h =
-      let falls = delivering-falls s g t (e .0) F h in
+      let falls = delivering-falls s g t e F h in
       by-test Lowered (nearlyEqual (e .0) zero negligibleEnergy maxRelative) _ _
       (λ a. search (tests, numbers, finites))
       (λ a. by-test Lowered (lt zero (e .0)) _ _
@@ -44,7 +44,7 @@ module _ (s : Salt) (g : GoodSalt s) (t : Float) (F : T (finite64 t)) (e : Kiloj
   pub negative-never-lowers : T (le (e .0) zero) → T (le t (newZoneTemperature s t e .temperature))
   unfolding newZoneTemperature ofBits
   negative-never-lowers h =
-      let rises = retrieving-rises s g t (e .0) F h in
+      let rises = retrieving-rises s g t e F h in
       by-test Raised (nearlyEqual (e .0) zero negligibleEnergy maxRelative) _ _
       (λ a. search (tests, numbers, finites))
       (λ a. by-test Raised (lt zero (e .0)) _ _

@@ -9,6 +9,7 @@ use Rattle.floats.proofs.Cases.{by-le}
 use Rattle.floats.proofs.Rulesets.{signs, numbers, tests, apart, finites}
 use Rattle.zone.specs.Good.{GoodSalt}
 use Rattle.update.specs.Update.{deliveringFromAbove, delivering, retrievingFromBelow, retrieving}
+use Rattle.zone.specs.declared.Kilojoules.{Kilojoules}
 use Rattle.zone.specs.declared.Salt.{Salt}
 use Rattle.update.specs.declared.Deltas.{Deltas}
 
@@ -27,14 +28,14 @@ pub record Up (d : Deltas) : Type 0 where
   pub during : T (le (d .during) zero)
   pub below : T (le (d .below) zero)
 
-module _ (s : Salt) (g : GoodSalt s) (t e : Float) (F : T (finite64 t)) where
-  module _ (h : T (le zero e)) where
+module _ (s : Salt) (g : GoodSalt s) (t : Float) (e : Kilojoules) (F : T (finite64 t)) where
+  module _ (h : T (le zero (e .0))) where
     from-above : T (le (s .upper) t) → Down (deliveringFromAbove s t e)
     unfolding deliveringFromAbove ofBits
     from-above k =
-        by-le Down e ((t ⊖ s .upper) ⊗ s .above) (search zones) (search zones)
+        by-le Down (e .0) ((t ⊖ s .upper) ⊗ s .above) (search zones) (search zones)
         (λ a. search zones)
-        (λ a. by-le Down (e ⊖ (t ⊖ s .upper) ⊗ s .above) ((s .upper ⊖ s .lower) ⊗ s .during) (search zones) (search zones)
+        (λ a. by-le Down (e .0 ⊖ (t ⊖ s .upper) ⊗ s .above) ((s .upper ⊖ s .lower) ⊗ s .during) (search zones) (search zones)
         (λ b. search zones)
         (λ b. search zones))
 
@@ -44,18 +45,18 @@ module _ (s : Salt) (g : GoodSalt s) (t e : Float) (F : T (finite64 t)) where
         by-le Down (s .upper) t (search zones) (search zones)
         from-above
         (λ a. by-le Down (s .lower) t (search zones) (search zones)
-        (λ b. by-le Down e ((t ⊖ s .lower) ⊗ s .during) (search zones) (search zones)
+        (λ b. by-le Down (e .0) ((t ⊖ s .lower) ⊗ s .during) (search zones) (search zones)
         (λ c. search zones)
         (λ c. search zones))
         (λ b. search zones))
 
-  module _ (h : T (le e zero)) where
+  module _ (h : T (le (e .0) zero)) where
     from-below : T (le t (s .lower)) → Up (retrievingFromBelow s t e)
     unfolding retrievingFromBelow ofBits
     from-below k =
-        by-le Up ((t ⊖ s .lower) ⊗ s .below) e (search zones) (search zones)
+        by-le Up ((t ⊖ s .lower) ⊗ s .below) (e .0) (search zones) (search zones)
         (λ a. search zones)
-        (λ a. by-le Up ((s .lower ⊖ s .upper) ⊗ s .during) (e ⊖ (t ⊖ s .lower) ⊗ s .below) (search zones) (search zones)
+        (λ a. by-le Up ((s .lower ⊖ s .upper) ⊗ s .during) (e .0 ⊖ (t ⊖ s .lower) ⊗ s .below) (search zones) (search zones)
         (λ b. search zones)
         (λ b. search zones))
 
@@ -65,7 +66,7 @@ module _ (s : Salt) (g : GoodSalt s) (t e : Float) (F : T (finite64 t)) where
         by-le Up t (s .lower) (search zones) (search zones)
         from-below
         (λ a. by-le Up t (s .upper) (search zones) (search zones)
-        (λ b. by-le Up ((t ⊖ s .upper) ⊗ s .during) e (search zones) (search zones)
+        (λ b. by-le Up ((t ⊖ s .upper) ⊗ s .during) (e .0) (search zones) (search zones)
         (λ c. search zones)
         (λ c. search zones))
         (λ b. search zones))

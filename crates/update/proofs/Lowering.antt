@@ -26,8 +26,8 @@ module _ (t : Float) (F : T (fits binary64 t)) where
   by-choice false true d r = refl
   by-choice false false d r = ap still (ap (λ (x : Float). t ⊖ x) no-falls ∙ less-zero t F)
 
-  pub lowered-by-falls : (s : Salt) (e : Kilojoules) → fits binary64 (e .0) ≡ true → lowered t (zoneFalls s t (e .0)) ≡ newZoneTemperature s t e
+  pub lowered-by-falls : (s : Salt) (e : Kilojoules) → fits binary64 (e .0) ≡ true → lowered t (zoneFalls s t e) ≡ newZoneTemperature s t e
   unfolding zoneFalls newZoneTemperature
   lowered-by-falls s e G =
-      by-choice (lt negligibleEnergy (e .0)) (lt (e .0) (neg negligibleEnergy)) (delivering s t (e .0)) (retrieving s t (e .0)) ∙
+      by-choice (lt negligibleEnergy (e .0)) (lt (e .0) (neg negligibleEnergy)) (delivering s t e) (retrieving s t e) ∙
       negligible-compared _ _ _ (e .0) G

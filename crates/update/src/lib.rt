@@ -17,34 +17,34 @@ pub struct ZoneUpdate {
 }
 
 // A zone at upper or warmer gives up the energy e > 0.
-fn delivering_from_above(salt: Salt, zone: f64, e: f64) -> Deltas
+fn delivering_from_above(salt: Salt, zone: f64, e: Kilojoules) -> Deltas
     ensures { λ r. ⌜ r ≡ deliveringFromAbove salt zone e ⌝ }
 {
     let heat_range_1 = (zone - salt.upper) * salt.above;
     let heat_range_2 = (salt.upper - salt.lower) * salt.during;
-    if e <= heat_range_1 {
+    if e.0 <= heat_range_1 {
         return Deltas {
-            above: e / salt.above,
+            above: e.0 / salt.above,
             during: 0.0,
             below: 0.0,
         };
     }
-    if e - heat_range_1 <= heat_range_2 {
+    if e.0 - heat_range_1 <= heat_range_2 {
         return Deltas {
             above: zone - salt.upper,
-            during: (e - heat_range_1) / salt.during,
+            during: (e.0 - heat_range_1) / salt.during,
             below: 0.0,
         };
     }
     Deltas {
         above: zone - salt.upper,
         during: salt.upper - salt.lower,
-        below: (e - heat_range_1 - heat_range_2) / salt.below,
+        below: (e.0 - heat_range_1 - heat_range_2) / salt.below,
     }
 }
 
 // A zone gives up the energy e > 0.
-fn delivering(salt: Salt, zone: f64, e: f64) -> Deltas
+fn delivering(salt: Salt, zone: f64, e: Kilojoules) -> Deltas
     ensures { λ r. ⌜ r ≡ deliveringOf salt zone e ⌝ }
 {
     if zone >= salt.upper {
@@ -52,55 +52,55 @@ fn delivering(salt: Salt, zone: f64, e: f64) -> Deltas
     }
     if salt.lower <= zone {
         let heat_range_2 = (zone - salt.lower) * salt.during;
-        if e <= heat_range_2 {
+        if e.0 <= heat_range_2 {
             return Deltas {
                 above: 0.0,
-                during: e / salt.during,
+                during: e.0 / salt.during,
                 below: 0.0,
             };
         }
         return Deltas {
             above: 0.0,
             during: zone - salt.lower,
-            below: (e - heat_range_2) / salt.below,
+            below: (e.0 - heat_range_2) / salt.below,
         };
     }
     Deltas {
         above: 0.0,
         during: 0.0,
-        below: e / salt.below,
+        below: e.0 / salt.below,
     }
 }
 
 // A zone at lower or cooler takes up the energy -e, e < 0.
-fn retrieving_from_below(salt: Salt, zone: f64, e: f64) -> Deltas
+fn retrieving_from_below(salt: Salt, zone: f64, e: Kilojoules) -> Deltas
     ensures { λ r. ⌜ r ≡ retrievingFromBelow salt zone e ⌝ }
 {
     let heat_range_3 = (zone - salt.lower) * salt.below;
     let heat_range_2 = (salt.lower - salt.upper) * salt.during;
-    if e >= heat_range_3 {
+    if e.0 >= heat_range_3 {
         return Deltas {
             above: 0.0,
             during: 0.0,
-            below: e / salt.below,
+            below: e.0 / salt.below,
         };
     }
-    if e - heat_range_3 >= heat_range_2 {
+    if e.0 - heat_range_3 >= heat_range_2 {
         return Deltas {
             above: 0.0,
-            during: (e - heat_range_3) / salt.during,
+            during: (e.0 - heat_range_3) / salt.during,
             below: zone - salt.lower,
         };
     }
     Deltas {
-        above: (e - heat_range_3 - heat_range_2) / salt.above,
+        above: (e.0 - heat_range_3 - heat_range_2) / salt.above,
         during: salt.lower - salt.upper,
         below: zone - salt.lower,
     }
 }
 
 // A zone takes up the energy -e, e < 0.
-fn retrieving(salt: Salt, zone: f64, e: f64) -> Deltas
+fn retrieving(salt: Salt, zone: f64, e: Kilojoules) -> Deltas
     ensures { λ r. ⌜ r ≡ retrievingOf salt zone e ⌝ }
 {
     if zone <= salt.lower {
@@ -108,21 +108,21 @@ fn retrieving(salt: Salt, zone: f64, e: f64) -> Deltas
     }
     if zone <= salt.upper {
         let heat_range_2 = (zone - salt.upper) * salt.during;
-        if e >= heat_range_2 {
+        if e.0 >= heat_range_2 {
             return Deltas {
                 above: 0.0,
-                during: e / salt.during,
+                during: e.0 / salt.during,
                 below: 0.0,
             };
         }
         return Deltas {
-            above: (e - heat_range_2) / salt.above,
+            above: (e.0 - heat_range_2) / salt.above,
             during: zone - salt.upper,
             below: 0.0,
         };
     }
     Deltas {
-        above: e / salt.above,
+        above: e.0 / salt.above,
         during: 0.0,
         below: 0.0,
     }
@@ -138,13 +138,13 @@ fn lowered(zone: f64, d: Deltas) -> ZoneUpdate
 
 // The falls of a zone that gives up the energy e. Nearly equal to 0 is a magnitude of at most NEGLIGIBLE_ENERGY_KJ, and two comparisons cost
 // less; a NaN leaves the zone.
-fn zone_falls(salt: Salt, zone: f64, e: f64) -> Deltas
+fn zone_falls(salt: Salt, zone: f64, e: Kilojoules) -> Deltas
     ensures { λ r. ⌜ r ≡ zoneFalls salt zone e ⌝ }
 {
-    if e > floats::NEGLIGIBLE_ENERGY_KJ {
+    if e.0 > floats::NEGLIGIBLE_ENERGY_KJ {
         return delivering(salt, zone, e);
     }
-    if e < -floats::NEGLIGIBLE_ENERGY_KJ {
+    if e.0 < -floats::NEGLIGIBLE_ENERGY_KJ {
         return retrieving(salt, zone, e);
     }
     Deltas {
@@ -158,6 +158,6 @@ fn zone_falls(salt: Salt, zone: f64, e: f64) -> Deltas
 pub fn calculate_new_zone_temperature(salt: Salt, zone: f64, energy: Kilojoules) -> ZoneUpdate
     ensures { λ r. ⌜ r ≡ newZoneTemperature salt zone energy ⌝ }
 {
-    let d = zone_falls(salt, zone, energy.0);
+    let d = zone_falls(salt, zone, energy);
     lowered(zone, d)
 }

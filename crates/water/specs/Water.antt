@@ -14,7 +14,7 @@ use Rattle.water.specs.declared.Mode.the-variants.{OnlyCharging, Losses,
 use Rattle.water.specs.declared.Shared.{Shared}
 use Rattle.water.specs.declared.ZoneProperties.{ZoneProperties}
 
--- water: 1 kg/l, and 4,184 J/(kg K) in kilowatt-hours
+-- water: 1 kg/l, and 4,184 J/(kg K) in kWh/(kg K); times `hour` it is in kJ/(kg K)
 abbrev pub density : Float
 density = one
 

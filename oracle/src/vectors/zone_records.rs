@@ -375,12 +375,12 @@ pub fn substep(random: &mut Random) -> Record {
         .floats(&[pass.inlet, pass.time_step, pass.reynolds, pass.flow, pass.power, pass.target])
         .floats(&[pass.hex_a, pass.hex_b]);
     match Zone::of_card(&card).process_heat_battery_zones(&mut zones, &pass) {
-        Ok((outlet, delivered, charged)) => {
-            record.word(0).floats(&[outlet, delivered, charged]).floats(&zones)
-        }
-        Err(refusal) => {
-            record.word(u64::from(refusal)).floats(&[0.0; 3]).floats(&vec![0.0; zones.len()])
-        }
+        Ok((outlet, energies, charged)) => record
+            .word(0)
+            .floats(&[outlet, judge::sum2(&energies), charged])
+            .floats(&zones)
+            .floats(&energies),
+        Err(refusal) => record.word(u64::from(refusal)).floats(&vec![0.0; 3 + 2 * zones.len()]),
     }
 }
 

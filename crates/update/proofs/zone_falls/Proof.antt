@@ -17,11 +17,11 @@ retrieving-requires c κs = search needs
 
 returns-2 : tie.Need-returns-2
 unfolding zoneFalls
-returns-2 c = rw (← (c .retrieving .ensures)) (via-false _ _ (c .before .before .if1 .left) (via-true _ _ (c .before .if2 .taken) refl))
+returns-2 c = rw (← (c .retrieving .ensures)) (via-false _ _ (c .before .before .before .if1 .left) (via-true _ _ (c .before .if2 .taken) refl))
 
 returns-3 : tie.Need-returns-3
 unfolding zoneFalls
-returns-3 c = via-false _ _ (c .before .if1 .left) (via-false _ _ (c .if2 .left) refl)
+returns-3 c = via-false _ _ (c .before .before .if1 .left) (via-false _ _ (c .if2 .left) refl)
 
 pub zone-falls-spec : {M : Type 1} → statement M
 zone-falls-spec =
