@@ -1,4 +1,4 @@
--- The numbers that document 01 and the Rust's arithmetic name, by their bits. proofs/Constants.antt has each as a fraction.
+-- The numbers that document 01 and the Rust's arithmetic name, by their bits. proofs/Constants.antt has the fraction that each is nearest to.
 use lib.Ieee.{Float, binary64, ofBits}
 
 -- 0, 1/2, 1, 2
@@ -50,7 +50,7 @@ thousand = ofBits binary64 0x408F400000000000
 abbrev pub hour : Float
 hour = ofBits binary64 0x40AC200000000000
 
--- √2 and ln 2, of the logarithm; 1,023 is the exponent's field of 1
+-- the logarithm's 1.4142135623730951 (√2) and 0.6931471805599453 (ln 2), and 1,023, the exponent's field of 1
 abbrev pub rootTwo : Float
 rootTwo = ofBits binary64 0x3FF6A09E667F3BCD
 
@@ -60,7 +60,7 @@ lnTwo = ofBits binary64 0x3FE62E42FEFA39EF
 abbrev pub bias : Float
 bias = ofBits binary64 0x408FF80000000000
 
--- the ends of the normal numbers above 0
+-- 2^-1022 and (2^53 - 1) × 2^971: the ends of the normal numbers above 0
 abbrev pub smallestNormal : Float
 smallestNormal = ofBits binary64 0x0010000000000000
 

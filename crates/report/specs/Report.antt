@@ -1,18 +1,20 @@
 -- Document 01: 'prints `accepted N` (call lines) or `refused R line K`, then a newline'.
-use Prim.Native.Nat.{ℕ, _+_, _≤_}
-use mathlib.Core.Path.{_≡_}
+use Prim.Native.Nat.{ℕ, zero, suc, _+_, _/_, _%_}
+use mathlib.Core.Bool.{cond}
 use mathlib.Core.List.{List, [], _∷_, _++_}
-use lib.ListN.{length}
-use lib.Seq.{sets}
-use Rattle.io.specs.Digits.{digits, Fewest}
+use lib.Dec.{ltb}
+use Rattle.auditor.specs.Audit.{limitedAuditOf}
 use Rattle.auditor.specs.declared.Verdict.{Verdict}
 use Rattle.auditor.specs.declared.Verdict.the-variants.{Accepted, Refused}
 
--- a number's decimal digits, as few as hold it
-pub record Decimal (n : ℕ) (ds : List ℕ) : Type 0 where
-  pub places : ℕ
-  pub fewest : Fewest 10 1 n places
-  pub digits-are : ds ≡ digits 10 places n
+-- a number's decimal digits in ASCII, as few as hold it; at most the given number of them
+unfoldable pub lastDigits : ℕ → ℕ → List ℕ
+lastDigits zero n = []
+lastDigits (suc most) n = cond (ltb n 10) [] (lastDigits most (n / 10)) ++ ((48 + n % 10) ∷ [])
+
+-- a u64 has at most 20
+abbrev pub decimal : ℕ → List ℕ
+decimal n = lastDigits 20 n
 
 -- `accepted `, `refused `, ` line ` and the newline, in ASCII
 abbrev pub acceptedText : List ℕ
@@ -27,28 +29,17 @@ lineText = 32 ∷ 108 ∷ 105 ∷ 110 ∷ 101 ∷ 32 ∷ []
 abbrev pub newline : List ℕ
 newline = 10 ∷ []
 
-pub record SaysAccepted (n : ℕ) (bs : List ℕ) : Type 0 where
-  pub count : List ℕ
-  pub count-is : Decimal n count
-  pub text : bs ≡ acceptedText ++ count ++ newline
+abbrev pub saysAccepted : ℕ → List ℕ
+saysAccepted n = acceptedText ++ decimal n ++ newline
 
-pub record SaysRefused (refusal index : ℕ) (bs : List ℕ) : Type 0 where
-  pub number : List ℕ
-  pub line : List ℕ
-  pub number-is : Decimal refusal number
-  pub line-is : Decimal index line
-  pub text : bs ≡ refusedText ++ number ++ lineText ++ line ++ newline
+abbrev pub saysRefused : ℕ → ℕ → List ℕ
+saysRefused refusal index = refusedText ++ decimal refusal ++ lineText ++ decimal index ++ newline
 
 -- the bytes that say a verdict
-abbrev pub Says : Verdict → List ℕ → Type 0
-Says (Accepted n) bs = SaysAccepted n bs
-Says (Refused r k) bs = SaysRefused r k bs
+abbrev pub says : Verdict → List ℕ
+says (Accepted n) = saysAccepted n
+says (Refused r k) = saysRefused r k
 
--- a number's digits were written from a place on, and `end` is the place behind them
-pub record Put (n at : ℕ) (before : List ℕ) (end : ℕ) (after : List ℕ) : Type 0 where
-  pub text : List ℕ
-  pub decimal : Decimal n text
-  pub short : length text ≤ 20
-  pub end-is : end ≡ at + length text
-  pub after-is : after ≡ sets before at text
-  pub same-length : length after ≡ length before
+-- what is printed for a sheet
+abbrev pub reportOf : List ℕ → List ℕ
+reportOf sheet = says (limitedAuditOf sheet)

@@ -2,15 +2,16 @@
 use auditor::Verdict;
 ghost use mathlib.Core.Path.{_≡_};
 ghost use Prim.Native.Nat.{_+_, _≤_};
-ghost use lib.ListN.{length, take};
+ghost use lib.ListN.{length};
+ghost use lib.Seq.{sets};
 ghost use Rattle.io.specs.Counts.{Counts};
-ghost use Rattle.auditor.specs.Audit.{limitedAuditOf};
-ghost use Rattle.report.specs.Report.{SaysAccepted, SaysRefused, Says, Put};
+ghost use Rattle.codec.specs.Bytes.{over};
+ghost use Rattle.report.specs.Report.{decimal, saysAccepted, saysRefused, says, reportOf};
 
 // Writes a number's decimal digits from a place on, and returns the place behind them.
 fn put_decimal(out: &mut [u8], at: usize, n: u64) -> usize
     requires { ⌜ at + 20 ≤ length (now out) ⌝ }
-    ensures { λ r. ⌜ Put n at (now (out .entry)) r (now (out .exit)) ⌝ }
+    ensures { λ r. ⌜ (r ≡ at + length (decimal n)) × (now (out .exit) ≡ sets (now (out .entry)) at (decimal n)) ⌝ }
 {
     let mut text = [0u8; 20];
     let k = io::decimal(n, &mut text);
@@ -19,7 +20,7 @@ fn put_decimal(out: &mut [u8], at: usize, n: u64) -> usize
 
 fn put_accepted(out: &mut [u8], n: u64) -> usize
     requires { ⌜ 64 ≤ length (now out) ⌝ }
-    ensures { λ r. ⌜ (r ≤ length (now (out .exit))) × SaysAccepted n (take r (now (out .exit))) ⌝ }
+    ensures { λ r. ⌜ (r ≡ length (saysAccepted n)) × (now (out .exit) ≡ over (saysAccepted n) (now (out .entry))) ⌝ }
 {
     let p = codec::put_bytes(out, 0, b"accepted ");
     let q = put_decimal(out, p, n);
@@ -28,7 +29,7 @@ fn put_accepted(out: &mut [u8], n: u64) -> usize
 
 fn put_refused(out: &mut [u8], refusal: u64, index: u64) -> usize
     requires { ⌜ 64 ≤ length (now out) ⌝ }
-    ensures { λ r. ⌜ (r ≤ length (now (out .exit))) × SaysRefused refusal index (take r (now (out .exit))) ⌝ }
+    ensures { λ r. ⌜ (r ≡ length (saysRefused refusal index)) × (now (out .exit) ≡ over (saysRefused refusal index) (now (out .entry))) ⌝ }
 {
     let p = codec::put_bytes(out, 0, b"refused ");
     let q = put_decimal(out, p, refusal);
@@ -39,7 +40,7 @@ fn put_refused(out: &mut [u8], refusal: u64, index: u64) -> usize
 
 fn put_verdict(out: &mut [u8], v: Verdict) -> usize
     requires { ⌜ 64 ≤ length (now out) ⌝ }
-    ensures { λ r. ⌜ (r ≤ length (now (out .exit))) × Says v (take r (now (out .exit))) ⌝ }
+    ensures { λ r. ⌜ (r ≡ length (says v)) × (now (out .exit) ≡ over (says v) (now (out .entry))) ⌝ }
 {
     match v {
         Verdict::Accepted(n) => put_accepted(out, n as u64),
@@ -47,10 +48,10 @@ fn put_verdict(out: &mut [u8], v: Verdict) -> usize
     }
 }
 
-// The report on a sheet at the front of out, and how many bytes it has.
+// The report on a sheet at the front of out, and how many bytes it has. The bytes behind it stay.
 pub fn report(sheet: &[u8], out: &mut [u8; 64]) -> usize
     ensures counts { λ r. ⌜ Counts r (now (out .exit)) ⌝ }
-    ensures says { λ r. ⌜ Says (limitedAuditOf (now (sheet .entry))) (take r (now (out .exit))) ⌝ }
+    ensures says { λ r. ⌜ (r ≡ length (reportOf (now (sheet .entry)))) × (now (out .exit) ≡ over (reportOf (now (sheet .entry))) (now (out .entry))) ⌝ }
 {
     let v = auditor::audit_limited(sheet);
     put_verdict(out, v)

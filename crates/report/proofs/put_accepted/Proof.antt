@@ -2,8 +2,8 @@ use native.Mathlib.Omega.{arith}
 use borrow.Author.Needs.{needs}
 use lib.ListN.{length-append}
 use Rattle.codec.proofs.Puts.{nothing-written, then}
-use Rattle.report.specs.Report.{acceptedText, newline}
-use Rattle.report.proofs.Texts.{text-here}
+use Rattle.report.specs.Report.{decimal, acceptedText, newline}
+use Rattle.report.proofs.Texts.{short, at-front}
 use Rattle.report.proofs.put_accepted.Statement.{statement}
 use Rattle.report.proofs.put_accepted.Tie as tie
 
@@ -20,20 +20,20 @@ slice-aggregate-put-bytes-2 : tie.Need-slice-aggregate-put-bytes-2
 slice-aggregate-put-bytes-2 c = search needs
 
 put-bytes-requires-2 : tie.Need-put-bytes-requires-2
-put-bytes-requires-2 c κs = search needs
+put-bytes-requires-2 c κs = search (needs, short 20 (c .before .before .before .before .before .before .before .before .before .before .before .before .args .n))
 
 same-length : tie.Need-same-length
 same-length c = search needs
 
 returns : tie.Need-returns
 returns c =
+    let a = c .before .before .before .before .before .before .before .before .before .before .before .before .before .before .before .args in
     let w = c .before .before .before .before .before .before .before .before .before .before .before .put-bytes in
-    let d = c .before .before .before .before .before .before .before .put-decimal .ensures in
-    let w1 = then (w .result) _ acceptedText (nothing-written (c .before .before .before .before .before .before .before .before .before .before .before .before .before .before .before .args .out .now) 0) (w .ensures .0) (w .ensures .1) in
-    let w2 = then (c .before .before .before .before .before .before .before .put-decimal .result) _ (d .text) w1 (d .end-is) (d .after-is) in
+    let d = c .before .before .before .before .before .before .before .put-decimal in
+    let w1 = then (w .result) _ acceptedText (nothing-written (a .out .now) 0) (w .ensures .0) (w .ensures .1) in
+    let w2 = then (d .result) _ (decimal (a .n)) w1 (d .ensures .0) (d .ensures .1) in
     let w3 = then (c .before .before .put-bytes2 .result) _ newline w2 (c .before .before .put-bytes2 .ensures .0) (c .before .before .put-bytes2 .ensures .1) in
-    let t = text-here w3 (simp length-append (omega (arith, d .short, c .before .before .before .before .before .before .before .before .before .before .before .before .before .before .before .pre))) in
-    (t .0, record { count = d .text; count-is = d .decimal; text = t .1 })
+    at-front w3 (simp length-append (omega (arith, short 20 (a .n), c .before .before .before .before .before .before .before .before .before .before .before .before .before .before .before .pre)))
 
 pub put-accepted-spec : {M : Type 1} → statement M
 put-accepted-spec =

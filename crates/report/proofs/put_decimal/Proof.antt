@@ -1,6 +1,11 @@
+use mathlib.Core.Path.{ap, _∙_}
+use mathlib.Core.List.{List}
+use Prim.Native.Nat.{ℕ, _+_}
+use lib.ListN.{length}
+use lib.Seq.{sets}
 use native.Mathlib.Omega.{arith}
 use borrow.Author.Needs.{needs}
-use Rattle.report.proofs.Texts.{few-digits, put}
+use Rattle.report.proofs.Texts.{few-digits, spelled}
 use Rattle.report.proofs.put_decimal.Statement.{statement}
 use Rattle.report.proofs.put_decimal.Tie as tie
 
@@ -26,7 +31,8 @@ returns c =
     let a = c .before .before .before .before .before .before .before .before .args in
     let d = c .before .before .before .before .before .decimal in
     let w = c .before .before .put-bytes in
-    put (a .n) (a .at) (d .result) (w .result) _ _ _ (omega (arith, c .before .before .before .before .before .before .before .before .fits)) (d .ensures .0 .1) (d .ensures .1 .0) (d .ensures .1 .1) (w .ensures .0) (w .ensures .1)
+    let e = spelled (a .n) (d .result) _ (omega (arith, c .before .before .before .before .before .before .before .before .fits)) (d .ensures .1 .0) (d .ensures .1 .1) in
+    (w .ensures .0 ∙ ap (λ (t : List ℕ). a .at + length t) e, w .ensures .1 ∙ ap (sets _ (a .at)) e)
 
 pub put-decimal-spec : {M : Type 1} → statement M
 put-decimal-spec =

@@ -22,13 +22,13 @@ same-length : tie.Need-same-length
 same-length c = search needs
 
 returns : tie.Need-returns
-returns c = (c .before .before .put-accepted .ensures .0, says-accepted (c .before .before .before .before .before .before .before .before .args .v) _ _ (c .before .before .before .before .before .v .given .1) (c .before .before .put-accepted .ensures .1))
+returns c = says-accepted (c .before .before .before .before .before .before .before .before .args .v) _ _ _ _ (c .before .before .before .before .before .v .given .1) (c .before .before .put-accepted .ensures)
 
 same-length-2 : tie.Need-same-length-2
 same-length-2 c = search needs
 
 returns-2 : tie.Need-returns-2
-returns-2 c = (c .before .before .put-refused .ensures .0, says-refused (c .before .before .before .before .before .before .before .before .args .v) _ _ _ (c .before .before .before .before .before .v2 .given .1) (c .before .before .put-refused .ensures .1))
+returns-2 c = says-refused (c .before .before .before .before .before .before .before .before .args .v) _ _ _ _ _ (c .before .before .before .before .before .v2 .given .1) (c .before .before .put-refused .ensures)
 
 pub put-verdict-spec : {M : Type 1} → statement M
 put-verdict-spec =
