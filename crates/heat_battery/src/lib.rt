@@ -65,10 +65,12 @@ pub extern "C" fn heat_battery_advance(b: &mut Battery, call: &[u8]) -> Shown
 {
     let l = battery::ledger_of(*b);
     let out = own_record::advance_apart(l, call, &mut b.zones);
-    b.total = out.totals.total;
-    b.pump = out.totals.pump;
-    b.direct = out.totals.direct;
-    b.charged = out.totals.charged;
-    b.electric = out.totals.electric;
+    if out.shown.refusal == 0 {
+        b.total = out.totals.total;
+        b.pump = out.totals.pump;
+        b.direct = out.totals.direct;
+        b.charged = out.totals.charged;
+        b.electric = out.totals.electric;
+    }
     out.shown
 }
