@@ -9,3 +9,4 @@ pub mod CallNumbers
 pub mod CardCases
 pub mod OpenCases
 pub mod ZonesLent
+pub mod RecordAfter
