@@ -1,4 +1,4 @@
-// A call on the caller's own battery, its zones where they lie: what is left of the totals, and what is shown.
+// A call on the caller's own battery: the first of its zones stored where they lie, what is left of the totals, and what is shown.
 use battery::Ledger;
 use battery::Reply;
 use battery::Totals;
@@ -70,7 +70,7 @@ fn renew_zones(zones: &mut [f64; 64], own: &[f64; 64], n: usize)
     }
 }
 
-// A call's bytes on a battery whose zones lie apart. It runs on a copy of the zones: refused, nothing is stored, and the totals are as they were.
+// A call's bytes on a battery whose zones lie apart. It runs on a copy of them: answered, the first `count` are stored, and refused, none.
 pub fn advance_apart(l: Ledger, call: &[u8], zones: &mut [f64; 64]) -> Renewed
     ensures { λ r. ⌜ renewedWith l r (now (zones .exit)) ≡ advancedOf 1 (whole l (now (zones .entry))) (now (call .entry)) ⌝ }
 {

@@ -8,14 +8,14 @@ use Rattle.own_record.proofs.renew_zones.Statement.{statement}
 use Rattle.own_record.proofs.renew_zones.Tie as tie
 
 abbrev Inv-loop : tie.InvT-loop
-Inv-loop zones₀ own n k₀ zones k = (k ≤ n) × (zones ≡ renewedZones zones₀ own k)
+Inv-loop zones₀ own n k₀ zones k = (zones ≡ renewedZones zones₀ own k) × (k ≤ n)
 
 abbrev μ-loop : tie.MeasureT-loop
 μ-loop zones₀ own n k₀ zones k = n - k
 
 loop-holds : tie.Need-loop-holds Inv-loop μ-loop
 unfolding renewedZones
-loop-holds c = (omega arith, refl)
+loop-holds c = (refl, omega arith)
 
 mul-zones : tie.Need-mul-zones Inv-loop μ-loop
 mul-zones c = search needs
@@ -37,13 +37,13 @@ loop-less c = search needs
 
 loop-again : tie.Need-loop-again Inv-loop μ-loop
 unfolding renewedZones
-loop-again c = (omega arith, rw (add-one, ← c .before .before .loop .inv .1))
+loop-again c = (rw (add-one, ← c .before .before .loop .inv .0), omega arith)
 
 returns : tie.Need-returns Inv-loop μ-loop
 returns c =
     let l = c .before .loop in
     let e : l .k ≡ c .before .before .args .n = omega arith in
-    l .inv .1 ∙ ap (renewedZones _ _) e
+    l .inv .0 ∙ ap (renewedZones _ _) e
 
 pub renew-zones-spec : {M : Type 1} → statement M
 renew-zones-spec =
