@@ -9,8 +9,8 @@
    Lent memory. Each slice is a pointer and then a length in bytes. It belongs
    to the caller before, during and after the call. A pointer may be null only
    where its length is 0. The slices of one call do not overlap. A const slice
-   is never written. Nothing else is asked: any bytes and any lengths get an
-   answer or a refusal.
+   is never written. Nothing else is asked of them: any bytes and any lengths
+   get an answer or a refusal.
 
    Numbers are big-endian; an f64 is the 8 bytes of its IEEE 754 binary64 bits,
    the highest byte first. */
