@@ -9,8 +9,8 @@
    Lent memory. Each slice is a pointer and then a length in bytes. It belongs
    to the caller before, during and after the call. A pointer may be null only
    where its length is 0. The slices of one call do not overlap. A const slice
-   is never written. Nothing else is asked: any bytes and any lengths get an
-   answer or a refusal.
+   is never written. Nothing else is asked of them: any bytes and any lengths
+   get an answer or a refusal.
 
    Numbers are big-endian; an f64 is the 8 bytes of its IEEE 754 binary64 bits,
    the highest byte first. */
@@ -140,7 +140,7 @@ struct heat_battery_card {
 
 struct heat_battery {
     struct heat_battery_card card;
-    /* the first `count` zones; the places above are neither read nor written */
+    /* the first `count` zones; the places above may hold anything, and are not written */
     double zones[HEAT_BATTERY_MOST_LAYERS];
     /* the card's layers, or 10 */
     uint8_t count;
@@ -156,7 +156,13 @@ struct heat_battery_shown {
 };
 
 /* Advances the caller's own battery by a call, without a sheet: refused with 10
-   as above, then with 20 to 25; there is no 11. A refused battery is as it was. */
+   as above, then with 20 to 25; there is no 11.
+
+   `battery` is not null and is aligned as its type asks. It is the caller's
+   alone until the call returns, and the call's bytes do not overlap it. Its
+   fields may hold any numbers, NaNs too. An answered call stores the first
+   `count` zones and the five totals, and nothing else of the record. A refused
+   call stores nothing to it. */
 struct heat_battery_shown heat_battery_advance(struct heat_battery *battery,
                                                const uint8_t *call, size_t call_len);
 

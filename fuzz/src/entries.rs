@@ -37,7 +37,7 @@ pub fn check(bytes: &[u8], report: &mut Report) {
 }
 
 /// The caller's own record of a record's bytes; what they lack is 0. Places above the count have
-/// numbers that must stay.
+/// NaNs of their own, which must stay.
 fn own(bytes: &[u8], count: u8) -> Record {
     let mut whole = bytes.to_vec();
     whole.resize(bytes.len().max(CARD_BYTES), 0);
@@ -57,7 +57,7 @@ fn own(bytes: &[u8], count: u8) -> Record {
     };
     let mut record = Record::from(&Battery { card, state: State { zones, totals } });
     for (at, place) in record.zones.iter_mut().enumerate().skip(layers) {
-        *place = at as f64;
+        *place = f64::from_bits(0x7ff8_0000_0000_0000 | at as u64);
     }
     if count != 0 {
         record.count = count;

@@ -1,12 +1,14 @@
 /* Replays the oracle's cases on the library: `replay FILE`. Every result and every lent byte is compared,
  * and each call is made on the caller's own record too. Ends with 0 where all agree. */
+#define _DEFAULT_SOURCE /* MAP_ANONYMOUS */
 #include "heat_battery.h"
 #include <stdint.h>
 #include <stdio.h>
 #include <stdlib.h>
 #include <string.h>
+#include <sys/mman.h>
 
-enum { OPEN = 1, CALL = 2, AUDIT = 3, GUARD = 64 };
+enum { OPEN = 1, CALL = 2, AUDIT = 3, GUARD = 64, PAGE = 4096 };
 
 struct slice {
     uint8_t *bytes; /* with guards on both sides */
@@ -15,6 +17,7 @@ struct slice {
 
 static FILE *file;
 static unsigned long own_calls; /* on the caller's own record */
+static struct heat_battery *page; /* a record that lies on a page of its own */
 
 static void ended(const char *why) {
     fprintf(stderr, "%s\n", why);
@@ -94,6 +97,18 @@ static void battery_from(struct heat_battery *b, const uint8_t *record) {
         totals[i] = number_at(record + HEAT_BATTERY_CARD_LENGTH + 8 * b->count + 8 * i);
 }
 
+/* Places above the count may hold anything: NaNs with a payload, an infinity, -0. */
+static void fill_above(struct heat_battery *b) {
+    static const uint64_t any[4] = {0x7ff0000000000001, 0xfff8dead0000beef, 0x7ff0000000000000, 0x8000000000000000};
+    for (int i = b->count; i < HEAT_BATTERY_MOST_LAYERS; i++)
+        memcpy(&b->zones[i], &any[i % 4], sizeof any[0]);
+}
+
+static void allow(int access) {
+    if (mprotect(page, PAGE, access) != 0)
+        ended("no such access to a page");
+}
+
 static int is_record(const uint8_t *record, size_t length) {
     return length >= HEAT_BATTERY_CARD_LENGTH && record[0] <= 64
         && length == HEAT_BATTERY_RECORD_LENGTH((size_t)record[0]);
@@ -126,11 +141,14 @@ static int own_record_agrees(const uint8_t *before, size_t length, struct slice 
         return 1;
     battery_from(&b, before);
     battery_from(&expected, after.bytes);
-    for (int i = b.count; i < 64; i++) /* places above the count stay */
-        b.zones[i] = expected.zones[i] = i;
+    fill_above(&b);
+    fill_above(&expected);
     own_calls++;
-    struct heat_battery_shown shown = heat_battery_advance(&b, call.bytes, call.length);
-    return same_answer(shown, result, sheet.bytes + 2 + call.length) && same_battery(&b, &expected);
+    *page = b;
+    allow(result == 0 ? PROT_READ | PROT_WRITE : PROT_READ); /* a refused call that stores anything ends the program */
+    struct heat_battery_shown shown = heat_battery_advance(page, call.bytes, call.length);
+    allow(PROT_READ | PROT_WRITE);
+    return same_answer(shown, result, sheet.bytes + 2 + call.length) && same_battery(page, &expected);
 }
 
 /* ---- cases */
@@ -175,6 +193,9 @@ int main(int argc, char **argv) {
     unsigned long cases = 0, wrong = 0;
     if (argc != 2 || (file = fopen(argv[1], "rb")) == NULL)
         ended("usage: replay FILE");
+    page = mmap(NULL, PAGE, PROT_READ | PROT_WRITE, MAP_PRIVATE | MAP_ANONYMOUS, -1, 0);
+    if (page == MAP_FAILED)
+        ended("no memory");
     for (int entry = getc(file); entry != EOF; entry = getc(file)) {
         int same = entry == OPEN ? replay_open() : entry == CALL ? replay_call() : entry == AUDIT ? replay_audit() : 0;
         cases++;

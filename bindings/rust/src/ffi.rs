@@ -43,7 +43,7 @@ pub struct Card {
 pub struct Battery {
     /// The card.
     pub card: Card,
-    /// The first `count` zones; the places above are neither read nor written.
+    /// The first `count` zones; the places above may hold anything, and are not written.
     pub zones: [f64; MOST_LAYERS],
     /// The card's layers.
     pub count: u8,
@@ -149,8 +149,8 @@ pub fn audit(sheet: &[u8]) -> u64 {
     unsafe { c::heat_battery_audit(sheet.as_ptr(), sheet.len()) }
 }
 
-/// Makes a call on the caller's own record: what its line would show. A refused battery is as
-/// it was.
+/// Makes a call on the caller's own record: what its line would show. A refused call stores
+/// nothing to it.
 pub fn advance(battery: &mut Battery, call: &[u8]) -> Shown {
     // SAFETY: a record with the header's layout, nobody else's while it is lent, and a slice
     // with its own length.

@@ -58,8 +58,9 @@ fn short_at(bytes: &[u8], at: usize) -> u16 {
     u16::from_be_bytes([bytes[at], bytes[at + 1]])
 }
 
-/// What stands in the places above the count.
-const ABOVE: f64 = 12.5;
+/// The bits of what stands in the places above the count: NaNs with a payload, an infinity, -0.
+const ABOVE: [u64; 4] =
+    [0x7ff0_0000_0000_0001, 0xfff8_dead_0000_beef, 0x7ff0_0000_0000_0000, 0x8000_0000_0000_0000];
 
 /// The record of any bytes that are as long as a record of their first byte, up to 64 layers.
 fn own(bytes: &[u8]) -> Option<ffi::Battery> {
@@ -76,7 +77,8 @@ fn own(bytes: &[u8]) -> Option<ffi::Battery> {
         budget: short_at(bytes, 4),
         numbers: std::array::from_fn(|_| next()),
     };
-    let zones = std::array::from_fn(|k| if k < usize::from(layers) { next() } else { ABOVE });
+    let above = |k: usize| f64::from_bits(ABOVE[k % ABOVE.len()]);
+    let zones = std::array::from_fn(|k| if k < usize::from(layers) { next() } else { above(k) });
     Some(ffi::Battery { card, zones, count: layers, totals: std::array::from_fn(|_| next()) })
 }
 

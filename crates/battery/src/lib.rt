@@ -8,7 +8,7 @@ ghost use Rattle.battery.specs.Ledger.{whole, finiteTotals, ledgerOf};
 #[repr(C)]
 pub struct Battery {
     pub card: Card,
-    // °C, the first `count` of 64 places; those above it are never read or written
+    // °C, the first `count` of 64 places; no step uses or changes what lies above it
     pub zones: [f64; 64],
     pub count: u8,
     // hours in this timestep: total, pump and direct running time

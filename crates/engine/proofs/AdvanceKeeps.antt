@@ -4,14 +4,16 @@ use mathlib.Core.Bool.{true, _&&_}
 use mathlib.Core.Logic.{_⊎_, inl, inr}
 use Prim.Native.Nat.{ℕ, _≤_, _<_}
 use native.Mathlib.Omega.{arith}
+use lib.Ieee.Bits.{is-true}
 use Rattle.floats.specs.F64.{_⊕_}
 use Rattle.floats.specs.Constants.{zero}
 use Rattle.floats.proofs.Cases.{by-test}
-use Rattle.card.proofs.Tests.{true-and}
+use Rattle.card.proofs.Tests.{and-true, true-and}
 use Rattle.battery.specs.Answer.{refusedWith, answerFinite}
 use Rattle.battery.specs.Battery.{batteryAccepted, GoodBattery}
 use Rattle.call_ranges.specs.Call.{callInRange}
 use Rattle.battery.specs.Kinds.{isCharge, onlyAsks}
+use Rattle.battery.specs.Places.{SameAbove}
 use Rattle.battery.specs.Shape.{RefusalLine}
 use Rattle.battery.specs.declared.Battery.{Battery}
 use Rattle.battery.specs.declared.Answer.{Answer}
@@ -19,9 +21,10 @@ use Rattle.battery.specs.declared.Call.{Call}
 use Rattle.battery.proofs.Accepted.{accepted-battery}
 use Rattle.battery.proofs.GoodParts.{shape-fits}
 use Rattle.battery.proofs.Answers.{refused-finite}
+use Rattle.battery.proofs.Zones.{same-above}
 use Rattle.engine.specs.Steps.{stepOf, advanceOf}
 use Rattle.engine.proofs.Promises.{refusal-line, refused-number}
-use Rattle.engine.proofs.StepKeeps.{step-refusals, step-mark, answer-shape, step-keeps-card, refused-line, asking-keeps-state, answered-finite, charge-adds-energy, charged-stays, step-keeps-good, answer-finite, count-within-budget}
+use Rattle.engine.proofs.StepKeeps.{step-refusals, step-mark, answer-shape, step-keeps-card, step-keeps-above, refused-line, asking-keeps-state, answered-finite, charge-adds-energy, charged-stays, step-keeps-good, answer-finite, count-within-budget}
 
 module _ (version : ℕ) (b : Battery) (call : Call) where
   -- the step, where 10 accepts the battery and the call
@@ -66,6 +69,11 @@ module _ (version : ℕ) (b : Battery) (call : Call) where
   advance-keeps-card =
       by-step (λ (a : Answer). a .battery .card ≡ b .card) (step-keeps-card version b call) (ap (λ (c : Battery). c .card) (line .battery))
 
+  pub advance-keeps-above : SameAbove (b .card .layers) (b .zones) (advanceOf version b call .battery .zones)
+  advance-keeps-above =
+      by-step (λ (a : Answer). SameAbove (b .card .layers) (b .zones) (a .battery .zones)) (step-keeps-above version b call)
+      (rw (line .battery) (same-above (b .card .layers) (b .zones)))
+
   pub advance-refused-line : (advanceOf version b call .refusal ≡ 0 → ⊥) → RefusalLine b (advanceOf version b call)
   advance-refused-line = by-step (λ (a : Answer). (a .refusal ≡ 0 → ⊥) → RefusalLine b a) (refused-line version b call) (λ h. line)
 
@@ -87,6 +95,13 @@ module _ (version : ℕ) (b : Battery) (call : Call) where
           advanceOf version b call ≡ stepOf version b call
       on (inl e) h = e
       on (inr e) h = let n = ten e in absurd (omega arith)
+
+  -- of a battery that 10 accepts
+  pub advance-answered-accepted : advanceOf version b call .refusal ≡ 0 → batteryAccepted version b ≡ true
+  unfolding advanceOf refusedWith
+  advance-answered-accepted =
+      by-test (λ (a : Answer). a .refusal ≡ 0 → batteryAccepted version b ≡ true) (batteryAccepted version b && callInRange version (b .card) call) _ _
+      (λ h e. and-true (batteryAccepted version b) _ (is-true _ h) .0) (λ h e. absurd (omega arith))
 
   pub advance-answered-finite : advanceOf version b call .refusal ≡ 0 → answerFinite (advanceOf version b call) ≡ true
   advance-answered-finite h =

@@ -9,10 +9,12 @@ use Rattle.floats.specs.Constants.{zero}
 use Rattle.battery.specs.Battery.{GoodBattery}
 use Rattle.battery.specs.Answer.{refusedWith, answerFinite}
 use Rattle.battery.specs.Shape.{RefusalLine}
+use Rattle.battery.specs.Places.{SameAbove}
 use Rattle.battery.specs.declared.Battery.{Battery}
 use Rattle.battery.specs.declared.Answer.{Answer}
 use Rattle.battery.proofs.Accepted.{accepted-battery, stays-good}
 use Rattle.battery.proofs.Answers.{finite-answer, refused-finite}
+use Rattle.battery.proofs.Zones.{same-above}
 use Rattle.engine.proofs.Outcomes.{Outcome, refused, answered}
 
 pub refusal-line : (r : ℕ) (b : Battery) (a : Answer) → a ≡ refusedWith r b → RefusalLine b a
@@ -66,6 +68,11 @@ module _ (b : Battery) (charges asks : Bool) (a : Answer) where
   pub outcome-card : Outcome b charges asks a → a .battery .card ≡ b .card
   outcome-card (refused r low high e) = ap (λ (x : Battery). x .card) (refusal-line r b a e .battery)
   outcome-card (answered f k) = k .state .card
+
+  -- whatever stands above the count stays there
+  pub outcome-above : Outcome b charges asks a → SameAbove (b .card .layers) (b .zones) (a .battery .zones)
+  outcome-above (refused r low high e) = rw (refusal-line r b a e .battery) (same-above (b .card .layers) (b .zones))
+  outcome-above (answered f k) = k .state .above
 
   pub outcome-mark : Outcome b charges asks a → ((a .mark ≡ 0) × (a .outlet ≡ zero)) ⊎ (a .mark ≡ 1)
   outcome-mark (refused r low high e) = let l = refusal-line r b a e in inl (l .mark, l .outlet)

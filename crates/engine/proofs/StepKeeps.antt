@@ -10,6 +10,7 @@ use Rattle.card.proofs.Accepted.{accepted-budget}
 use Rattle.battery.specs.Answer.{answerFinite}
 use Rattle.battery.specs.Battery.{GoodBattery}
 use Rattle.battery.specs.Kinds.{isCharge, onlyAsks}
+use Rattle.battery.specs.Places.{SameAbove}
 use Rattle.battery.specs.Shape.{RefusalLine, AnswerShape}
 use Rattle.battery.specs.declared.Battery.{Battery}
 use Rattle.battery.specs.declared.Call.{Call}
@@ -21,7 +22,7 @@ use Rattle.battery.proofs.Answers.{finite-answer}
 use Rattle.engine.specs.Steps.{stepOf}
 use Rattle.engine.proofs.Outcomes.{Outcome}
 use Rattle.engine.proofs.StepOutcomes.{step-outcome}
-use Rattle.engine.proofs.Promises.{outcome-refusals, outcome-refused, outcome-finite, outcome-asked, outcome-charged, outcome-uncharged, outcome-card, outcome-mark, outcome-count, outcome-good, outcome-all-finite}
+use Rattle.engine.proofs.Promises.{outcome-refusals, outcome-refused, outcome-finite, outcome-asked, outcome-charged, outcome-uncharged, outcome-card, outcome-above, outcome-mark, outcome-count, outcome-good, outcome-all-finite}
 
 module _ (version : ℕ) (b : Battery) (call : Call) where
   outcome : Outcome b (isCharge call) (onlyAsks call) (stepOf version b call)
@@ -33,6 +34,10 @@ module _ (version : ℕ) (b : Battery) (call : Call) where
 
   pub step-keeps-card : stepOf version b call .battery .card ≡ b .card
   step-keeps-card = outcome-card b (isCharge call) (onlyAsks call) (stepOf version b call) outcome
+
+  -- the places above the count stay as they are, whatever they hold
+  pub step-keeps-above : SameAbove (b .card .layers) (b .zones) (stepOf version b call .battery .zones)
+  step-keeps-above = outcome-above b (isCharge call) (onlyAsks call) (stepOf version b call) outcome
 
   -- an absent outlet shows +0
   pub step-mark : ((stepOf version b call .mark ≡ 0) × (stepOf version b call .outlet ≡ zero)) ⊎ (stepOf version b call .mark ≡ 1)

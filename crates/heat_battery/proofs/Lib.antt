@@ -9,3 +9,4 @@ pub mod CardCases
 pub mod OpenCases
 pub mod ZonesLent
 pub mod OwnCases
+pub mod RecordAfter

@@ -58,17 +58,19 @@ pub extern "C" fn heat_battery_audit(sheet: &[u8]) -> u64
     auditor::limited_audit_word(sheet)
 }
 
-// Advances the caller's own battery where it lies by a call: 10, or the steps. A refused battery is as it was.
+// Advances the caller's own battery by a call: 10, or the steps. Answered, its first `count` zones and five totals are stored; refused, nothing is.
 #[no_mangle]
 pub extern "C" fn heat_battery_advance(b: &mut Battery, call: &[u8]) -> Shown
     ensures { λ r. ⌜ (r ≡ advancedOf 1 (now (b .entry)) (now (call .entry)) .shown) × (now (b .exit) ≡ advancedOf 1 (now (b .entry)) (now (call .entry)) .battery) ⌝ }
 {
     let l = battery::ledger_of(*b);
     let out = own_record::advance_apart(l, call, &mut b.zones);
-    b.total = out.totals.total;
-    b.pump = out.totals.pump;
-    b.direct = out.totals.direct;
-    b.charged = out.totals.charged;
-    b.electric = out.totals.electric;
+    if out.shown.refusal == 0 {
+        b.total = out.totals.total;
+        b.pump = out.totals.pump;
+        b.direct = out.totals.direct;
+        b.charged = out.totals.charged;
+        b.electric = out.totals.electric;
+    }
     out.shown
 }

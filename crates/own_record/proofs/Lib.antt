@@ -1,1 +1,3 @@
+pub mod Answered
 pub mod OwnRecord
+pub mod Zones

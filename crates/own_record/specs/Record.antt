@@ -1,8 +1,9 @@
 -- Document 01, module 9: 'One more entry takes the caller's own battery record and advances it by a call.' There is no sheet, so no 11.
-use Prim.Native.Nat.{ℕ}
+use Prim.Native.Nat.{ℕ, zero, suc}
 use mathlib.Core.List.{List}
-use lib.Ieee.{Float}
-use Rattle.floats.specs.Constants.{zero}
+use lib.ListN.{getD, set}
+use lib.Ieee.{Float, nan}
+use Rattle.floats.specs.Constants as Constants
 use Rattle.battery.specs.Answer.{refusedWith}
 use Rattle.battery.specs.Ledger.{whole}
 use Rattle.battery.specs.declared.Battery.{Battery}
@@ -32,12 +33,17 @@ replyShown a =
     record { refusal = a .refusal; mark = a .mark; substeps = a .substeps; energy = a .energy; outlet = a .outlet; time = a .time }
 
 abbrev pub refusedShown : ℕ → Shown
-refusedShown n = record { refusal = n; mark = 0; substeps = 0; energy = zero; outlet = zero; time = zero }
+refusedShown n = record { refusal = n; mark = 0; substeps = 0; energy = Constants.zero; outlet = Constants.zero; time = Constants.zero }
 
 -- a battery whose zones lie apart, with its totals renewed and these zones: its card and count stay
 abbrev pub renewedWith : Ledger → Renewed → List Float → Advanced
 renewedWith l r zones =
     record { battery = whole (record { card = l .card; count = l .count; totals = r .totals }) zones; shown = r .shown }
+
+-- zones of which the first n are those of another list
+unfoldable pub renewedZones : List Float → List Float → ℕ → List Float
+renewedZones zones own zero = zones
+renewedZones zones own (suc n) = set (renewedZones zones own n) n (getD own n nan)
 
 -- the record afterwards, and what the call answers
 unfoldable pub advancedBy : Answer → Advanced

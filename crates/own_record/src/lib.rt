@@ -1,11 +1,12 @@
-// A call on the caller's own battery, its zones where they lie: what is left of the totals, and what is shown.
+// A call on the caller's own battery: the first of its zones stored where they lie, what is left of the totals, and what is shown.
 use battery::Ledger;
 use battery::Reply;
 use battery::Totals;
 use calls::ReadCall;
 ghost use mathlib.Core.Path.{_≡_};
+ghost use Prim.Native.Nat.{_≤_};
 ghost use Rattle.battery.specs.Ledger.{whole};
-ghost use Rattle.own_record.specs.Record.{replyShown, refusedShown, renewedWith, advancedOf};
+ghost use Rattle.own_record.specs.Record.{replyShown, refusedShown, renewedWith, renewedZones, advancedOf};
 
 // The version of the calls' bytes.
 const VERSION: u8 = 1;
@@ -59,7 +60,17 @@ fn refused_shown(refusal: u8) -> Shown
     }
 }
 
-// A call's bytes on a battery whose zones lie apart. Refused, its zones and totals are as they were.
+// Stores the first n zones of another list; the places above are not written.
+fn renew_zones(zones: &mut [f64; 64], own: &[f64; 64], n: usize)
+    requires { ⌜ n ≤ 64 ⌝ }
+    ensures { λ _. ⌜ now (zones .exit) ≡ renewedZones (now (zones .entry)) (now (own .entry)) n ⌝ }
+{
+    for k in 0..n {
+        zones[k] = own[k];
+    }
+}
+
+// A call's bytes on a battery whose zones lie apart. It runs on a copy of them: answered, the first `count` are stored, and refused, none.
 pub fn advance_apart(l: Ledger, call: &[u8], zones: &mut [f64; 64]) -> Renewed
     ensures { λ r. ⌜ renewedWith l r (now (zones .exit)) ≡ advancedOf 1 (whole l (now (zones .entry))) (now (call .entry)) ⌝ }
 {
@@ -71,14 +82,15 @@ pub fn advance_apart(l: Ledger, call: &[u8], zones: &mut [f64; 64]) -> Renewed
             Renewed { totals, shown }
         }
         ReadCall::Good(c) => {
-            let before = *zones;
-            let a = engine::steps::advance_in_place(VERSION, l, c, zones);
+            let mut own = *zones;
+            let a = engine::steps::advance_in_place(VERSION, l, c, &mut own);
             if a.refusal == 0 {
+                let n = l.count as usize;
+                renew_zones(zones, &own, n);
                 let totals = a.totals;
                 let shown = reply_shown(a);
                 return Renewed { totals, shown };
             }
-            *zones = before;
             let totals = l.totals;
             let shown = refused_shown(a.refusal);
             Renewed { totals, shown }

@@ -1,5 +1,6 @@
 use Rattle.battery.specs.Answer.{refusedWith}
 use Rattle.replies.proofs.Settled.{settled-answer, settled-other}
+use Rattle.own_record.proofs.Answered.{answer-is, answered-few, answered-zones}
 use Rattle.own_record.specs.Record.{shownOf, advancedBy, advancedRead, advancedOf}
 use mathlib.Core.Path.{sym, _∙_, ap}
 use borrow.Author.Needs.{needs}
@@ -21,12 +22,22 @@ enum-known-read c = search needs
 advance-in-place-requires : tie.Need-advance-in-place-requires
 advance-in-place-requires c κs = search needs
 
+cast-n : tie.Need-cast-n
+cast-n c = search needs
+
+renew-zones-requires : tie.Need-renew-zones-requires
+renew-zones-requires c κs = answered-few _ _ _ _ _ _ (c .before .before .before .if1 .taken) (c .before .before .before .before .before .advance-in-place .ensures)
+
 reply-shown-requires : tie.Need-reply-shown-requires
 reply-shown-requires c κs = search needs
 
 returns : tie.Need-returns
 unfolding advancedOf advancedRead advancedBy shownOf
-returns c = rw (← (c .before .before .before .before .before .before .before .before .before .before .read-call .ensures), c .before .before .before .before .before .before .before .before .read .given .1, c .reply-shown .ensures) (ap advancedBy (sym (settled-answer _ _ _ _ (c .before .before .if1 .taken)) ∙ c .before .before .before .before .advance-in-place .ensures))
+returns c =
+    let taken = c .before .before .before .before .before .before .if1 .taken in
+    let said = c .before .before .before .before .before .before .before .before .advance-in-place .ensures in
+    let stored = c .before .before .renew-zones .ensures ∙ answered-zones _ _ _ _ _ _ taken said in
+    rw (← (c .before .before .before .before .before .before .before .before .before .before .before .before .before .before .read-call .ensures), c .before .before .before .before .before .before .before .before .before .before .before .before .read .given .1, c .reply-shown .ensures, stored) (ap advancedBy (answer-is _ _ _ _ _ _ taken said))
 
 refused-shown-requires-2 : tie.Need-refused-shown-requires-2
 refused-shown-requires-2 c κs = search needs
@@ -48,6 +59,8 @@ advance-apart-spec =
     refused-shown-requires
     enum-known-read
     advance-in-place-requires
+    cast-n
+    renew-zones-requires
     reply-shown-requires
     returns
     refused-shown-requires-2
