@@ -1,12 +1,8 @@
 -- One card, one buffer and one list of calls, so that the promises speak of something: document 01's points on one layer that starts at 40 °C.
 use Prim.Native.Nat.{ℕ}
-use mathlib.Core.List.{List, [], _∷_, _++_}
-use lib.ListN.{replicate, drop}
+use mathlib.Core.List.{List, _∷_, _++_}
+use lib.ListN.{replicate}
 use Rattle.codec.specs.Bytes.{beBytes}
-use Rattle.sheet.specs.Lines.{openingLength}
-use Rattle.entry.specs.Entry.{openOf}
-use Rattle.heat_battery.specs.Entries.{entryOf}
-use Rattle.heat_battery.specs.Lists.{freeBehind}
 
 -- an f64 by its bits
 abbrev num : ℕ → List ℕ
