@@ -4,14 +4,14 @@ use Rattle.heat_battery.proofs.CallCases.{call-10, call-11, call-codes, refused
 use Rattle.heat_battery.proofs.CallNumbers.{call-20, call-21, call-22, call-23, call-24, call-25}
 use Rattle.heat_battery.proofs.OwnCases.{own-10, own-20, own-21, own-22, own-23, own-24, own-25, own-codes}
 use Rattle.heat_battery.proofs.EqualSteps.{sheet-equal-to-steps}
-use Rattle.own_record.proofs.OwnRecord.{refused-record-stays}
+use Rattle.own_record.proofs.OwnRecord.{refused-record-stays, places-above-stay}
 use Rattle.auditor.specs.Audit.{limitedAuditOf}
 use Rattle.auditor.proofs.Exact.{exact}
 use Rattle.auditor.proofs.Refusals.{refused-40, refused-41, refused-42, refused-43, refused-44, no-other}
 use Rattle.auditor.proofs.Words.{verdict-given, same-verdict, word-accepts}
 use Rattle.claims.proofs.Directions.{directions}
 use Rattle.claims.proofs.Charged.{charged-total}
-use Rattle.demands.specs.Promises.{OpeningNumbers, CallNumbers, OwnRecordNumbers, AuditVerdicts, AuditorVerdicts, RefusedOpeningChangesNothing, TenAndElevenChangeNothing, RefusalLineLeavesTheRecord, RefusedOwnRecordStays, EqualToTheSteps, Opening, AcceptsAList, ExactlyWhen, ExactlyWhenInC, WordTellsTheVerdict, ZonesMoveTheRightWay, ChargedTotalAddsUp, OpeningRefusals, CallRefusals, OwnRecordRefusals, AuditRefusals}
+use Rattle.demands.specs.Promises.{OpeningNumbers, CallNumbers, OwnRecordNumbers, AuditVerdicts, AuditorVerdicts, RefusedOpeningChangesNothing, TenAndElevenChangeNothing, RefusalLineLeavesTheRecord, RefusedOwnRecordStays, PlacesAboveTheCountStay, EqualToTheSteps, Opening, AcceptsAList, ExactlyWhen, ExactlyWhenInC, WordTellsTheVerdict, ZonesMoveTheRightWay, ChargedTotalAddsUp, OpeningRefusals, CallRefusals, OwnRecordRefusals, AuditRefusals}
 use Rattle.demands.proofs.Numbers.{among-opening, among-call, among-own}
 use Rattle.demands.proofs.AList.{a-list}
 
@@ -41,6 +41,9 @@ refusal-line-leaves-the-record rec call free low high = refusal-line-keeps 1 rec
 
 pub refused-own-record-stays : RefusedOwnRecordStays
 refused-own-record-stays = refused-record-stays 1
+
+pub places-above-the-count-stay : PlacesAboveTheCountStay
+places-above-the-count-stay = places-above-stay 1
 
 pub equal-to-the-steps : EqualToTheSteps
 equal-to-the-steps = sheet-equal-to-steps 1

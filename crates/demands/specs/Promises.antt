@@ -9,6 +9,7 @@ use Rattle.floats.specs.Constants.{zero}
 use Rattle.codec.specs.Bytes.{over}
 use Rattle.battery.specs.Answer.{refusedWith}
 use Rattle.battery.specs.Battery.{fresh}
+use Rattle.battery.specs.Places.{SameAbove}
 use Rattle.battery.specs.declared.Battery.{Battery}
 use Rattle.engine.specs.Cases.{Case20, Case21, Case22, Case23, Case24, Case25}
 use Rattle.records.specs.Cards.{cardAt}
@@ -69,6 +70,10 @@ RefusalLineLeavesTheRecord =
 
 abbrev pub RefusedOwnRecordStays : Type 0
 RefusedOwnRecordStays = (b : Battery) (call : List ℕ) → (advancedOf 1 b call .shown .refusal ≡ 0 → ⊥) → advancedOf 1 b call .battery ≡ b
+
+-- 'places above the count .. are never written': whatever the caller's own record holds there stays, answered or refused
+abbrev pub PlacesAboveTheCountStay : Type 0
+PlacesAboveTheCountStay = (b : Battery) (call : List ℕ) → SameAbove (b .card .layers) (b .zones) (advancedOf 1 b call .battery .zones)
 
 -- ---- 2: 'engine, sheet writer and sheet reader are proved against 01's steps'
 
