@@ -101,8 +101,14 @@ fn verdict_fields(v: Verdict) -> AuditVerdict
     ensures { λ r. ⌜ r ≡ verdictFields v ⌝ }
 {
     match v {
-        Verdict::Accepted(n) => AuditVerdict { refusal: 0, line: n as u64 },
-        Verdict::Refused(r, k) => AuditVerdict { refusal: r, line: k as u64 },
+        Verdict::Accepted(n) => AuditVerdict {
+            refusal: 0,
+            line: n as u64,
+        },
+        Verdict::Refused(r, k) => AuditVerdict {
+            refusal: r,
+            line: k as u64,
+        },
     }
 }
 
