@@ -159,8 +159,7 @@ fn megabytes_are_converted_and_come_again() {
     let sheet = long_sheet();
     let (file, name) = (folder.write("sheet", &sheet), folder.path("x"));
     run(&["convert", &file, "-o", &name]).assert_fine("convert");
-    let (card, calls, out) =
-        (folder.path("x.card"), folder.path("x.calls"), folder.path("again"));
+    let (card, calls, out) = (folder.path("x.card"), folder.path("x.calls"), folder.path("again"));
     let again = run(&["run", &card, &calls, "-o", &out]);
     again.assert_fine("run");
     assert!(again.err.contains("would refuse it with 44"), "{}", again.err);
