@@ -271,9 +271,10 @@ fn bad_files_are_said() {
 #[test]
 fn endless_input_ends() {
     for words in [&["audit", "/dev/zero"][..], &["show", "/dev/zero"], &["convert", "/dev/zero"]] {
-        run(words).assert_failed(words[0]);
+        let ended = run(words);
+        ended.assert_failed(words[0]);
+        assert!(ended.err.contains("too many to read"), "{}", ended.err);
     }
-    assert_eq!(run(&["audit", "/dev/zero"]).out, "refused 44 line 0\n");
 }
 
 #[test]

@@ -80,8 +80,8 @@ with the number of call lines, or 'refused R line K':
   42  a call line is cut short, of unknown kind or wrong length, or a field is out of range
   43  an answer disagrees with the steps
 
-A sheet may have any length. The laboratory's audit program reads at most 65,536 bytes and
-answers 'refused 44 line 0' to a longer one; where it would, a last line says so.
+The laboratory's audit program reads at most 65,536 bytes and answers 'refused 44 line 0' to a
+longer sheet. Here such a sheet is audited too, and a last line says what the program would answer.
 
   --explain     say which field it is, what the sheet says and what the steps give
 
