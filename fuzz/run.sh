@@ -75,7 +75,7 @@ broken() {
 if [ "$1" = --broken ]; then
     missed=0
     broken entries room room-first line-before-room flag absent-bytes refused-record behind-line referee
-    broken audit passes-all passes-none index last-line order no-limit referee
+    broken audit passes-all passes-none index last-line order no-limit whole-limited referee
     echo "$missed faults were not found"
     [ "$missed" -eq 0 ]
     exit

@@ -1,5 +1,5 @@
-/* The C entries of the heat battery: opening a sheet, a call, the audit, and a
-   call on the caller's own record.
+/* The C entries of the heat battery: opening a sheet, a call, the audit with
+   and without a limit of length, and a call on the caller's own record.
 
    Link libheat_battery.a (`rt staticlib heat_battery`, x86-64 Linux). The
    library allocates nothing, keeps nothing between calls, and reads and writes
@@ -124,6 +124,17 @@ uint8_t heat_battery_call(uint8_t *record, size_t record_len,
 #define HEAT_BATTERY_DISAGREES 43   /* an answer is not that of the steps */
 #define HEAT_BATTERY_TOO_LONG 44    /* more than 65,536 bytes; K is 0, and it is tested first */
 uint64_t heat_battery_audit(const uint8_t *sheet, size_t sheet_len);
+
+/* What the audit of any length says: the refusal and its line K; or 0, and in
+   `line` the number of call lines N. */
+struct heat_battery_verdict {
+    uint8_t refusal;
+    uint64_t line;
+};
+
+/* Audits a sheet of any length: as above, and never 44. Up to 65,536 bytes
+   line x 256 + refusal is the number that heat_battery_audit returns. */
+struct heat_battery_verdict heat_battery_audit_whole(const uint8_t *sheet, size_t sheet_len);
 
 /* The caller's own record: a card and a battery as C structs. */
 struct heat_battery_card {

@@ -2,6 +2,7 @@
 # Compares the C entries, called from C and from Rust, with the oracle's independent ones: results, lines, records, verdicts and
 # every byte that must stay. The entry on the caller's own record is compared with the one on bytes: answer, zones and totals; from C, a
 # refused call gets a record that can't be written.
+# The audit of any length is compared with the one that has a limit, on the stored sheets and on one of megabytes.
 #
 #   tools/entries.sh [COUNT [SEED]]     100,000 inputs of the entries and a tenth as many sheets, seed 1
 #
@@ -18,8 +19,10 @@ cd oracle
 cargo build --release --offline --quiet
 target/release/oracle cases "$room/cases" --count "$count" --seed "$seed"
 cc -std=c11 -O2 -Wall -Wextra -Werror -I../include -o "$room/replay" ../tests/c/replay.c "$archive/libheat_battery.a"
+cc -std=c11 -O2 -Wall -Wextra -Werror -I../include -o "$room/whole" ../tests/c/whole.c "$archive/libheat_battery.a"
 echo "from C:"
 "$room/replay" "$room/cases"
+"$room/whole" ../examples/*.sheet ../crates/audit_cases/data/*.sheet
 export HEAT_BATTERY_LIB="$archive"
 echo "from Rust:"
 cargo run --release --offline --quiet -p entries -- entries --count "$count" --seed "$seed" --steps judge

@@ -1,10 +1,9 @@
-//! The target of heat_battery_audit: the input is a sheet. Most changes take it apart and write
+//! The target of both C audits: the input is a sheet. Most changes take it apart and write
 //! it anew, so that its lines agree, and damage it in one place or not at all.
 
 use crate::change;
 use crate::input::Input;
 use crate::tested;
-use oracle::auditor::MOST_BYTES;
 use oracle::compare::{check_sheet, Report};
 use oracle::damage::{self, Known, Sheet};
 use oracle::entries;
@@ -13,8 +12,7 @@ use oracle::sheet::{self, OPENING_BYTES};
 
 pub fn check(bytes: &[u8], report: &mut Report) {
     let input = apart(bytes);
-    // A sheet that is too long is refused before a line of it is read.
-    if bytes.len() <= MOST_BYTES && input.calls.len() > change::affordable(&input) {
+    if input.calls.len() > change::affordable(&input) {
         return;
     }
     let sheet = Sheet { what: "a sheet", bytes: bytes.to_vec(), known: Known::From(0) };

@@ -6,6 +6,7 @@
 mod linked;
 
 use linked::Linked;
+use oracle::auditor::Fields;
 use oracle::entries::Step;
 use oracle::faults::Faulty;
 use oracle::library::Library;
@@ -53,6 +54,13 @@ impl Library for Tested {
         match self {
             Tested::Linked => Linked.audit(sheet),
             Tested::Faulty(faulty) => faulty.audit(sheet),
+        }
+    }
+
+    fn audit_whole(&self, sheet: &[u8]) -> Fields {
+        match self {
+            Tested::Linked => Linked.audit_whole(sheet),
+            Tested::Faulty(faulty) => faulty.audit_whole(sheet),
         }
     }
 }

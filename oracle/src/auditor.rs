@@ -21,6 +21,16 @@ pub enum Verdict {
     },
 }
 
+/// What the C audit of any length returns.
+#[repr(C)]
+#[derive(Clone, Copy, Debug, PartialEq, Eq)]
+pub struct Fields {
+    /// 0 for none.
+    pub refusal: u8,
+    /// The refused line's index, or the number of call lines.
+    pub line: u64,
+}
+
 impl Verdict {
     pub fn refused(refusal: u8, line: u64) -> Self {
         Verdict::Refused { refusal, line }
@@ -34,12 +44,17 @@ impl Verdict {
         }
     }
 
+    /// The answer of the C audit of any length.
+    pub fn fields(&self) -> Fields {
+        match *self {
+            Verdict::Accepted(line) => Fields { refusal: 0, line },
+            Verdict::Refused { refusal, line } => Fields { refusal, line },
+        }
+    }
+
     /// The refusal, 0 for none.
     pub fn refusal(&self) -> u8 {
-        match *self {
-            Verdict::Accepted(_) => 0,
-            Verdict::Refused { refusal, .. } => refusal,
-        }
+        self.fields().refusal
     }
 }
 
@@ -53,7 +68,7 @@ impl fmt::Display for Verdict {
     }
 }
 
-/// The library's audit, which has no limit of length, by the plain steps.
+/// The audit of any length, by the plain steps.
 pub fn audit(sheet: &[u8]) -> Verdict {
     audit_by(plain::step, sheet)
 }

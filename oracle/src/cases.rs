@@ -1,10 +1,12 @@
 //! Inputs of the entries and of the audit with what they must give, in a file that a caller in
 //! another language replays.
 //!
-//! A case: which entry (u8: 1 open, 2 call, 3 audit), the slices that it is lent, each as its
-//! length (u32, big-endian like every number) and its bytes, the result (u64), then what `record`
-//! and `sheet` hold afterwards. The slices are card, record, sheet; record, call, sheet; sheet.
+//! A case: which entry (u8: 1 open, 2 call, 3 audit, 4 audit of any length), the slices that it is lent, each as its
+//! length (u32, big-endian like every number) and its bytes, the result (u64; of 4, line × 256 +
+//! refusal), then what `record` and `sheet` hold afterwards. The slices are card, record, sheet;
+//! record, call, sheet; sheet; sheet.
 
+use crate::auditor::Fields;
 use crate::compare;
 use crate::library::{Independent, Library};
 use crate::{judge, plain};
@@ -16,6 +18,7 @@ use std::path::Path;
 const OPEN: u8 = 1;
 const CALL: u8 = 2;
 const AUDIT: u8 = 3;
+const WHOLE: u8 = 4;
 
 /// The judge's entries and audit; each use of them is written down.
 struct Recorder {
@@ -60,6 +63,12 @@ impl Library for Recorder {
     fn audit(&self, sheet: &[u8]) -> u64 {
         let result = self.entries.audit(sheet);
         self.record(AUDIT, &[sheet], result, &[]);
+        result
+    }
+
+    fn audit_whole(&self, sheet: &[u8]) -> Fields {
+        let result = self.entries.audit_whole(sheet);
+        self.record(WHOLE, &[sheet], result.line * 256 + u64::from(result.refusal), &[]);
         result
     }
 }

@@ -1,7 +1,7 @@
 //! A library against the independent entries and auditor: results, lines, records, and every
 //! byte that must stay, also around what is lent.
 
-use crate::auditor::{self, Verdict};
+use crate::auditor::{self, Fields, Verdict};
 use crate::damage::{self, Sheet};
 use crate::entries::{self, Step};
 use crate::generate;
@@ -243,16 +243,16 @@ pub fn check_sheet(library: &impl Library, step: Step, sheet: &Sheet, report: &m
     let ours = auditor::limited(&sheet.bytes, |_| verdict);
     let lent = Lent::new(&sheet.bytes);
     let theirs = library.audit(lent.bytes());
+    let whole = library.audit_whole(lent.bytes());
     report.add("audit", ours.refusal());
     let unchanged = lent == Lent::new(&sheet.bytes);
-    report.fail(sheet.known.allows(&verdict), ours.word() == theirs && unchanged, || {
-        sheet_failure(sheet, &ours, theirs)
-    });
+    let same = ours.word() == theirs && verdict.fields() == whole && unchanged;
+    report.fail(sheet.known.allows(&verdict), same, || sheet_failure(sheet, &ours, theirs, whole));
 }
 
-fn sheet_failure(sheet: &Sheet, ours: &Verdict, theirs: u64) -> String {
+fn sheet_failure(sheet: &Sheet, ours: &Verdict, theirs: u64, whole: Fields) -> String {
     format!(
-        "audit of '{}', known {:?}\n  independent: {ours}\n  library: line {} refusal {}\n  sheet {}",
+        "audit of '{}', known {:?}\n  independent: {ours}\n  library: line {} refusal {}; of any length: {whole:?}\n  sheet {}",
         sheet.what,
         sheet.known,
         theirs / 256,

@@ -1,6 +1,6 @@
 //! The independent entries and auditor with a fault put in, to show that a comparison finds it.
 
-use crate::auditor::{self, Verdict};
+use crate::auditor::{self, Fields, Verdict};
 use crate::library::{Independent, Library};
 use crate::plain;
 use crate::sheet;
@@ -34,10 +34,12 @@ pub enum Fault {
     Order,
     /// No limit of length.
     NoLimit,
+    /// A limit of length in the audit of any length.
+    WholeLimited,
 }
 
 /// Faults by their names for a variable or an option.
-pub const FAULTS: [(&str, Fault); 13] = [
+pub const FAULTS: [(&str, Fault); 14] = [
     ("room", Fault::Room),
     ("room-first", Fault::RoomFirst),
     ("line-before-room", Fault::LineBeforeRoom),
@@ -51,6 +53,7 @@ pub const FAULTS: [(&str, Fault); 13] = [
     ("last-line", Fault::LastLine),
     ("order", Fault::Order),
     ("no-limit", Fault::NoLimit),
+    ("whole-limited", Fault::WholeLimited),
 ];
 
 pub struct Faulty {
@@ -75,6 +78,24 @@ impl Faulty {
             _ => {}
         }
         misread
+    }
+
+    /// The verdict as a faulty auditor gives it.
+    fn misjudged(&self, sound: Verdict, sheet: &[u8]) -> Verdict {
+        match (self.fault, sound) {
+            (Fault::PassesAll, Verdict::Refused { line, .. }) => Verdict::Accepted(line),
+            (Fault::PassesNone, Verdict::Accepted(_)) => Verdict::refused(43, 1),
+            (Fault::Index, Verdict::Refused { refusal, line }) if line > 0 => {
+                Verdict::refused(refusal, line - 1)
+            }
+            (Fault::LastLine, Verdict::Refused { refusal: 43, line })
+                if line == lines_by_length(sheet) =>
+            {
+                Verdict::Accepted(line)
+            }
+            (Fault::Order, Verdict::Refused { refusal: 42, line }) => Verdict::refused(43, line),
+            _ => sound,
+        }
     }
 }
 
@@ -109,23 +130,19 @@ impl Library for Faulty {
     }
 
     fn audit(&self, sheet: &[u8]) -> u64 {
-        let sound = auditor::audit_limited(sheet);
-        let faulty = match (self.fault, sound) {
-            (Fault::NoLimit, _) => auditor::audit(sheet),
-            (Fault::PassesAll, Verdict::Refused { line, .. }) => Verdict::Accepted(line),
-            (Fault::PassesNone, Verdict::Accepted(_)) => Verdict::refused(43, 1),
-            (Fault::Index, Verdict::Refused { refusal, line }) if line > 0 => {
-                Verdict::refused(refusal, line - 1)
-            }
-            (Fault::LastLine, Verdict::Refused { refusal: 43, line })
-                if line == lines_by_length(sheet) =>
-            {
-                Verdict::Accepted(line)
-            }
-            (Fault::Order, Verdict::Refused { refusal: 42, line }) => Verdict::refused(43, line),
-            _ => sound,
+        let sound = match self.fault {
+            Fault::NoLimit => auditor::audit(sheet),
+            _ => auditor::audit_limited(sheet),
         };
-        faulty.word()
+        self.misjudged(sound, sheet).word()
+    }
+
+    fn audit_whole(&self, sheet: &[u8]) -> Fields {
+        let sound = match self.fault {
+            Fault::WholeLimited => auditor::audit_limited(sheet),
+            _ => auditor::audit(sheet),
+        };
+        self.misjudged(sound, sheet).fields()
     }
 }
 

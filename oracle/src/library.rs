@@ -1,6 +1,6 @@
 //! The entries and the audit as a library offers them, for a comparison of two.
 
-use crate::auditor;
+use crate::auditor::{self, Fields};
 use crate::entries::{self, Step};
 
 pub trait Library {
@@ -8,6 +8,8 @@ pub trait Library {
     fn call(&self, record: &mut [u8], call: &[u8], sheet: &mut [u8]) -> u8;
     /// The C audit: line × 256 + refusal, or lines × 256.
     fn audit(&self, sheet: &[u8]) -> u64;
+    /// The C audit of any length.
+    fn audit_whole(&self, sheet: &[u8]) -> Fields;
 }
 
 /// The independent entries and auditor, by the steps given.
@@ -26,5 +28,9 @@ impl Library for Independent {
 
     fn audit(&self, sheet: &[u8]) -> u64 {
         auditor::limited(sheet, |sheet| auditor::audit_by(self.step, sheet)).word()
+    }
+
+    fn audit_whole(&self, sheet: &[u8]) -> Fields {
+        auditor::audit_by(self.step, sheet).fields()
     }
 }

@@ -8,7 +8,7 @@
 #include <string.h>
 #include <sys/mman.h>
 
-enum { OPEN = 1, CALL = 2, AUDIT = 3, GUARD = 64, PAGE = 4096 };
+enum { OPEN = 1, CALL = 2, AUDIT = 3, WHOLE = 4, GUARD = 64, PAGE = 4096 };
 
 struct slice {
     uint8_t *bytes; /* with guards on both sides */
@@ -189,6 +189,24 @@ static int replay_audit(void) {
     return same;
 }
 
+static int replay_whole(void) {
+    struct slice sheet = read_slice();
+    struct heat_battery_verdict verdict = heat_battery_audit_whole(sheet.bytes, sheet.length);
+    int same = verdict.line * 256 + verdict.refusal == read_number(8) && guarded(sheet);
+    drop(sheet);
+    return same;
+}
+
+static int replay(int entry) {
+    switch (entry) {
+    case OPEN: return replay_open();
+    case CALL: return replay_call();
+    case AUDIT: return replay_audit();
+    case WHOLE: return replay_whole();
+    default: return 0;
+    }
+}
+
 int main(int argc, char **argv) {
     unsigned long cases = 0, wrong = 0;
     if (argc != 2 || (file = fopen(argv[1], "rb")) == NULL)
@@ -197,7 +215,7 @@ int main(int argc, char **argv) {
     if (page == MAP_FAILED)
         ended("no memory");
     for (int entry = getc(file); entry != EOF; entry = getc(file)) {
-        int same = entry == OPEN ? replay_open() : entry == CALL ? replay_call() : entry == AUDIT ? replay_audit() : 0;
+        int same = replay(entry);
         cases++;
         if (!same && wrong++ < 20)
             printf("case %lu disagrees (entry %d)\n", cases, entry);

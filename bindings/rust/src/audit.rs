@@ -8,7 +8,7 @@ use crate::reading::{read, Damage};
 use crate::refusal::Refusal;
 use std::fmt;
 
-/// The most bytes of a sheet that the audit reads.
+/// The most bytes of a sheet that the laboratory's audit program reads; see [`is_too_long`].
 pub const MOST_AUDITED: usize = 65_536;
 
 /// What the auditor says of a sheet.
@@ -16,16 +16,16 @@ pub const MOST_AUDITED: usize = 65_536;
 pub enum Verdict {
     /// The number of call lines; all of them agree with the steps.
     Accepted(u64),
-    /// The refusal, 40 to 44, and the line it is for, 0 for the card's.
+    /// The refusal, 40 to 43, and the line it is for, 0 for the card's.
     Refused {
-        /// 40 to 44.
+        /// 40 to 43.
         refusal: Refusal,
         /// The lowest line that is refused.
         line: u64,
     },
 }
 
-/// The line that the audit program prints.
+/// The line that the laboratory's audit program prints.
 impl fmt::Display for Verdict {
     fn fmt(&self, f: &mut fmt::Formatter<'_>) -> fmt::Result {
         match self {
@@ -37,7 +37,8 @@ impl fmt::Display for Verdict {
     }
 }
 
-/// Audits a sheet: its calls are made again on a fresh battery and every answer is compared.
+/// Audits a sheet of any length: its calls are made again on a fresh battery and every answer is
+/// compared.
 ///
 /// ```
 /// use heat_battery::{audit, Refusal, Verdict};
@@ -46,12 +47,29 @@ impl fmt::Display for Verdict {
 /// assert_eq!(audit(&[1]).to_string(), "refused 41 line 0");
 /// ```
 pub fn audit(sheet: &[u8]) -> Verdict {
-    let word = ffi::audit(sheet);
-    let line = word / 256;
-    match Refusal::from_number((word % 256) as u8) {
+    let ffi::Verdict { refusal, line } = ffi::audit_whole(sheet);
+    match Refusal::from_number(refusal) {
         None => Verdict::Accepted(line),
         Some(refusal) => Verdict::Refused { refusal, line },
     }
+}
+
+/// Whether the laboratory's audit program refuses a sheet unread, with 44: it has more than
+/// [`MOST_AUDITED`] bytes. C's `heat_battery_audit` does the same, [`audit`] has no such limit.
+///
+/// ```
+/// use heat_battery::{audit, is_too_long, Call, Card, Refusal, Sheet, Verdict};
+///
+/// let mut sheet = Sheet::open(&Card::example())?;
+/// for _ in 0..1000 {
+///     sheet.call(&Call::StandingLoss)?;
+/// }
+/// assert_eq!(audit(sheet.as_bytes()), Verdict::Accepted(1000));
+/// assert!(is_too_long(sheet.as_bytes()));
+/// # Ok::<(), Refusal>(())
+/// ```
+pub fn is_too_long(sheet: &[u8]) -> bool {
+    sheet.len() > MOST_AUDITED
 }
 
 /// A field of an answer that isn't what the steps give.
@@ -81,16 +99,11 @@ pub enum Explanation {
         /// Each field that disagrees.
         fields: Vec<Difference>,
     },
-    /// More than [`MOST_AUDITED`] bytes.
-    TooLong,
 }
 
 /// Finds what the audit refuses a sheet for: the calls are made again through the entries up
 /// to the line that disagrees, which is compared field by field.
 pub fn explain(sheet: &[u8]) -> Explanation {
-    if sheet.len() > MOST_AUDITED {
-        return Explanation::TooLong;
-    }
     match first_trouble(sheet) {
         Ok(None) => Explanation::Agreement,
         Ok(Some((line, call, fields))) => Explanation::Differences { line, call, fields },

@@ -16,6 +16,7 @@
 //! assert_eq!(ffi::call(&mut record, &[9], line), 10); // there is no kind 9
 //! assert_eq!(ffi::call(&mut record, &[4], line), 0); // standing loss
 //! assert_eq!(ffi::audit(&sheet), 256); // accepted, one line
+//! assert_eq!(ffi::audit_whole(&sheet), ffi::Verdict { refusal: 0, line: 1 });
 //! ```
 
 use crate::answer::MOST_LAYERS;
@@ -69,6 +70,16 @@ pub struct Shown {
     pub time: f64,
 }
 
+/// `struct heat_battery_verdict`: what the audit of any length says.
+#[repr(C)]
+#[derive(Clone, Copy, Debug, PartialEq, Eq)]
+pub struct Verdict {
+    /// 0 for none.
+    pub refusal: u8,
+    /// The refused line, or the number of call lines.
+    pub line: u64,
+}
+
 // The layout that a C compiler for x86-64 gives the header's structs.
 const _: () = {
     assert!(size_of::<Card>() == 160 && align_of::<Card>() == 8);
@@ -82,10 +93,12 @@ const _: () = {
     assert!(offset_of!(Shown, refusal) == 0 && offset_of!(Shown, mark) == 1);
     assert!(offset_of!(Shown, substeps) == 4 && offset_of!(Shown, energy) == 8);
     assert!(offset_of!(Shown, outlet) == 16 && offset_of!(Shown, time) == 24);
+    assert!(size_of::<Verdict>() == 16 && align_of::<Verdict>() == 8);
+    assert!(offset_of!(Verdict, refusal) == 0 && offset_of!(Verdict, line) == 8);
 };
 
 mod c {
-    use super::{Battery, Shown};
+    use super::{Battery, Shown, Verdict};
 
     extern "C" {
         pub fn heat_battery_open(
@@ -105,6 +118,7 @@ mod c {
             sheet_length: usize,
         ) -> u8;
         pub fn heat_battery_audit(sheet: *const u8, sheet_length: usize) -> u64;
+        pub fn heat_battery_audit_whole(sheet: *const u8, sheet_length: usize) -> Verdict;
         pub fn heat_battery_advance(
             battery: *mut Battery,
             call: *const u8,
@@ -143,10 +157,16 @@ pub fn call(record: &mut [u8], call: &[u8], sheet: &mut [u8]) -> u8 {
     }
 }
 
-/// Audits a sheet: line × 256 + refusal, or lines × 256.
+/// Audits a sheet: line × 256 + refusal, or lines × 256; 44 above 65,536 bytes.
 pub fn audit(sheet: &[u8]) -> u64 {
     // SAFETY: a slice with its own length.
     unsafe { c::heat_battery_audit(sheet.as_ptr(), sheet.len()) }
+}
+
+/// Audits a sheet of any length.
+pub fn audit_whole(sheet: &[u8]) -> Verdict {
+    // SAFETY: a slice with its own length.
+    unsafe { c::heat_battery_audit_whole(sheet.as_ptr(), sheet.len()) }
 }
 
 /// Makes a call on the caller's own record: what its line would show. A refused call stores

@@ -62,7 +62,9 @@ mod sheet;
 pub mod text;
 
 pub use answer::{Answer, Line, Totals, Zones, MOST_LAYERS};
-pub use audit::{audit, differences, explain, Difference, Explanation, Verdict, MOST_AUDITED};
+pub use audit::{
+    audit, differences, explain, is_too_long, Difference, Explanation, Verdict, MOST_AUDITED,
+};
 pub use battery::Battery;
 pub use call::{Call, Kind};
 pub use card::Card;

@@ -30,8 +30,8 @@ pub struct Sheet {
 }
 
 impl Sheet {
-    /// Opens a battery and a sheet that grows with its lines. Refusals 1 to 4. The C audit
-    /// takes sheets of at most [`MOST_AUDITED`](crate::MOST_AUDITED) bytes.
+    /// Opens a battery and a sheet that grows with its lines. Refusals 1 to 4. The laboratory's
+    /// audit program takes sheets of at most [`MOST_AUDITED`](crate::MOST_AUDITED) bytes.
     pub fn open(card: &Card) -> Result<Sheet, Refusal> {
         Sheet::open_within(card, usize::MAX)
     }

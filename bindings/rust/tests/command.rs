@@ -180,19 +180,6 @@ fn a_sheet_may_be_held_to_a_length() {
     none.assert_failed("no room to open");
 }
 
-#[test]
-fn a_long_sheet_is_written_and_refused_with_44() {
-    let folder = Folder::new("long");
-    let calls = folder.write("calls", "standing_loss\n".repeat(1000).as_bytes());
-    let out = folder.path("sheet");
-    let ended = run(&["run", &example("salt-battery.card"), &calls, "-o", &out]);
-    ended.assert_fine("run");
-    assert!(ended.err.contains("will refuse it (44)"), "{}", ended.err);
-    let audited = run(&["audit", "--explain", &out]);
-    assert_eq!(audited.out, "refused 44 line 0\nmore than 65536 bytes; none is looked at\n");
-    assert_eq!(run(&["show", &out]).status, 1);
-}
-
 // ---- Bad usage, bad files
 
 #[test]
@@ -284,9 +271,10 @@ fn bad_files_are_said() {
 #[test]
 fn endless_input_ends() {
     for words in [&["audit", "/dev/zero"][..], &["show", "/dev/zero"], &["convert", "/dev/zero"]] {
-        run(words).assert_failed(words[0]);
+        let ended = run(words);
+        ended.assert_failed(words[0]);
+        assert!(ended.err.contains("too many to read"), "{}", ended.err);
     }
-    assert_eq!(run(&["audit", "/dev/zero"]).out, "refused 44 line 0\n");
 }
 
 #[test]
@@ -317,8 +305,8 @@ fn assert_ends(folder: &Folder, bytes: &[u8], accepted: bool) {
     for words in commands(folder, &file).into_iter().skip(3) {
         let words: Vec<&str> = words.iter().map(String::as_str).collect();
         let ended = run(&words);
-        // A sheet with a zero of the other sign is accepted; one that is too long comes again.
-        match words[0] == "convert" && (accepted || bytes.len() > 65_536) {
+        // A sheet with a zero of the other sign is accepted.
+        match words[0] == "convert" && accepted {
             true => assert!(ended.status <= 1, "{}", ended.err),
             false if accepted => ended.assert_fine(&words.join(" ")),
             false => ended.assert_failed(&words.join(" ")),
@@ -346,12 +334,13 @@ fn damaged_sheets_are_said() {
     let mut random = Random::new(21);
     for index in 1..12 {
         for sheet in damage::family(&mut random, index).iter().step_by(4) {
-            let verdict = oracle::auditor::audit_limited(&sheet.bytes);
+            let verdict = oracle::auditor::audit(&sheet.bytes);
             assert_ends(&folder, &sheet.bytes, verdict.refusal() == 0);
         }
     }
     for sheet in sheets::all() {
-        assert_ends(&folder, &sheet.bytes, sheet.verdict.refusal() == 0);
+        let verdict = oracle::auditor::audit(&sheet.bytes);
+        assert_ends(&folder, &sheet.bytes, verdict.refusal() == 0);
     }
 }
 

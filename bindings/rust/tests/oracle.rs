@@ -3,7 +3,8 @@
 mod common;
 
 use common::{assert_same, battery, call, card};
-use heat_battery::{audit, explain, Battery, Call, Card, Explanation, Refusal, Sheet, Verdict};
+use heat_battery::{audit, explain, ffi, is_too_long, Battery, Call, Card, Explanation, Refusal};
+use heat_battery::{Sheet, Verdict};
 use oracle::random::Random;
 use oracle::{auditor, damage, generate, model, plain, raw, sheet, sheets};
 
@@ -51,13 +52,8 @@ fn sheets_are_the_oracles() {
         }
         assert_eq!(ours.as_bytes(), bytes);
         assert_eq!(ours.lines().count() as u64, ours.len());
-        let verdict = Verdict::Accepted(ours.len());
-        assert_eq!(audit(&bytes), if bytes.len() > 65_536 { too_long() } else { verdict });
+        assert_eq!(audit(&bytes), Verdict::Accepted(ours.len()));
     }
-}
-
-fn too_long() -> Verdict {
-    Verdict::Refused { refusal: Refusal::TooLong, line: 0 }
 }
 
 /// Refusals 1 to 4, and the words for them.
@@ -130,7 +126,9 @@ fn verdicts_are_the_oracles_and_explained() {
     let named = sheets::all().into_iter().map(|sheet| sheet.bytes);
     for bytes in drawn.chain(named) {
         let verdict = audit(&bytes);
-        assert_eq!(verdict.to_string(), auditor::audit_limited(&bytes).to_string());
+        assert_eq!(verdict.to_string(), auditor::audit(&bytes).to_string());
+        assert_eq!(ffi::audit(&bytes), auditor::audit_limited(&bytes).word());
+        assert_eq!(is_too_long(&bytes), ffi::audit(&bytes) == 44);
         assert_eq!(explained(&bytes, verdict), verdict, "{:?}", explain(&bytes));
     }
 }
@@ -149,7 +147,6 @@ fn explained(bytes: &[u8], verdict: Verdict) -> Verdict {
             assert!(!fields.is_empty());
             Verdict::Refused { refusal: Refusal::Disagreement, line }
         }
-        Explanation::TooLong => too_long(),
     }
 }
 

@@ -11,3 +11,4 @@ pub mod Exact
 pub mod Refusals
 pub mod ReadCalls
 pub mod Words
+pub mod Fields

@@ -16,19 +16,22 @@ use Rattle.auditor.proofs.Exact.{exact}
 use Rattle.auditor.proofs.Refusals.{no-other, within-limit}
 
 -- the verdicts that there are
+pub audit-given : (bs : List ℕ) → Given (auditOf bs)
+audit-given bs = on (auditOf bs) refl
+  where
+    on : (v : Verdict) → auditOf bs ≡ v → Given v
+    on (Accepted n) e = tt
+    on (Refused r i) e = inl (no-other bs r i e)
+
 pub verdict-given : (bs : List ℕ) → Given (limitedAuditOf bs)
 unfolding limitedAuditOf
 verdict-given bs = on (ltb limit (length bs))
   where
-    own : (v : Verdict) → auditOf bs ≡ v → Given v
-    own (Accepted n) e = tt
-    own (Refused r i) e = inl (no-other bs r i e)
-
     on : (t : Bool) → Given (cond t (Refused 44 0) (auditOf bs))
     on true = inr (refl, refl)
-    on false = own (auditOf bs) refl
+    on false = audit-given bs
 
-number-small : (r i : ℕ) → Known r i ⊎ ((r ≡ 44) × (i ≡ 0)) → (40 ≤ r) × (r ≤ 44)
+pub number-small : (r i : ℕ) → Known r i ⊎ ((r ≡ 44) × (i ≡ 0)) → (40 ≤ r) × (r ≤ 44)
 number-small r i (inl (inl z)) = (omega arith, omega arith)
 number-small r i (inl (inr (inl z))) = (omega arith, omega arith)
 number-small r i (inl (inr (inr (inl z)))) = (omega arith, omega arith)

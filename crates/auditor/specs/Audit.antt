@@ -19,6 +19,7 @@ use Rattle.calls.specs.declared.ReadCall.the-variants.{Good, Bad}
 use Rattle.front.specs.Front.{lineCall, lineAnswer, behind}
 use Rattle.auditor.specs.declared.Verdict.{Verdict}
 use Rattle.auditor.specs.declared.Verdict.the-variants.{Accepted, Refused}
+use Rattle.auditor.specs.declared.AuditVerdict.{AuditVerdict}
 
 -- behind k lines: what the line shows against the steps' own answer, whose 10 is a field out of range
 unfoldable pub judge : ℕ → Answer → Answer → (Battery → Verdict) → Verdict
@@ -77,3 +78,8 @@ limitedAuditOf bs = cond (ltb limit (length bs)) (Refused 44 0) (auditOf bs)
 unfoldable pub verdictWord : Verdict → ℕ
 verdictWord (Accepted n) = n * 256
 verdictWord (Refused r k) = k * 256 + r
+
+-- the same side by side: the refusal and its line, or 0 and the number of call lines
+unfoldable pub verdictFields : Verdict → AuditVerdict
+verdictFields (Accepted n) = record { refusal = 0; line = n }
+verdictFields (Refused r k) = record { refusal = r; line = k }

@@ -2,13 +2,22 @@
 pub mod lines;
 
 ghost use mathlib.Core.Path.{_≡_};
-ghost use Rattle.auditor.specs.Audit.{cardLineOk, auditOf, limit, limitedAuditOf, verdictWord};
+ghost use Rattle.auditor.specs.Audit.{cardLineOk, auditOf, limit, limitedAuditOf, verdictWord, verdictFields};
 ghost use Rattle.auditor.specs.Bound.{IndexAtMost};
 
 // The lines that agree, or the refusal and the line's index.
 pub enum Verdict {
     Accepted(usize),
     Refused(u8, usize),
+}
+
+// A verdict in numbers, for C.
+#[repr(C)]
+pub struct AuditVerdict {
+    // 0 for none
+    pub refusal: u8,
+    // the refused line's index, or the number of call lines
+    pub line: u64,
 }
 
 // The only version known.
@@ -85,4 +94,27 @@ pub fn limited_audit_word(sheet: &[u8]) -> u64
     ensures { λ r. ⌜ r ≡ verdictWord (limitedAuditOf (now (sheet .entry))) ⌝ }
 {
     verdict_word(audit_limited(sheet))
+}
+
+// A verdict's refusal and line.
+fn verdict_fields(v: Verdict) -> AuditVerdict
+    ensures { λ r. ⌜ r ≡ verdictFields v ⌝ }
+{
+    match v {
+        Verdict::Accepted(n) => AuditVerdict {
+            refusal: 0,
+            line: n as u64,
+        },
+        Verdict::Refused(r, k) => AuditVerdict {
+            refusal: r,
+            line: k as u64,
+        },
+    }
+}
+
+// Those for a sheet of any length.
+pub fn audit_fields(sheet: &[u8]) -> AuditVerdict
+    ensures { λ r. ⌜ r ≡ verdictFields (auditOf (now (sheet .entry))) ⌝ }
+{
+    verdict_fields(audit(sheet))
 }

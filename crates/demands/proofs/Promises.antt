@@ -9,9 +9,10 @@ use Rattle.auditor.specs.Audit.{limitedAuditOf}
 use Rattle.auditor.proofs.Exact.{exact}
 use Rattle.auditor.proofs.Refusals.{refused-40, refused-41, refused-42, refused-43, refused-44, no-other}
 use Rattle.auditor.proofs.Words.{verdict-given, same-verdict, word-accepts}
+use Rattle.auditor.proofs.Fields.{fields-accept, fields-refuse, fields-word}
 use Rattle.claims.proofs.Directions.{directions}
 use Rattle.claims.proofs.Charged.{charged-total}
-use Rattle.demands.specs.Promises.{OpeningNumbers, CallNumbers, OwnRecordNumbers, AuditVerdicts, AuditorVerdicts, RefusedOpeningChangesNothing, TenAndElevenChangeNothing, RefusalLineLeavesTheRecord, RefusedOwnRecordStays, PlacesAboveTheCountStay, EqualToTheSteps, Opening, AcceptsAList, ExactlyWhen, ExactlyWhenInC, WordTellsTheVerdict, ZonesMoveTheRightWay, ChargedTotalAddsUp, OpeningRefusals, CallRefusals, OwnRecordRefusals, AuditRefusals}
+use Rattle.demands.specs.Promises.{OpeningNumbers, CallNumbers, OwnRecordNumbers, AuditVerdicts, AuditorVerdicts, RefusedOpeningChangesNothing, TenAndElevenChangeNothing, RefusalLineLeavesTheRecord, RefusedOwnRecordStays, PlacesAboveTheCountStay, EqualToTheSteps, Opening, AcceptsAList, ExactlyWhen, ExactlyWhenInC, WordTellsTheVerdict, ExactlyWhenOfAnyLength, FieldsTellTheVerdict, BothAuditsAgree, ZonesMoveTheRightWay, ChargedTotalAddsUp, OpeningRefusals, CallRefusals, OwnRecordRefusals, AuditRefusals}
 use Rattle.demands.proofs.Numbers.{among-opening, among-call, among-own}
 use Rattle.demands.proofs.AList.{a-list}
 
@@ -62,6 +63,15 @@ exactly-when-in-c = word-accepts
 
 pub word-tells-the-verdict : WordTellsTheVerdict
 word-tells-the-verdict bs cs = same-verdict (limitedAuditOf bs) (limitedAuditOf cs) (verdict-given bs) (verdict-given cs)
+
+pub exactly-when-of-any-length : ExactlyWhenOfAnyLength
+exactly-when-of-any-length = fields-accept
+
+pub fields-tell-the-verdict : FieldsTellTheVerdict
+fields-tell-the-verdict = fields-refuse
+
+pub both-audits-agree : BothAuditsAgree
+both-audits-agree = fields-word
 
 pub zones-move-the-right-way : ZonesMoveTheRightWay
 zones-move-the-right-way = directions

@@ -21,7 +21,7 @@ use Rattle.heat_battery.specs.Entries.{entryOf}
 use Rattle.heat_battery.specs.Cases.{OpenCase1, OpenCase2, OpenCase3, OpenCase4, OpenCase10, OpenCase11, Opens, CallCase10, CallCase11, LineCase, OwnCase10, OwnCase}
 use Rattle.heat_battery.specs.Lists.{sheetOf, behindSheet, sparedOf, stepLines, SheetOfSteps}
 use Rattle.auditor.specs.declared.Verdict.the-variants.{Accepted, Refused}
-use Rattle.auditor.specs.Audit.{limit, auditOf, limitedAuditOf, verdictWord}
+use Rattle.auditor.specs.Audit.{limit, auditOf, limitedAuditOf, verdictWord, verdictFields}
 use Rattle.auditor.specs.Sheet.{Sheet}
 use Rattle.auditor.specs.Cases.{NoVersion, NoCard, BadLine, Disagrees, Known, Given}
 use Rattle.claims.specs.Claims.{AllDirected, AllSummed}
@@ -31,8 +31,8 @@ abbrev pub OneOf : List ℕ → ℕ → Type 0
 OneOf [] n = ⊥
 OneOf (x ∷ xs) n = (n ≡ x) ⊎ OneOf xs n
 
--- ---- 1: 'A caller of any entry, with any numbers and any bytes, gets an answer or a refusal of document 01': the contracts of the four C entries
--- (crates/heat_battery/src/lib.rt) equate what each returns and leaves with openOf, entryOf, advancedOf and limitedAuditOf; these are their numbers, 0 for an answer
+-- ---- 1: 'A caller of any entry, with any numbers and any bytes, gets an answer or a refusal of document 01': the contracts of the five C entries
+-- (crates/heat_battery/src/lib.rt) equate what each returns and leaves with openOf, entryOf, advancedOf, limitedAuditOf and auditOf; these are their numbers, 0 for an answer
 
 abbrev pub OpeningNumbers : Type 0
 OpeningNumbers = (card rec free : List ℕ) → OneOf (0 ∷ 1 ∷ 2 ∷ 3 ∷ 4 ∷ 10 ∷ 11 ∷ []) (openOf 1 card rec free .code)
@@ -47,7 +47,7 @@ OwnRecordNumbers = (b : Battery) (call : List ℕ) → OneOf (0 ∷ 10 ∷ 20 �
 abbrev pub AuditVerdicts : Type 0
 AuditVerdicts = (bs : List ℕ) → Given (limitedAuditOf bs)
 
--- the library's auditor: the same without 44
+-- the auditor without a limit of length: the same without 44
 abbrev pub AuditorVerdicts : Type 0
 AuditorVerdicts = (bs : List ℕ) (r i : ℕ) → auditOf bs ≡ Refused r i → Known r i
 
@@ -112,6 +112,21 @@ ExactlyWhenInC = (bs : List ℕ) (n : ℕ) → length bs ≤ limit → (verdictW
 -- and that number tells the verdict
 abbrev pub WordTellsTheVerdict : Type 0
 WordTellsTheVerdict = (bs cs : List ℕ) → verdictWord (limitedAuditOf bs) ≡ verdictWord (limitedAuditOf cs) → limitedAuditOf bs ≡ limitedAuditOf cs
+
+-- the same of the refusal and the line that the C audit without a limit returns, for any length
+abbrev pub ExactlyWhenOfAnyLength : Type 0
+ExactlyWhenOfAnyLength =
+    (bs : List ℕ) (n : ℕ) → ((verdictFields (auditOf bs) .refusal ≡ 0) × (verdictFields (auditOf bs) .line ≡ n)) ↔ Sheet bs n
+
+-- and these two tell the verdict
+abbrev pub FieldsTellTheVerdict : Type 0
+FieldsTellTheVerdict =
+    (bs : List ℕ) (r i : ℕ) → 1 ≤ r → ((verdictFields (auditOf bs) .refusal ≡ r) × (verdictFields (auditOf bs) .line ≡ i)) ↔ (auditOf bs ≡ Refused r i)
+
+-- where both audits look at the lines, they say the same
+abbrev pub BothAuditsAgree : Type 0
+BothAuditsAgree =
+    (bs : List ℕ) → length bs ≤ limit → verdictWord (limitedAuditOf bs) ≡ verdictFields (auditOf bs) .line * 256 + verdictFields (auditOf bs) .refusal
 
 -- 'In each accepted sheet no zone is warmer after a standing loss, none cooler after an electric charge, and none altered by a refused or trial line.'
 abbrev pub ZonesMoveTheRightWay : Type 0

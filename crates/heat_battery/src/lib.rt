@@ -1,12 +1,14 @@
-// The C entries: opening a sheet and a call for laboratory A, the audit for laboratory B, and a call on the caller's own record.
+// The C entries: opening a sheet and a call for laboratory A, the audit for laboratory B with the limit of length and without, and a call on the
+// caller's own record.
 // include/heat_battery.h says what a caller must know.
+use auditor::AuditVerdict;
 use battery::Battery;
 use calls::ReadCall;
 use own_record::Shown;
 ghost use mathlib.Core.Path.{_≡_};
 ghost use mathlib.Core.Bool.{true};
 ghost use Rattle.calls.specs.Calls.{callOf};
-ghost use Rattle.auditor.specs.Audit.{verdictWord, limitedAuditOf};
+ghost use Rattle.auditor.specs.Audit.{verdictWord, verdictFields, auditOf, limitedAuditOf};
 ghost use Rattle.own_record.specs.Record.{advancedOf};
 ghost use Rattle.entry.specs.Entry.{WasAfter, openOf, recordLaid};
 ghost use Rattle.heat_battery.specs.Entries.{entryRead, entryOf};
@@ -56,6 +58,14 @@ pub extern "C" fn heat_battery_audit(sheet: &[u8]) -> u64
     ensures { λ r. ⌜ r ≡ verdictWord (limitedAuditOf (now (sheet .entry))) ⌝ }
 {
     auditor::limited_audit_word(sheet)
+}
+
+// Audits a sheet of any length: the refusal and its line, or 0 and the number of call lines.
+#[no_mangle]
+pub extern "C" fn heat_battery_audit_whole(sheet: &[u8]) -> AuditVerdict
+    ensures { λ r. ⌜ r ≡ verdictFields (auditOf (now (sheet .entry))) ⌝ }
+{
+    auditor::audit_fields(sheet)
 }
 
 // Advances the caller's own battery by a call: 10, or the steps. Answered, its first `count` zones and five totals are stored; refused, nothing is.

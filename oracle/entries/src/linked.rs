@@ -1,5 +1,6 @@
 //! The C entries of libheat_battery.a: each slice is a pointer and then a length.
 
+use oracle::auditor::Fields;
 use oracle::library::Library;
 
 extern "C" {
@@ -22,6 +23,8 @@ extern "C" {
     ) -> u8;
 
     fn heat_battery_audit(sheet: *const u8, sheet_len: usize) -> u64;
+
+    fn heat_battery_audit_whole(sheet: *const u8, sheet_len: usize) -> Fields;
 }
 
 pub struct Linked;
@@ -56,5 +59,9 @@ impl Library for Linked {
 
     fn audit(&self, sheet: &[u8]) -> u64 {
         unsafe { heat_battery_audit(sheet.as_ptr(), sheet.len()) }
+    }
+
+    fn audit_whole(&self, sheet: &[u8]) -> Fields {
+        unsafe { heat_battery_audit_whole(sheet.as_ptr(), sheet.len()) }
     }
 }

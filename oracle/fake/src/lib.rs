@@ -1,6 +1,7 @@
 //! A libheat_battery.a made of the oracle's own entries and auditor, to try the link driver
 //! with. The variable HEAT_BATTERY_FAULT puts one of the faults of `oracle::faults` in.
 
+use oracle::auditor::Fields;
 use oracle::faults::Faulty;
 use oracle::library::Library;
 use std::slice::{from_raw_parts, from_raw_parts_mut};
@@ -50,4 +51,11 @@ pub unsafe extern "C" fn heat_battery_call(
 #[no_mangle]
 pub unsafe extern "C" fn heat_battery_audit(sheet: *const u8, sheet_len: usize) -> u64 {
     library().audit(from_raw_parts(sheet, sheet_len))
+}
+
+/// # Safety
+/// The pointer is to as many bytes as its length says.
+#[no_mangle]
+pub unsafe extern "C" fn heat_battery_audit_whole(sheet: *const u8, sheet_len: usize) -> Fields {
+    library().audit_whole(from_raw_parts(sheet, sheet_len))
 }

@@ -3,16 +3,19 @@
 use crate::arguments::Arguments;
 use crate::failure::Failure;
 use crate::files;
-use heat_battery::{explain, Call, Difference, Explanation, Verdict, MOST_AUDITED};
+use heat_battery::{explain, is_too_long, Call, Difference, Explanation, Verdict, MOST_AUDITED};
 use std::fmt::Write;
 
 pub fn audit(arguments: &Arguments) -> Result<(), Failure> {
     let path = arguments.place(0);
-    let bytes = files::front(path, MOST_AUDITED)?;
+    let bytes = files::sheet(path)?;
     let verdict = heat_battery::audit(&bytes);
     let mut text = format!("{verdict}\n");
     if arguments.has("--explain") {
         text.push_str(&words(&bytes));
+    }
+    if is_too_long(&bytes) {
+        text.push_str(&program_words(bytes.len()));
     }
     files::print(&text)?;
     match verdict {
@@ -23,12 +26,17 @@ pub fn audit(arguments: &Arguments) -> Result<(), Failure> {
     }
 }
 
+/// Where the laboratory's program would answer 44.
+fn program_words(length: usize) -> String {
+    let said = "the laboratory's audit program would answer 'refused 44 line 0'";
+    format!("{said}: it reads at most {MOST_AUDITED} bytes, and this sheet has {length}\n")
+}
+
 fn words(bytes: &[u8]) -> String {
     match explain(bytes) {
         Explanation::Agreement => "every call line agrees with the steps\n".into(),
         Explanation::Damage(damage) => format!("line {}: {}\n", damage.line, damage.words),
         Explanation::Differences { line, call, fields } => differences(line, &call, &fields),
-        Explanation::TooLong => format!("more than {MOST_AUDITED} bytes; none is looked at\n"),
     }
 }
 

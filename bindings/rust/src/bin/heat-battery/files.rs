@@ -7,10 +7,8 @@ use std::fs::{self, File};
 use std::io::{self, ErrorKind, Read, Write};
 use std::path::Path;
 
-/// The most bytes of a sheet that is read.
-const MOST_SHEET: usize = 16 << 20;
-/// The most bytes of a text that is read.
-const MOST_TEXT: usize = 128 << 20;
+/// The most bytes of a file that is read; a year of half-hours has some ten million.
+const MOST: usize = 128 << 20;
 
 /// '-' is standard input and output.
 pub fn is_standard(path: &OsStr) -> bool {
@@ -29,33 +27,27 @@ fn trouble(path: &OsStr, words: impl std::fmt::Display) -> Failure {
     Failure::File(format!("{}: {words}", name(path)))
 }
 
-/// A file's first bytes, at most one more than `most`.
-pub fn front(path: &OsStr, most: usize) -> Result<Vec<u8>, Failure> {
+fn bytes(path: &OsStr) -> Result<Vec<u8>, Failure> {
     let mut bytes = Vec::new();
-    let limit = most as u64 + 1;
+    let limit = MOST as u64 + 1;
     let taken = match is_standard(path) {
         true => io::stdin().lock().take(limit).read_to_end(&mut bytes),
         false if Path::new(path).is_dir() => return Err(trouble(path, "is a folder")),
         false => File::open(path).and_then(|file| file.take(limit).read_to_end(&mut bytes)),
     };
     taken.map_err(|error| trouble(path, error))?;
-    Ok(bytes)
-}
-
-fn bytes(path: &OsStr, most: usize) -> Result<Vec<u8>, Failure> {
-    let bytes = front(path, most)?;
-    match bytes.len() > most {
-        true => Err(trouble(path, format!("has more than {most} bytes, too many to read"))),
+    match bytes.len() > MOST {
+        true => Err(trouble(path, format!("has more than {MOST} bytes, too many to read"))),
         false => Ok(bytes),
     }
 }
 
 pub fn sheet(path: &OsStr) -> Result<Vec<u8>, Failure> {
-    bytes(path, MOST_SHEET)
+    bytes(path)
 }
 
 pub fn text(path: &OsStr) -> Result<String, Failure> {
-    let bytes = bytes(path, MOST_TEXT)?;
+    let bytes = bytes(path)?;
     String::from_utf8(bytes).map_err(|_| trouble(path, "is no text (UTF-8)"))
 }
 

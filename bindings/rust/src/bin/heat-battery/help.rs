@@ -54,7 +54,7 @@ kWh, h, kW, °C, l/min, m/s, m. A refused call is reported with its number, its 
 line, and the list goes on: 20 to 25 stand on the sheet as a line, 10 and 11 leave no line.
 
   --stop        end at the first refused call; the sheet so far is written
-  --most BYTES  let the sheet grow to so many bytes (the audit reads at most 65536)
+  --most BYTES  let the sheet grow to so many bytes (the audit program reads 65536)
 
 Status: 0 every call was answered; 1 a call or the card was refused; 2 bad usage or a bad file.
 ";
@@ -79,7 +79,9 @@ with the number of call lines, or 'refused R line K':
   41  the card line is missing, of wrong length or its card is refused
   42  a call line is cut short, of unknown kind or wrong length, or a field is out of range
   43  an answer disagrees with the steps
-  44  more than 65,536 bytes
+
+The laboratory's audit program reads at most 65,536 bytes and answers 'refused 44 line 0' to a
+longer sheet. Here such a sheet is audited too, and a last line says what the program would answer.
 
   --explain     say which field it is, what the sheet says and what the steps give
 

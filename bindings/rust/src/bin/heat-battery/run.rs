@@ -78,7 +78,8 @@ impl List {
         let (lines, bytes) = (self.sheet.len(), self.sheet.as_bytes().len());
         note(&format!("{calls} calls, {} refused: {lines} lines, {bytes} bytes", self.refused));
         if bytes > MOST_AUDITED {
-            note(&format!("the audit reads at most {MOST_AUDITED} bytes and will refuse it (44)"));
+            let said = "the laboratory's audit program reads at most";
+            note(&format!("{said} {MOST_AUDITED} bytes and would refuse it with 44"));
         }
         match self.refused {
             0 => Ok(()),
