@@ -32,8 +32,8 @@ fn the_fingerprint_stands_beside_the_verdict() {
 fn the_pages_have_the_fingerprint() {
     let page = fs::read_to_string(examples().join("../docs/FORMAT.md")).unwrap();
     assert!(page.contains("`49f80dbf`") && page.contains("CRC-32"));
-    let page = fs::read_to_string(examples().join("../bindings/rust/README.md")).unwrap();
-    assert!(page.contains("3ce57cdf") && page.contains("CRC-32"));
+    let page = include_str!("../README.md");
+    assert!(page.contains("card 3ce57cdf") && page.contains("CRC-32"));
 }
 
 /// Every bit of the card counts.
