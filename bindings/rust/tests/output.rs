@@ -18,7 +18,7 @@ fn salt() -> String {
 fn output_is_written_whole_or_not_at_all() {
     let folder = Folder::new("whole");
     let short = |words: &[&str]| {
-        let line = "trap '' XFSZ; ulimit -f 8; \"$@\"";
+        let line = "trap '' XFSZ; ulimit -f 4; \"$@\"";
         let ended = run_by_shell(line, words);
         ended.assert_failed(words[0]);
         assert_eq!(ended.status, 2, "{}", ended.err);
