@@ -106,8 +106,14 @@ pub struct Answer {
     /// None on an answered line; else energy, time and substeps are 0, and zones and totals
     /// are as before.
     pub refusal: Option<Refusal>,
-    /// kWh; for a state of charge, 0 to 1.
+    /// Heat that moved, kWh; 0 where only a question was asked, so that energies can be summed.
     pub energy: f64,
+    /// What the demand of a trial would get, kWh; on no other line.
+    pub trial_energy: Option<f64>,
+    /// The answer to a state of charge, 0 to 1; on no other line.
+    pub state_of_charge: Option<f64>,
+    /// The answer to a charge energy demand, kWh; on no other line.
+    pub charge_energy_demand: Option<f64>,
     /// Outlet temperature in °C of a demand that ran.
     pub outlet: Option<f64>,
     /// Time that a demand ran, s.
@@ -129,23 +135,66 @@ impl Answer {
         }
     }
 
+    /// The number that stands where the line of a call has its energy: the energy, or the answer
+    /// to the question.
+    pub fn figure(&self) -> f64 {
+        let answered = self.trial_energy.or(self.state_of_charge).or(self.charge_energy_demand);
+        answered.unwrap_or(self.energy)
+    }
+
     /// Bytes that follow kind and call fields.
     pub(crate) fn bytes(layers: u8) -> usize {
         HEAD_BYTES + state_bytes(layers)
     }
 
-    /// Reads an answer; the error in words.
-    pub(crate) fn read(layers: u8, bytes: &mut Cursor) -> Result<Answer, String> {
+    /// Reads the answer to a call; the error in words.
+    pub(crate) fn read(call: &Call, layers: u8, bytes: &mut Cursor) -> Result<Answer, String> {
         let short = || "cut short".to_string();
+        let refusal = Refusal::from_number(bytes.byte().ok_or_else(short)?);
+        let figure = bytes.number().ok_or_else(short)?;
+        let Figures { energy, trial_energy, state_of_charge, charge_energy_demand } =
+            Figures::of(call, refusal, figure);
         Ok(Answer {
-            refusal: Refusal::from_number(bytes.byte().ok_or_else(short)?),
-            energy: bytes.number().ok_or_else(short)?,
+            refusal,
+            energy,
+            trial_energy,
+            state_of_charge,
+            charge_energy_demand,
             outlet: optional(bytes).map_err(|words| format!("outlet: {words}"))?,
             time: bytes.number().ok_or_else(short)?,
             substeps: bytes.count().ok_or_else(short)?,
             zones: read_zones(layers, bytes).ok_or_else(short)?,
             totals: read_totals(bytes).ok_or_else(short)?,
         })
+    }
+}
+
+/// What the figure of a call's line means.
+#[derive(Default)]
+pub(crate) struct Figures {
+    pub energy: f64,
+    pub trial_energy: Option<f64>,
+    pub state_of_charge: Option<f64>,
+    pub charge_energy_demand: Option<f64>,
+}
+
+impl Figures {
+    /// A refused question has no answer; its figure, 0 on a good line, stays where it stands.
+    #[inline]
+    pub fn of(call: &Call, refusal: Option<Refusal>, figure: f64) -> Figures {
+        let answer = Some(figure);
+        match (call, refusal) {
+            (Call::Demand { commit: false, .. }, None) => {
+                Figures { trial_energy: answer, ..Figures::default() }
+            }
+            (Call::StateOfCharge, None) => {
+                Figures { state_of_charge: answer, ..Figures::default() }
+            }
+            (Call::ChargeEnergyDemand { .. }, None) => {
+                Figures { charge_energy_demand: answer, ..Figures::default() }
+            }
+            _ => Figures { energy: figure, ..Figures::default() },
+        }
     }
 }
 

@@ -138,7 +138,7 @@ fn first_trouble(sheet: &[u8]) -> Result<Option<Disagreement>, Damage> {
 pub fn differences(shown: &Answer, given: &Answer) -> Vec<Difference> {
     let mut found = Found(Vec::new());
     found.compare("refusal", &refusal_number(shown), &refusal_number(given));
-    found.number("energy, kWh", shown.energy, given.energy);
+    found.number(figure_name(shown, given), shown.figure(), given.figure());
     if shown.outlet != given.outlet {
         found.add("outlet, °C", optional(shown.outlet), optional(given.outlet));
     }
@@ -152,6 +152,20 @@ pub fn differences(shown: &Answer, given: &Answer) -> Vec<Difference> {
         found.number(&format!("{name}, {unit}"), shown, given);
     }
     found.0
+}
+
+/// What the figure of two answers to one call is.
+fn figure_name(shown: &Answer, given: &Answer) -> &'static str {
+    let has = |part: fn(&Answer) -> Option<f64>| part(shown).or(part(given)).is_some();
+    if has(|answer| answer.state_of_charge) {
+        "state of charge"
+    } else if has(|answer| answer.charge_energy_demand) {
+        "charge energy demand, kWh"
+    } else if has(|answer| answer.trial_energy) {
+        "energy of the trial, kWh"
+    } else {
+        "energy, kWh"
+    }
 }
 
 fn refusal_number(answer: &Answer) -> u8 {

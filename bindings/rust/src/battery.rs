@@ -30,10 +30,10 @@ pub(crate) fn line_bytes(call: usize, layers: u8) -> usize {
 /// use heat_battery::{Battery, Call, Card, Refusal, ServiceType};
 ///
 /// let mut battery = Battery::open(&Card::example())?;
-/// let half = battery.call(&Call::StateOfCharge)?.energy;
+/// let half = battery.state_of_charge()?;
 /// assert!(half > 0.0 && half < 1.0);
 /// battery.call(&Call::Electric { power: 3.0, target: 1.0 })?;
-/// assert!(battery.call(&Call::StateOfCharge)?.energy > half);
+/// assert!(battery.state_of_charge()? > half);
 ///
 /// let before = battery.zones();
 /// let demand = Call::Demand {
@@ -82,13 +82,13 @@ impl Battery {
     /// let battery = Battery::with_state(&card, &[58.5; 8], &Totals::default())?;
     /// assert_eq!(*battery.zones(), [58.5; 8]);
     /// let refused = Battery::with_state(&card, &[f64::NAN; 8], &Totals::default());
-    /// assert_eq!(refused.err(), Some(Refusal::CallField));
+    /// assert_eq!(refused.err(), Some(Refusal::BadBattery));
     /// # Ok::<(), Refusal>(())
     /// ```
     pub fn with_state(card: &Card, zones: &[f64], totals: &Totals) -> Result<Battery, Refusal> {
         card.check()?;
         if zones.len() != usize::from(card.layers) {
-            return Err(Refusal::CallField);
+            return Err(Refusal::BadBattery);
         }
         Battery::of(card, zones, totals).tested()
     }
@@ -104,9 +104,9 @@ impl Battery {
     /// A battery from the bytes of its card, zones and totals: 10 where it isn't good.
     pub fn from_bytes(bytes: &[u8]) -> Result<Battery, Refusal> {
         let card = bytes.get(..Card::BYTES).and_then(|card| Card::from_bytes(card).ok());
-        let card = card.filter(|card| card.check().is_ok()).ok_or(Refusal::CallField)?;
+        let card = card.filter(|card| card.check().is_ok()).ok_or(Refusal::BadBattery)?;
         if bytes.len() != Card::BYTES + state_bytes(card.layers) {
-            return Err(Refusal::CallField);
+            return Err(Refusal::BadBattery);
         }
         let mut record = Buffer::new();
         record.push(bytes);
@@ -115,8 +115,10 @@ impl Battery {
 
     /// The battery where the engine takes it. A state of charge is asked, which changes nothing.
     fn tested(self) -> Result<Battery, Refusal> {
-        self.clone().answer(&Call::StateOfCharge)?;
-        Ok(self)
+        match self.clone().answer(&Call::StateOfCharge) {
+            Ok(_) => Ok(self),
+            Err(_) => Err(Refusal::BadBattery),
+        }
     }
 
     /// Card, zones and totals as the C entries take them.
@@ -144,6 +146,32 @@ impl Battery {
         self.state().unzip().1.unwrap_or_default()
     }
 
+    /// The state of charge, 0 to 1. Refusals 23 and 25.
+    pub fn state_of_charge(&self) -> Result<f64, Refusal> {
+        Ok(self.clone().call(&Call::StateOfCharge)?.figure())
+    }
+
+    /// How much energy a charge to a level would take, kWh, with water of at most `flow_maximum`
+    /// °C where that is given. Refusals 10, 23 and 25.
+    ///
+    /// ```
+    /// use heat_battery::{Battery, Card, Refusal};
+    ///
+    /// let battery = Battery::open(&Card::example())?;
+    /// let full = battery.charge_energy_demand(None, 1.0)?;
+    /// let lukewarm = battery.charge_energy_demand(Some(60.0), 1.0)?;
+    /// assert!(0.0 < lukewarm && lukewarm < full);
+    /// # Ok::<(), Refusal>(())
+    /// ```
+    pub fn charge_energy_demand(
+        &self,
+        flow_maximum: Option<f64>,
+        target: f64,
+    ) -> Result<f64, Refusal> {
+        let call = Call::ChargeEnergyDemand { flow_maximum, target };
+        Ok(self.clone().call(&call)?.figure())
+    }
+
     /// Makes a call, with no sheet. Refusals 10 and 20 to 25; the battery is then as it was.
     pub fn call(&mut self, call: &Call) -> Result<Answer, Refusal> {
         self.answer(call)?.result()
@@ -161,15 +189,15 @@ impl Battery {
         let result = call.with_bytes(|bytes| ffi::call(self.record.as_mut(), bytes, sheet));
         match Refusal::from_number(result) {
             Some(refusal) if !refusal.is_line() => Err(refusal),
-            _ => self.read_answer(call.kind().bytes(), sheet).ok_or(Refusal::CallField),
+            _ => self.read_answer(call, sheet).ok_or(Refusal::CallField),
         }
     }
 
-    /// The answer on the line at the front of a sheet, behind as many bytes of a call.
-    fn read_answer(&self, call: usize, sheet: &[u8]) -> Option<Answer> {
-        let layers = self.card.layers;
-        let answer = sheet.get(2 + call..line_bytes(call, layers))?;
-        Answer::read(layers, &mut Cursor(answer)).ok()
+    /// The answer on the line of a call at the front of a sheet.
+    fn read_answer(&self, call: &Call, sheet: &[u8]) -> Option<Answer> {
+        let (length, layers) = (call.kind().bytes(), self.card.layers);
+        let answer = sheet.get(2 + length..line_bytes(length, layers))?;
+        Answer::read(call, layers, &mut Cursor(answer)).ok()
     }
 }
 

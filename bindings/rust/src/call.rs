@@ -198,6 +198,11 @@ impl Call {
         }
     }
 
+    /// Whether it only asks, and moves no heat: a trial, a state of charge, a charge energy demand.
+    pub fn is_question(&self) -> bool {
+        self.is_trial() || matches!(self, Call::StateOfCharge | Call::ChargeEnergyDemand { .. })
+    }
+
     /// Whether it is a demand that commits to nothing.
     pub fn is_trial(&self) -> bool {
         matches!(self, Call::Demand { commit: false, .. })
@@ -289,9 +294,11 @@ impl Call {
     /// Every reason for which refusal 10 applies to the call with this card; none where it
     /// doesn't.
     pub fn faults(&self, card: &Card) -> Vec<Fault> {
-        let fields = self.fields();
-        let words = fields.iter().filter_map(|(field, value)| on_card(field, card).fault(value));
-        words.map(|words| Fault { refusal: Refusal::CallField, words }).collect()
+        let fault = |(field, value): &(&'static Field, Value)| {
+            let words = on_card(field, card).fault(value)?;
+            Some(Fault { field: field.name, refusal: Refusal::CallField, words })
+        };
+        self.fields().iter().filter_map(fault).collect()
     }
 
     /// Hands on the kind and the call fields as on the sheet, where they were gathered: a copy

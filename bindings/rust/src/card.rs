@@ -139,11 +139,12 @@ impl Card {
     /// Every reason for which the card is refused, in words; none where it is accepted. The
     /// first has the refusal that [`Card::check`] gives.
     pub fn faults(&self) -> Vec<Fault> {
-        let fields = Card::FIELDS.iter().zip(self.values());
-        let mut faults: Vec<Fault> = fields
-            .filter_map(|(field, value)| field.fault(&value))
-            .map(|words| Fault { refusal: Refusal::CardField, words })
-            .collect();
+        let fault = |(field, value): (&Field, Value)| {
+            let words = field.fault(&value)?;
+            Some(Fault { field: field.name, refusal: Refusal::CardField, words })
+        };
+        let mut faults: Vec<Fault> =
+            Card::FIELDS.iter().zip(self.values()).filter_map(fault).collect();
         faults.extend(self.faults_between());
         faults
     }
@@ -152,18 +153,18 @@ impl Card {
     fn faults_between(&self) -> Vec<Fault> {
         let Card { lower, upper, max, reference, .. } = *self;
         let mut faults = Vec::new();
-        let mut fault = |refusal, words| faults.push(Fault { refusal, words });
+        let mut fault = |field, refusal, words| faults.push(Fault { field, refusal, words });
         if lower > upper {
             let words = format!("lower is {lower:?}, above upper, which is {upper:?}");
-            fault(Refusal::LowerAboveUpper, words);
+            fault("lower", Refusal::LowerAboveUpper, words);
         }
         if max <= 20.0 {
-            fault(Refusal::MaxTooLow, format!("max is {max:?}, not above 20 °C"));
+            fault("max", Refusal::MaxTooLow, format!("max is {max:?}, not above 20 °C"));
         }
         if max < reference || (max - reference).abs() <= NEARLY {
             let words =
                 format!("max is {max:?}, not clearly above reference, which is {reference:?}");
-            fault(Refusal::NothingToStore, words);
+            fault("max", Refusal::NothingToStore, words);
         }
         faults
     }

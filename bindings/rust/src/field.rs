@@ -94,6 +94,8 @@ pub struct Field {
 /// One reason why a card or a call is refused.
 #[derive(Clone, Debug, PartialEq, Eq)]
 pub struct Fault {
+    /// The field, of two the first that is named.
+    pub field: &'static str,
     /// 1 to 4 for a card, 10 for a call.
     pub refusal: Refusal,
     /// The field, what it is and its range.
@@ -224,7 +226,7 @@ impl Field {
         Some(self.out_of_range(&value.to_string()))
     }
 
-    fn out_of_range(&self, value: &str) -> String {
+    pub(crate) fn out_of_range(&self, value: &str) -> String {
         format!("{} is {value}, out of its range {}", self.name, self.range())
     }
 
@@ -253,39 +255,6 @@ impl Field {
 
     fn read_optional(&self, bytes: &mut Cursor) -> Result<Value, String> {
         optional(bytes).map(Value::Optional).map_err(|words| format!("{}: {words}", self.name))
-    }
-
-    /// Reads the value from text.
-    pub(crate) fn parse(&self, text: &str) -> Result<Value, String> {
-        let other = || format!("{} is {}, not {}", self.name, quoted(text), self.range());
-        match self.shape {
-            Shape::Byte => self.parse_whole(text).map(|n| n.try_into().map(Value::Byte)),
-            Shape::Short => self.parse_whole(text).map(|n| n.try_into().map(Value::Short)),
-            Shape::Flag => match text {
-                "yes" | "1" => Ok(Ok(Value::Flag(true))),
-                "no" | "0" => Ok(Ok(Value::Flag(false))),
-                _ => Err(other()),
-            },
-            Shape::Service => {
-                let found = ServiceType::ALL.into_iter().find(|service| service.name() == text);
-                found.map(|service| Ok(Value::Service(service))).ok_or_else(other)
-            }
-            Shape::Optional if text == "none" => Ok(Ok(Value::Optional(None))),
-            Shape::Optional => self.parse_number(text).map(|x| Ok(Value::Optional(Some(x)))),
-            Shape::Number => self.parse_number(text).map(|x| Ok(Value::Number(x))),
-        }?
-        .map_err(|_| self.out_of_range(text))
-    }
-
-    fn parse_whole(&self, text: &str) -> Result<i128, String> {
-        text.parse().map_err(|_| format!("{} is {}, no whole number", self.name, quoted(text)))
-    }
-
-    fn parse_number(&self, text: &str) -> Result<f64, String> {
-        text.parse().map_err(|_| {
-            let comma = if text.contains(',') { " (write a point, not a comma)" } else { "" };
-            format!("{} is {}, no number{comma}", self.name, quoted(text))
-        })
     }
 }
 
@@ -320,12 +289,4 @@ fn short(x: f64) -> String {
         size if size != 0.0 && !(1e-4..1e6).contains(&size) => format!("{x:e}"),
         _ => format!("{x}"),
     }
-}
-
-/// Text of a file inside quotation marks, cut and free of control characters.
-pub(crate) fn quoted(text: &str) -> String {
-    const MOST: usize = 40;
-    let cut: String = text.chars().take(MOST).collect();
-    let dots = if text.chars().nth(MOST).is_some() { "..." } else { "" };
-    format!("'{}{dots}'", cut.escape_debug())
 }

@@ -1,11 +1,13 @@
 //! The proved zone engine for heat batteries filled with salt hydrates, called from Rust.
 //!
 //! The engine, the writer of the run sheet and its auditor are proved against their
-//! definitions; this crate lends them bytes and reads the answers. It has no arithmetic of
-//! its own: every figure comes from the static library libheat_battery.a.
+//! definitions; this crate lends them bytes and reads the answers. Every figure of an answer
+//! comes from the static library libheat_battery.a; only what a demand lacks ([`shortfall`]) is
+//! worked out here.
 //!
 //! - [`Card`] describes a battery, [`Battery`] is one, a [`Call`] asks something of it and an
-//!   [`Answer`] has energy, outlet, zones and totals. [`Record`] is a battery as a record of
+//!   [`Answer`] has energy, outlet, zones and totals; what was only asked, such as a state of
+//!   charge, stands apart from energy. [`Record`] is a battery as a record of
 //!   numbers, for long lists of calls.
 //! - [`Sheet`] is a battery with the sheet of its calls; [`audit()`] gives the [`Verdict`] on a
 //!   sheet, [`explain`] what lies behind it, [`read`] its card and lines.
@@ -54,12 +56,19 @@ mod card;
 #[allow(unsafe_code)]
 pub mod ffi;
 mod field;
+mod fingerprint;
+mod form;
+mod looks;
+mod nearest;
+mod parse;
 mod ranges;
 mod reading;
 mod record;
 mod refusal;
 mod sheet;
+mod slips;
 pub mod text;
+mod unmet;
 
 pub use answer::{Answer, Line, Totals, Zones, MOST_LAYERS};
 pub use audit::{
@@ -69,10 +78,13 @@ pub use battery::Battery;
 pub use call::{Call, Kind};
 pub use card::Card;
 pub use field::{Fault, Field, ServiceType, Shape, Value};
+pub use fingerprint::Fingerprint;
+pub use looks::{looks, Looks};
 pub use reading::{read, Damage, Lines, VERSION};
 pub use record::Record;
 pub use refusal::Refusal;
 pub use sheet::Sheet;
+pub use unmet::{shortfall, Unmet, LEAST_SHORTFALL};
 
 /// The examples of README.md are tests.
 #[cfg(doctest)]

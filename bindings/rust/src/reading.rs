@@ -97,7 +97,7 @@ impl Lines<'_> {
         if let Some(fault) = call.faults(&self.card).first() {
             return Err(fault.words.clone());
         }
-        let answer = Answer::read(self.card.layers, &mut bytes)?;
+        let answer = Answer::read(&call, self.card.layers, &mut bytes)?;
         Ok(Line { index: self.index, call, answer })
     }
 }

@@ -1,6 +1,6 @@
 //! A battery as a record of numbers.
 
-use crate::answer::{Answer, Totals, Zones};
+use crate::answer::{Answer, Figures, Totals, Zones};
 use crate::battery::{debug, Battery};
 use crate::call::Call;
 use crate::card::Card;
@@ -89,6 +89,22 @@ impl Record {
         Totals::from_numbers(self.0.totals)
     }
 
+    /// The state of charge, 0 to 1. Refusals 23 and 25.
+    pub fn state_of_charge(&self) -> Result<f64, Refusal> {
+        Ok(self.clone().advance(&Call::StateOfCharge)?.figure())
+    }
+
+    /// How much energy a charge to a level would take, kWh, with water of at most `flow_maximum`
+    /// °C where that is given. Refusals 10, 23 and 25.
+    pub fn charge_energy_demand(
+        &self,
+        flow_maximum: Option<f64>,
+        target: f64,
+    ) -> Result<f64, Refusal> {
+        let call = Call::ChargeEnergyDemand { flow_maximum, target };
+        Ok(self.clone().advance(&call)?.figure())
+    }
+
     /// Advances the battery by a call. Refusals 10 and 20 to 25; the battery is then as it was.
     ///
     /// ```
@@ -106,7 +122,7 @@ impl Record {
         let shown = call.with_bytes(|bytes| ffi::advance(&mut self.0, bytes));
         match Refusal::from_number(shown.refusal) {
             Some(refusal) => Err(refusal),
-            None => Ok(self.shown(None, &shown)),
+            None => Ok(self.shown(call, None, &shown)),
         }
     }
 
@@ -117,16 +133,21 @@ impl Record {
         let shown = call.with_bytes(|bytes| ffi::advance(&mut self.0, bytes));
         match Refusal::from_number(shown.refusal) {
             Some(refusal) if !refusal.is_line() => Err(refusal),
-            refusal => Ok(self.shown(refusal, &shown)),
+            refusal => Ok(self.shown(call, refusal, &shown)),
         }
     }
 
     /// The line's answer, with the battery as it is now.
     #[inline]
-    fn shown(&self, refusal: Option<Refusal>, shown: &ffi::Shown) -> Answer {
+    fn shown(&self, call: &Call, refusal: Option<Refusal>, shown: &ffi::Shown) -> Answer {
+        let Figures { energy, trial_energy, state_of_charge, charge_energy_demand } =
+            Figures::of(call, refusal, shown.energy);
         Answer {
             refusal,
-            energy: shown.energy,
+            energy,
+            trial_energy,
+            state_of_charge,
+            charge_energy_demand,
             outlet: (shown.mark == 1).then_some(shown.outlet),
             time: shown.time,
             substeps: shown.substeps,

@@ -26,6 +26,8 @@ pub enum Refusal {
     NothingToStore,
     /// 10, a call without a line.
     CallField,
+    /// 10 too: the battery that was handed in.
+    BadBattery,
     /// 11, a call without a line, or an opening.
     NoRoom,
     /// 20, as a line.
@@ -55,15 +57,16 @@ pub enum Refusal {
 }
 
 /// Each refusal with its number and its meaning.
-const REFUSALS: [(Refusal, u8, &str); 17] = [
+const REFUSALS: [(Refusal, u8, &str); 18] = [
     (Refusal::CardField, 1, "a card field is not finite or out of range"),
     (Refusal::LowerAboveUpper, 2, "lower is above upper"),
     (Refusal::MaxTooLow, 3, "max is at most 20 °C"),
     (Refusal::NothingToStore, 4, "max is below ref or nearly equal to it"),
+    (Refusal::CallField, 10, "a call field is not finite or out of range"),
     (
-        Refusal::CallField,
+        Refusal::BadBattery,
         10,
-        "a call field is not finite or out of range, or the battery handed in is not good",
+        "the battery handed in has another length, a refused card, or a zone or total that is not finite",
     ),
     (Refusal::NoRoom, 11, "fewer free sheet bytes than the line needs"),
     (Refusal::NoReturnTemperature, 20, "required above 1e-10 without a return temperature"),
@@ -88,7 +91,8 @@ const REFUSALS: [(Refusal, u8, &str); 17] = [
 ];
 
 impl Refusal {
-    /// The refusal of a number; None for 0, which is no refusal.
+    /// The refusal of a number; None for 0, which is no refusal. 10 is read as that of a call,
+    /// though the C entries give it for a bad battery too.
     pub fn from_number(number: u8) -> Option<Refusal> {
         if number == 0 {
             return None;

@@ -19,142 +19,87 @@
 
 use crate::call::{Call, Kind};
 use crate::card::Card;
-use crate::field::{quoted, Field, Value};
+use crate::form::Form;
+pub use crate::nearest::{hint, nearest};
+use crate::parse::quoted;
+use crate::refusal::Refusal;
+pub use crate::slips::{Slip, Slips};
 use std::fmt;
 use std::str::FromStr;
 
-/// One thing wrong in a text.
-#[derive(Clone, Debug, PartialEq, Eq)]
-pub struct Slip {
-    /// The line of the text, from 1; None for the whole text.
-    pub line: Option<usize>,
-    /// What is wrong.
-    pub words: String,
-}
-
-impl fmt::Display for Slip {
-    fn fmt(&self, f: &mut fmt::Formatter<'_>) -> fmt::Result {
-        match self.line {
-            Some(line) => write!(f, "line {line}: {}", self.words),
-            None => f.write_str(&self.words),
-        }
-    }
-}
-
-/// Everything wrong in a text, in the order of its lines.
-#[derive(Clone, Debug, PartialEq, Eq)]
-pub struct Slips(pub Vec<Slip>);
-
-impl fmt::Display for Slips {
-    fn fmt(&self, f: &mut fmt::Formatter<'_>) -> fmt::Result {
-        for (at, slip) in self.0.iter().enumerate() {
-            let gap = if at == 0 { "" } else { "\n" };
-            write!(f, "{gap}{slip}")?;
-        }
-        Ok(())
-    }
-}
-
-impl std::error::Error for Slips {}
-
 /// Lines without comments and blanks, each with its number.
-fn bare_lines(text: &str) -> impl Iterator<Item = (usize, &str)> {
+pub(crate) fn bare_lines(text: &str) -> impl Iterator<Item = (usize, &str)> {
     let text = text.strip_prefix('\u{feff}').unwrap_or(text);
     let bare = text.lines().map(|line| line.split('#').next().unwrap_or_default().trim());
     bare.enumerate().map(|(at, line)| (at + 1, line)).filter(|(_, line)| !line.is_empty())
 }
 
-/// A field's place in a form.
-#[derive(Clone, Copy, PartialEq)]
-enum Place {
-    Empty,
-    /// Something stood there that is no value.
-    Slip,
-    Filled(Value),
+/// A card and the lines of the text that its fields stand on.
+#[derive(Clone, Debug, PartialEq)]
+pub struct ListedCard {
+    /// The card, of any numbers.
+    pub card: Card,
+    /// The line of each field, from 1, in the order of [`Card::FIELDS`].
+    pub lines: Vec<usize>,
 }
 
-/// Fields that are filled one by one, by name.
-struct Form<'a>(Vec<(&'a Field, Place)>);
-
-/// Longer lists of names are left out of messages.
-const MOST_NAMES: usize = 9;
-
-impl<'a> Form<'a> {
-    fn new(fields: &'a [Field]) -> Form<'a> {
-        Form(fields.iter().map(|field| (field, Place::Empty)).collect())
-    }
-
-    fn fill(&mut self, name: &str, text: &str) -> Result<(), String> {
-        let found = self.0.iter_mut().find(|(field, _)| field.name == name);
-        let Some((field, place)) = found else { return Err(self.unknown(name)) };
-        if *place != Place::Empty {
-            return Err(format!("{name} stands twice"));
+impl ListedCard {
+    /// Every reason for which the card is refused, with its line.
+    pub fn faults(&self) -> Slips {
+        let mut slips = Slips::default();
+        for fault in self.card.faults() {
+            let at = Card::FIELDS.iter().position(|field| field.name == fault.field);
+            let line = at.and_then(|at| self.lines.get(at)).copied();
+            slips.add(Slip { line, words: fault.words, refusal: Some(fault.refusal) });
         }
-        *place = Place::Slip;
-        *place = Place::Filled(field.parse(text)?);
-        Ok(())
-    }
-
-    fn unknown(&self, name: &str) -> String {
-        let names: Vec<&str> = self.0.iter().map(|(field, _)| field.name).collect();
-        let more = match names.len() {
-            0 => ": none is expected".into(),
-            1..=MOST_NAMES => format!("; the fields are {}", names.join(", ")),
-            _ => String::new(),
-        };
-        format!("{} is no field{more}", quoted(name))
-    }
-
-    /// What is missing, in words; None where every field has stood.
-    fn missing(&self) -> Option<String> {
-        let empty = self.0.iter().filter(|(_, place)| *place == Place::Empty);
-        let names: Vec<String> =
-            empty.map(|(field, _)| format!("{} ({})", field.name, field.range())).collect();
-        (!names.is_empty()).then(|| format!("missing: {}", names.join(", ")))
-    }
-
-    fn filled(&self) -> impl Iterator<Item = (&Field, Value)> {
-        self.0.iter().filter_map(|(field, place)| match place {
-            Place::Filled(value) => Some((*field, *value)),
-            Place::Empty | Place::Slip => None,
-        })
-    }
-
-    /// What is out of range, in words.
-    fn faults(&self) -> impl Iterator<Item = String> + '_ {
-        self.filled().filter_map(|(field, value)| field.fault(&value))
-    }
-
-    fn values(&self) -> Vec<Value> {
-        self.filled().map(|(_, value)| value).collect()
+        slips
     }
 }
 
-/// The most slips that are gathered.
-const MOST_SLIPS: usize = 20;
+/// A card of any numbers, with its lines; [`Card::check`] says whether it is refused.
+///
+/// ```
+/// use heat_battery::{text, Card};
+///
+/// let listed = text::card(&Card { lower: 60.0, ..Card::example() }.to_string()).unwrap();
+/// assert_eq!(
+///     listed.faults().to_string(),
+///     "line 13: lower is 60.0, above upper, which is 59.0 (refusal 2)"
+/// );
+/// ```
+pub fn card(text: &str) -> Result<ListedCard, Slips> {
+    let mut form = Form::new(&Card::FIELDS);
+    let mut slips = Slips::default();
+    let unread = |line, words| Slip { line, words, refusal: None };
+    for (number, line) in bare_lines(text) {
+        let filled = match line.split_once('=') {
+            Some((name, value)) => form.fill(number, name.trim(), value.trim()),
+            None => Err(unread(Some(number), format!("{} is no 'name = value'", quoted(line)))),
+        };
+        filled.unwrap_or_else(|slip| slips.add(slip));
+    }
+    if let Some(words) = form.missing() {
+        slips.add(unread(None, words));
+    }
+    if !slips.is_empty() {
+        for (field, value, line) in form.filled() {
+            if let Some(words) = field.fault(&value) {
+                slips.add(Slip { line: Some(line), words, refusal: Some(Refusal::CardField) });
+            }
+        }
+        return Err(slips);
+    }
+    let lines = form.filled().map(|(_, _, line)| line).collect();
+    let card = Card::from_values(&form.values());
+    card.map(|card| ListedCard { card, lines }).ok_or(slips)
+}
 
 impl FromStr for Card {
     type Err = Slips;
 
     /// A card of any numbers; [`Card::check`] says whether it is refused.
     fn from_str(text: &str) -> Result<Card, Slips> {
-        let mut form = Form::new(&Card::FIELDS);
-        let mut slips = Vec::new();
-        for (number, line) in bare_lines(text) {
-            let filled = match line.split_once('=') {
-                Some((name, value)) => form.fill(name.trim(), value.trim()),
-                None => Err(format!("{} is no 'name = value'", quoted(line))),
-            };
-            slips.extend(filled.err().map(|words| Slip { line: Some(number), words }));
-            if slips.len() >= MOST_SLIPS {
-                return Err(Slips(slips));
-            }
-        }
-        slips.extend(form.missing().map(|words| Slip { line: None, words }));
-        if !slips.is_empty() {
-            slips.extend(form.faults().map(|words| Slip { line: None, words }));
-        }
-        Card::from_values(&form.values()).filter(|_| slips.is_empty()).ok_or(Slips(slips))
+        card(text).map(|listed| listed.card)
     }
 }
 
@@ -175,13 +120,15 @@ impl FromStr for Call {
     type Err = Slips;
 
     fn from_str(text: &str) -> Result<Call, Slips> {
-        let slip = |words: &str| Slips(vec![Slip { line: None, words: words.into() }]);
-        let mut lines = bare_lines(text);
-        let (_, line) = lines.next().ok_or_else(|| slip("no call"))?;
-        if lines.next().is_some() {
-            return Err(slip("more than one call"));
-        }
-        call(line).map_err(|words| slip(&words))
+        let listed = calls(text)?;
+        let words = match listed.as_slice() {
+            [listed] => return Ok(listed.call),
+            [] => "no call",
+            _ => "more than one call",
+        };
+        let mut slips = Slips::default();
+        slips.add(Slip { line: None, words: words.into(), refusal: None });
+        Err(slips)
     }
 }
 
@@ -196,25 +143,33 @@ impl fmt::Display for Call {
     }
 }
 
-/// A call of a bare line.
-fn call(line: &str) -> Result<Call, String> {
+/// A call of a bare line with its number.
+fn call(number: usize, line: &str) -> Result<Call, Slip> {
+    let slip = |words| Slip { line: Some(number), words, refusal: None };
     let mut words = line.split_whitespace();
     let name = words.next().unwrap_or_default();
-    let kind = Kind::ALL.into_iter().find(|kind| kind.name() == name).ok_or_else(|| {
-        let names = Kind::ALL.map(|kind| kind.name()).join(", ");
-        format!("{} is no call; the calls are {names}", quoted(name))
-    })?;
+    let kind = Kind::ALL.into_iter().find(|kind| kind.name() == name);
+    let kind = kind.ok_or_else(|| slip(no_call(name)))?;
     let mut form = Form::new(kind.fields());
     for word in words {
         let split =
             word.split_once('=').filter(|(name, value)| !name.is_empty() && !value.is_empty());
-        let (name, value) =
-            split.ok_or_else(|| format!("{} is no name=value (without blanks)", quoted(word)))?;
-        form.fill(name, value)?;
+        let no_field = || slip(format!("{} is no name=value (without blanks)", quoted(word)));
+        let (name, value) = split.ok_or_else(no_field)?;
+        form.fill(number, name, value)?;
     }
     match form.missing() {
-        Some(words) => Err(words),
-        None => Call::from_values(kind, &form.values()).ok_or_else(|| "no call".into()),
+        Some(words) => Err(slip(words)),
+        None => Call::from_values(kind, &form.values()).ok_or_else(|| slip("no call".into())),
+    }
+}
+
+fn no_call(name: &str) -> String {
+    let names = Kind::ALL.map(|kind| kind.name());
+    let meant = hint(name, names);
+    match meant.is_empty() {
+        true => format!("{} is no call; the calls are {}", quoted(name), names.join(", ")),
+        false => format!("{} is no call{meant}", quoted(name)),
     }
 }
 
@@ -230,19 +185,16 @@ pub struct ListedCall {
 /// The calls of a list.
 pub fn calls(text: &str) -> Result<Vec<ListedCall>, Slips> {
     let mut calls = Vec::new();
-    let mut slips = Vec::new();
+    let mut slips = Slips::default();
     for (line, bare) in bare_lines(text) {
-        match call(bare) {
+        match call(line, bare) {
             Ok(call) => calls.push(ListedCall { line, call }),
-            Err(words) => slips.push(Slip { line: Some(line), words }),
-        }
-        if slips.len() >= MOST_SLIPS {
-            break;
+            Err(slip) => slips.add(slip),
         }
     }
     match slips.is_empty() {
         true => Ok(calls),
-        false => Err(Slips(slips)),
+        false => Err(slips),
     }
 }
 

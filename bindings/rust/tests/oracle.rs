@@ -113,7 +113,7 @@ fn records_are_refused() {
         let record = raw::calling(&mut random, &theirs).record;
         let good = oracle::reading::battery(&record).is_some();
         let read = Battery::from_bytes(&record);
-        assert_eq!(read.err(), (!good).then_some(Refusal::CallField));
+        assert_eq!(read.err(), (!good).then_some(Refusal::BadBattery));
     }
 }
 

@@ -161,7 +161,7 @@ fn another_count_is_refused() {
 fn answer_bits(answer: &Answer) -> Vec<u64> {
     let refusal = answer.refusal.map_or(0, |refusal| refusal.number());
     let mut all = vec![refusal.into(), answer.substeps.into(), answer.outlet.is_some().into()];
-    all.extend(bits(&[answer.energy, answer.outlet.unwrap_or(0.0), answer.time]));
+    all.extend(bits(&[answer.figure(), answer.outlet.unwrap_or(0.0), answer.time]));
     all.extend(bits(&answer.zones));
     all.extend(bits(&answer.totals.numbers()));
     all

@@ -109,11 +109,11 @@ fn slips_in_cards_are_named() {
     of("max = ", "maximum = ", "'maximum' is no field");
     of("max = 80.0", "max = 80,5", "line 11: max is '80,5', no number");
     let slips = template.replace("max = 80.0", "max = hot").parse::<Card>().expect_err("a slip");
-    assert_eq!(slips.0.len(), 1, "what stands there is not missing: {slips}");
+    assert_eq!(slips.first.len(), 1, "what stands there is not missing: {slips}");
     of("simultaneous = no", "simultaneous = 2", "simultaneous is '2', not yes or no");
     of("layers = 8", "layers = 80\nx", "layers is 80, out of its range 1 to 64");
     let many = "x\n".repeat(1000).parse::<Card>().expect_err("slips");
-    assert!(many.0.len() <= 21);
+    assert_eq!((many.first.len(), many.more), (20, 981));
 }
 
 /// Ends of lines, comments, a mark of order and any order of fields.

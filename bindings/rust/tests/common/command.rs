@@ -29,6 +29,11 @@ impl Ended {
         assert!(!err.contains("panicked"), "{what}: {err}");
     }
 
+    /// The first line that it printed.
+    pub fn verdict(&self) -> &str {
+        self.out.lines().next().unwrap_or_default()
+    }
+
     pub fn assert_fine(&self, what: &str) {
         assert_eq!(self.status, 0, "{what}: {}", self.err);
     }
@@ -40,6 +45,20 @@ fn command() -> Command {
 
 pub fn run(words: &[&str]) -> Ended {
     Ended::new(command().args(words).stdin(Stdio::null()).output().expect("it runs"))
+}
+
+/// From within a folder.
+pub fn run_in(folder: &Folder, words: &[&str]) -> Ended {
+    let mut command = command();
+    let command = command.args(words).current_dir(&folder.0).stdin(Stdio::null());
+    Ended::new(command.output().expect("it runs"))
+}
+
+/// By a line of the shell, in which $1 is the command and $2 and the following are the words.
+pub fn run_by_shell(line: &str, words: &[&str]) -> Ended {
+    let mut shell = Command::new("sh");
+    let shell = shell.args(["-c", line, "sh", env!("CARGO_BIN_EXE_heat-battery")]);
+    Ended::new(shell.args(words).stdin(Stdio::null()).output().expect("it runs"))
 }
 
 /// With bytes on standard input.
@@ -86,6 +105,15 @@ impl Folder {
 
     pub fn path(&self, name: &str) -> String {
         path_text(&self.0.join(name))
+    }
+
+    /// The names of its files, in order.
+    pub fn names(&self) -> Vec<String> {
+        let entries = fs::read_dir(&self.0).expect("a folder");
+        let name = |entry: fs::DirEntry| entry.file_name().to_string_lossy().into_owned();
+        let mut names: Vec<String> = entries.map(|entry| name(entry.expect("a file"))).collect();
+        names.sort();
+        names
     }
 
     pub fn write(&self, name: &str, bytes: &[u8]) -> String {

@@ -87,3 +87,18 @@ pub fn is_json(text: &str) -> bool {
     reader.blank();
     good && reader.0.is_empty()
 }
+
+/// The lines of a sheet in JSON.
+pub fn lines(text: &str) -> Vec<&str> {
+    text.lines().filter(|line| line.starts_with("{\"line\":")).collect()
+}
+
+/// A member of a line, as it is written; its first one of that name, no object or list.
+pub fn member<'a>(line: &'a str, name: &str) -> &'a str {
+    let rest = line.split(&format!("\"{name}\":")).nth(1).expect(name);
+    rest.split([',', '}']).next().expect(name)
+}
+
+pub fn number(line: &str, name: &str) -> f64 {
+    member(line, name).parse().expect(name)
+}

@@ -42,7 +42,7 @@ pub fn assert_same(ours: &Answer, theirs: &model::Answer, what: &dyn std::fmt::D
     let outlet = |x: Option<f64>| x.map(f64::to_bits);
     assert_eq!(outlet(ours.outlet), outlet(theirs.outlet), "outlet of {what:?}");
     let pairs = [
-        (bits(&[ours.energy]), bits(&[theirs.energy]), "energy"),
+        (bits(&[ours.figure()]), bits(&[theirs.energy]), "energy"),
         (bits(&[ours.time]), bits(&[theirs.time]), "time"),
         (bits(&ours.zones), bits(&theirs.state.zones), "zones"),
         (bits(&ours.totals.numbers()), bits(&theirs.state.totals.numbers()), "totals"),

@@ -1,6 +1,8 @@
 //! The words behind a command: places in order, options by name.
 
+use heat_battery::text::hint;
 use std::ffi::{OsStr, OsString};
+use std::os::unix::ffi::OsStrExt;
 
 /// An option, with or without a value.
 #[derive(Clone, Copy)]
@@ -24,6 +26,9 @@ pub struct Arguments {
     flags: Vec<(&'static str, OsString)>,
 }
 
+/// Behind this word every word is a place.
+pub const END: &str = "--";
+
 impl Arguments {
     /// The error in words.
     pub fn read(
@@ -34,11 +39,11 @@ impl Arguments {
         let mut read = Arguments { places: Vec::new(), flags: Vec::new() };
         let mut words = words.iter();
         while let Some(word) = words.next() {
-            match flags.iter().find(|flag| word == flag.name) {
-                Some(flag) => read.add_flag(flag, &mut words)?,
-                None if looks_like_flag(word) => {
-                    return Err(format!("no option {}", word.to_string_lossy()));
-                }
+            let (name, value) = split(word);
+            match flags.iter().find(|flag| name == flag.name) {
+                Some(flag) => read.add_flag(flag, value, &mut words)?,
+                None if word == END => read.places.extend(words.by_ref().cloned()),
+                None if looks_like_flag(word) => return Err(no_option(name, flags)),
                 None => read.places.push(word.clone()),
             }
         }
@@ -49,18 +54,22 @@ impl Arguments {
         }
     }
 
+    /// Adds an option with the value behind its '=', or with the next word.
     fn add_flag<'a>(
         &mut self,
         flag: &Flag,
+        value: Option<&OsStr>,
         words: &mut impl Iterator<Item = &'a OsString>,
     ) -> Result<(), String> {
         let name = flag.name;
         if self.flag(name).is_some() {
             return Err(format!("{name} stands twice"));
         }
-        let value = match flag.has_value {
-            true => words.next().ok_or(format!("{name} needs a value"))?.clone(),
-            false => OsString::new(),
+        let value = match (flag.has_value, value) {
+            (true, Some(value)) => value.into(),
+            (true, None) => words.next().ok_or(format!("{name} needs a value"))?.clone(),
+            (false, Some(_)) => return Err(format!("{name} takes no value")),
+            (false, None) => OsString::new(),
         };
         self.flags.push((name, value));
         Ok(())
@@ -89,7 +98,22 @@ impl Arguments {
     }
 }
 
+/// '--name=value' as its two parts; any other word as it is.
+fn split(word: &OsStr) -> (&OsStr, Option<&OsStr>) {
+    let bytes = word.as_bytes();
+    let equals = bytes.iter().position(|byte| *byte == b'=').filter(|_| bytes.starts_with(b"--"));
+    match equals.map(|at| bytes.split_at(at)) {
+        Some((name, value)) => (OsStr::from_bytes(name), value.get(1..).map(OsStr::from_bytes)),
+        None => (word, None),
+    }
+}
+
 /// A lone '-' is standard input or output.
 fn looks_like_flag(word: &OsStr) -> bool {
     word.to_string_lossy().starts_with('-') && word != "-"
+}
+
+fn no_option(name: &OsStr, flags: &[Flag]) -> String {
+    let name = name.to_string_lossy();
+    format!("no option {name}{}", hint(&name, flags.iter().map(|flag| flag.name)))
 }

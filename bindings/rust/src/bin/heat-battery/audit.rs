@@ -1,27 +1,38 @@
-//! `audit`: the verdict, and what lies behind it.
+//! `audit`: the verdict, which card it is of, and what lies behind it.
 
 use crate::arguments::Arguments;
+use crate::card::{accepted, count};
 use crate::failure::Failure;
 use crate::files;
-use heat_battery::{explain, is_too_long, Call, Difference, Explanation, Verdict, MOST_AUDITED};
+use crate::output::print;
+use heat_battery::{
+    explain, is_too_long, read, Call, Card, Difference, Explanation, Verdict, MOST_AUDITED,
+};
+use std::ffi::OsStr;
 use std::fmt::Write;
 
 pub fn audit(arguments: &Arguments) -> Result<(), Failure> {
     let path = arguments.place(0);
+    let expected = Expected::read(arguments)?;
     let bytes = files::sheet(path)?;
     let verdict = heat_battery::audit(&bytes);
+    let card = read(&bytes).ok().map(|(card, _)| card);
     let mut text = format!("{verdict}\n");
+    if let Some(card) = card {
+        let _ = writeln!(text, "card {}", card.fingerprint());
+    }
     if arguments.has("--explain") {
-        text.push_str(&words(&bytes));
+        text.push_str(&words(verdict, &bytes));
     }
     if is_too_long(&bytes) {
         text.push_str(&program_words(bytes.len()));
     }
-    files::print(&text)?;
-    match verdict {
-        Verdict::Accepted(_) => Ok(()),
-        Verdict::Refused { refusal, .. } => {
-            Err(Failure::Refused(format!("{}: {refusal}", files::name(path))))
+    print(&text)?;
+    match (verdict, card) {
+        (Verdict::Accepted(lines), Some(card)) => expected.compare(path, &card, lines),
+        (Verdict::Accepted(_), None) => Err(files::refused(path, "its card can't be read")),
+        (Verdict::Refused { refusal, .. }, _) => {
+            Err(files::refused(path, format!("{refusal}{}", files::no_sheet(refusal, &bytes))))
         }
     }
 }
@@ -32,9 +43,63 @@ fn program_words(length: usize) -> String {
     format!("{said}: it reads at most {MOST_AUDITED} bytes, and this sheet has {length}\n")
 }
 
-fn words(bytes: &[u8]) -> String {
+/// What the caller expects of an accepted sheet.
+struct Expected<'a> {
+    card: Option<(&'a OsStr, Card)>,
+    lines: Option<u64>,
+}
+
+impl<'a> Expected<'a> {
+    fn read(arguments: &'a Arguments) -> Result<Expected<'a>, Failure> {
+        let lines = arguments.whole("--lines").map_err(Failure::Usage)?;
+        let Some(path) = arguments.flag("--card") else {
+            return Ok(Expected { card: None, lines });
+        };
+        if files::is_standard(path) && files::is_standard(arguments.place(0)) {
+            return Err(Failure::Usage("audit: only one of SHEET and CARD can be '-'".into()));
+        }
+        Ok(Expected { card: Some((path, accepted(path)?)), lines })
+    }
+
+    fn compare(&self, path: &OsStr, card: &Card, lines: u64) -> Result<(), Failure> {
+        let mut others = Vec::new();
+        if let Some((name, expected)) = &self.card {
+            others.extend(other_card(card, expected, &files::name(name)));
+        }
+        if let Some(expected) = self.lines.filter(|expected| *expected != lines) {
+            others.push(format!("{}, not the {expected} expected", count(lines, "call line")));
+        }
+        match others.is_empty() {
+            true => Ok(()),
+            false => Err(files::refused(path, others.join("\n"))),
+        }
+    }
+}
+
+/// Where a sheet's card isn't the one expected: both fingerprints and every field that differs.
+fn other_card(card: &Card, expected: &Card, name: &str) -> Option<String> {
+    if card.to_bytes() == expected.to_bytes() {
+        return None;
+    }
+    let (ours, theirs) = (card.fingerprint(), expected.fingerprint());
+    let mut words = format!("its card {ours} is not that of {name}, {theirs}");
+    let values = card.values().into_iter().zip(expected.values());
+    for (field, (ours, theirs)) in Card::FIELDS.iter().zip(values) {
+        let [ours, theirs] = [ours, theirs].map(|value| value.to_string());
+        if ours != theirs {
+            let _ = write!(words, "\n  {}: the sheet says {ours}, the card {theirs}", field.name);
+        }
+    }
+    Some(words)
+}
+
+/// An accepted sheet needs no second look.
+fn words(verdict: Verdict, bytes: &[u8]) -> String {
+    if let Verdict::Accepted(_) = verdict {
+        return "every call line agrees with the steps\n".into();
+    }
     match explain(bytes) {
-        Explanation::Agreement => "every call line agrees with the steps\n".into(),
+        Explanation::Agreement => String::new(),
         Explanation::Damage(damage) => format!("line {}: {}\n", damage.line, damage.words),
         Explanation::Differences { line, call, fields } => differences(line, &call, &fields),
     }

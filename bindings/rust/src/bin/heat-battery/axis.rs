@@ -34,6 +34,18 @@ impl Axis {
         Axis { low: (low / step).floor() * step, high: (high / step).ceil() * step, step }
     }
 
+    /// An axis over hours, with ticks that divide days.
+    pub fn hours(low: f64, high: f64, ticks: usize) -> Axis {
+        let least = (high - low) / ticks as f64;
+        let step = [1.0, 2.0, 3.0, 6.0, 12.0, 24.0].into_iter().find(|step| *step >= least);
+        let step = match step {
+            Some(step) if least > 0.5 => step,
+            Some(_) => nice_step(least),
+            None => nice_step(least / 24.0) * 24.0,
+        };
+        Axis { low, high, step }
+    }
+
     /// An axis from one whole number to another.
     pub fn whole(low: f64, high: f64, ticks: usize) -> Axis {
         let high = high.max(low + 1.0);

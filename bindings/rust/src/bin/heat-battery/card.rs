@@ -1,20 +1,31 @@
-//! `card check` and `card template`.
+//! `card check` and `card template`, and cards for the other commands.
 
 use crate::arguments::Arguments;
 use crate::failure::Failure;
 use crate::files;
-use heat_battery::{Card, Refusal};
+use crate::holds::{warnings, Holds};
+use crate::output::{note, print};
+use heat_battery::text::{self, Slips};
+use heat_battery::{Card, Looks, Refusal};
+use std::ffi::OsStr;
 
 pub fn template(_: &Arguments) -> Result<(), Failure> {
-    files::print(&Card::example().to_string())
+    print(&Card::example().to_string())
 }
 
 pub fn check(arguments: &Arguments) -> Result<(), Failure> {
-    let path = arguments.place(0);
-    let card = files::card(path)?;
-    accept(&card).map_err(|words| Failure::Refused(format!("{}: {words}", files::name(path))))?;
-    let size = format!("{}, {}", count(card.layers, "layer"), count(card.units, "unit"));
-    files::print(&format!("accepted: {size}, {}\n", span(&card)))
+    let card = accepted(arguments.place(0))?;
+    print(&format!(
+        "accepted: {}, {}\n{}\ncard {}\n",
+        size(&card),
+        span(&card),
+        Holds::of(&card),
+        card.fingerprint()
+    ))?;
+    for words in warnings(&card) {
+        note(&format!("warning: {words}"));
+    }
+    Ok(())
 }
 
 /// A number of things.
@@ -25,6 +36,11 @@ pub fn count(number: impl Into<u64>, thing: &str) -> String {
     }
 }
 
+/// Layers and units.
+pub fn size(card: &Card) -> String {
+    format!("{}, {}", count(card.layers, "layer"), count(card.units, "unit"))
+}
+
 /// Temperatures that an installer asks for first.
 fn span(card: &Card) -> String {
     format!(
@@ -33,15 +49,20 @@ fn span(card: &Card) -> String {
     )
 }
 
-/// Whether the engine opens a battery with the card; if not, every reason in words.
-pub fn accept(card: &Card) -> Result<(), String> {
-    card.check().map_err(|refusal| explain(card, refusal))
-}
-
-fn explain(card: &Card, refusal: Refusal) -> String {
-    let mut words = format!("card refused, {refusal}");
-    for fault in card.faults() {
-        words.push_str(&format!("\n  {fault} (refusal {})", fault.refusal.number()));
+/// The card of a file, where the engine opens a battery with it; else every reason why not. A
+/// number that is out of range is a refusal, whatever its size.
+pub fn accepted(path: &OsStr) -> Result<Card, Failure> {
+    let refused = |refusal: Refusal, slips: &Slips| {
+        let reasons = slips.to_string().replace('\n', "\n  ");
+        files::refused(path, format!("card refused, {refusal}\n  {reasons}"))
+    };
+    let listed =
+        text::card(&files::text(path, Looks::Card)?).map_err(|slips| match slips.is_refusal() {
+            true => refused(Refusal::CardField, &slips),
+            false => files::trouble(path, format!("no card:\n{slips}")),
+        })?;
+    match listed.card.check() {
+        Ok(()) => Ok(listed.card),
+        Err(refusal) => Err(refused(refusal, &listed.faults())),
     }
-    words
 }

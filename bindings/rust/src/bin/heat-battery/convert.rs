@@ -1,32 +1,69 @@
 //! `convert`: a sheet's card and calls as text.
 
 use crate::arguments::Arguments;
+use crate::card::count;
 use crate::failure::Failure;
 use crate::files;
-use heat_battery::{text, Card, Line, Sheet};
+use crate::output::{note, write_all};
+use heat_battery::{differences, read, text, Card, Line, Sheet};
 use std::ffi::{OsStr, OsString};
 
 pub fn convert(arguments: &Arguments) -> Result<(), Failure> {
     let path = arguments.place(0);
+    let target = Target::read(arguments)?;
+    for out in target.files() {
+        files::test_apart(&[path], &out)?;
+    }
     let bytes = files::sheet(path)?;
     let (card, lines, damage) = files::parts(path, &bytes)?;
     if let Some(damage) = damage {
-        return Err(Failure::Refused(format!("{}: {damage}", files::name(path))));
+        return Err(files::refused(path, damage));
     }
     let calls = text::list(lines.iter().map(|line| line.call));
-    match arguments.flag("-o") {
-        Some(name) => {
-            files::write(&with_ending(name, ".card"), card.to_string().as_bytes())?;
-            files::write(&with_ending(name, ".calls"), calls.as_bytes())?;
+    target.write(&card.to_string(), &calls)?;
+    compare(path, &bytes, &lines, &again(&card, &lines))
+}
+
+/// What is written where.
+enum Target<'a> {
+    Both(&'a OsStr),
+    Card(&'a OsStr),
+    Calls(&'a OsStr),
+}
+
+impl<'a> Target<'a> {
+    fn read(arguments: &'a Arguments) -> Result<Target<'a>, Failure> {
+        let out = arguments.flag("-o").unwrap_or(OsStr::new("-"));
+        let usage = |words: &str| Err(Failure::Usage(format!("convert: {words}")));
+        match arguments.flag("--only").map(OsStr::to_str) {
+            Some(Some("card")) => Ok(Target::Card(out)),
+            Some(Some("calls")) => Ok(Target::Calls(out)),
+            Some(_) => usage("--only card or --only calls"),
+            None if files::is_standard(out) => {
+                usage("one text goes to standard output: --only card, --only calls, or -o NAME")
+            }
+            None => Ok(Target::Both(out)),
         }
-        None => files::print(&format!("{card}\n{calls}"))?,
     }
-    match again(&card, &lines) == bytes {
-        true => Ok(()),
-        false => Err(Failure::Refused(format!(
-            "{}: its answers aren't the engine's; run will give another sheet",
-            files::name(path)
-        ))),
+
+    /// The files that are written, the card's before the calls'.
+    fn files(&self) -> Vec<OsString> {
+        match self {
+            Target::Card(out) | Target::Calls(out) => vec![out.into()],
+            Target::Both(name) => vec![with_ending(name, ".card"), with_ending(name, ".calls")],
+        }
+    }
+
+    fn write(&self, card: &str, calls: &str) -> Result<(), Failure> {
+        let texts = match self {
+            Target::Card(_) => vec![card],
+            Target::Calls(_) => vec![calls],
+            Target::Both(_) => vec![card, calls],
+        };
+        let files = self.files();
+        let written =
+            files.iter().map(OsString::as_os_str).zip(texts.iter().map(|text| text.as_bytes()));
+        write_all(&written.collect::<Vec<_>>())
     }
 }
 
@@ -44,4 +81,22 @@ fn again(card: &Card, lines: &[Line]) -> Vec<u8> {
         let _ = sheet.answer(&line.call);
     }
     sheet.into_bytes()
+}
+
+/// Whether the answers are the engine's, by f64 equality as the audit has it.
+fn compare(path: &OsStr, bytes: &[u8], lines: &[Line], again: &[u8]) -> Result<(), Failure> {
+    let given: Vec<Line> =
+        read(again).into_iter().flat_map(|(_, lines)| lines).map_while(Result::ok).collect();
+    let agree =
+        |(shown, given): (&Line, &Line)| differences(&shown.answer, &given.answer).is_empty();
+    if given.len() != lines.len() || !lines.iter().zip(&given).all(agree) {
+        let words = "its answers aren't the engine's; run will give another sheet";
+        return Err(files::refused(path, words));
+    }
+    let zeros = bytes.iter().zip(again).filter(|(one, other)| one != other).count();
+    if zeros > 0 {
+        let zeros = count(zeros as u64, "zero");
+        note(&format!("{}: run will give the other sign of {zeros}", files::name(path)));
+    }
+    Ok(())
 }

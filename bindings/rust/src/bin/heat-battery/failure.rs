@@ -1,6 +1,6 @@
 //! How a command ends when it doesn't end well.
 
-use crate::files;
+use crate::output::note;
 use std::process::ExitCode;
 
 pub enum Failure {
@@ -10,19 +10,19 @@ pub enum Failure {
     File(String),
     /// A card, a call or a sheet is refused: status 1.
     Refused(String),
-    /// Nobody reads the output any more.
-    Closed,
+    /// A demand isn't met and --unmet-fails stands there: status 3.
+    Unmet(String),
 }
 
 impl Failure {
     /// Says what happened and gives the exit status.
     pub fn report(&self) -> ExitCode {
         let (words, status) = match self {
-            Failure::Usage(words) | Failure::File(words) => (words, 2),
             Failure::Refused(words) => (words, 1),
-            Failure::Closed => return ExitCode::SUCCESS,
+            Failure::Usage(words) | Failure::File(words) => (words, 2),
+            Failure::Unmet(words) => (words, 3),
         };
-        files::note(&format!("heat-battery: {words}"));
+        note(&format!("heat-battery: {words}"));
         ExitCode::from(status)
     }
 }

@@ -1,10 +1,11 @@
-//! Files read up to a limit, written whole; output that can be cut off; notes.
+//! Files read up to a limit.
 
 use crate::failure::Failure;
-use heat_battery::{read, Card, Damage, Line};
+use heat_battery::{looks, read, Card, Damage, Line, Looks, Refusal};
 use std::ffi::OsStr;
+use std::fmt::Display;
 use std::fs::{self, File};
-use std::io::{self, ErrorKind, Read, Write};
+use std::io::{self, Read};
 use std::path::Path;
 
 /// The most bytes of a file that is read; a year of half-hours has some ten million.
@@ -23,8 +24,14 @@ pub fn name(path: &OsStr) -> String {
     }
 }
 
-fn trouble(path: &OsStr, words: impl std::fmt::Display) -> Failure {
+/// What a file can't be read or written for.
+pub fn trouble(path: &OsStr, words: impl Display) -> Failure {
     Failure::File(format!("{}: {words}", name(path)))
+}
+
+/// What a file is refused for.
+pub fn refused(path: &OsStr, words: impl Display) -> Failure {
+    Failure::Refused(format!("{}: {words}", name(path)))
 }
 
 fn bytes(path: &OsStr) -> Result<Vec<u8>, Failure> {
@@ -46,36 +53,43 @@ pub fn sheet(path: &OsStr) -> Result<Vec<u8>, Failure> {
     bytes(path)
 }
 
-pub fn text(path: &OsStr) -> Result<String, Failure> {
+/// A text that should look like something: an error where it looks like something else.
+pub fn text(path: &OsStr, expected: Looks) -> Result<String, Failure> {
     let bytes = bytes(path)?;
-    String::from_utf8(bytes).map_err(|_| trouble(path, "is no text (UTF-8)"))
+    match looks(&bytes) {
+        Some(other) if other != expected => {
+            Err(trouble(path, format!("this is {other}, not {expected}")))
+        }
+        _ => String::from_utf8(bytes).map_err(|_| trouble(path, "is no text (UTF-8)")),
+    }
 }
 
-pub fn write(path: &OsStr, bytes: &[u8]) -> Result<(), Failure> {
-    match is_standard(path) {
-        true => put(bytes),
-        false if Path::new(path).is_dir() => Err(trouble(path, "is a folder")),
-        false => fs::write(path, bytes).map_err(|error| trouble(path, error)),
+/// Whether a file looks like something; not asked of standard input, which is read once.
+pub fn looks_like(path: &OsStr, expected: Looks) -> bool {
+    let is_file = !is_standard(path) && Path::new(path).is_file();
+    is_file && bytes(path).is_ok_and(|bytes| looks(&bytes) == Some(expected))
+}
+
+/// An error where output would go to a file that is read.
+pub fn test_apart(read: &[&OsStr], written: &OsStr) -> Result<(), Failure> {
+    match read.iter().any(|path| is_same(path, written)) {
+        true => Err(Failure::Usage(format!("{} would be overwritten", name(written)))),
+        false => Ok(()),
     }
 }
 
 /// Whether two paths are of one file.
-pub fn is_same(one: &OsStr, other: &OsStr) -> bool {
+fn is_same(one: &OsStr, other: &OsStr) -> bool {
     match (fs::canonicalize(one), fs::canonicalize(other)) {
         (Ok(one), Ok(other)) => one == other,
         _ => false,
     }
 }
 
-/// A card of any numbers, from text.
-pub fn card(path: &OsStr) -> Result<Card, Failure> {
-    text(path)?.parse().map_err(|slips| trouble(path, format!("no card:\n{slips}")))
-}
-
 /// A sheet's card and the lines up to the first damage, which is given too.
 pub fn parts(path: &OsStr, bytes: &[u8]) -> Result<(Card, Vec<Line>, Option<Damage>), Failure> {
-    let refused = |damage| Failure::Refused(format!("{}: {damage}", name(path)));
-    let (card, lines) = read(bytes).map_err(refused)?;
+    let (card, lines) = read(bytes)
+        .map_err(|damage| refused(path, format!("{damage}{}", no_sheet(damage.refusal, bytes))))?;
     let mut whole = Vec::new();
     for line in lines {
         match line {
@@ -86,21 +100,11 @@ pub fn parts(path: &OsStr, bytes: &[u8]) -> Result<(Card, Vec<Line>, Option<Dama
     Ok((card, whole, None))
 }
 
-fn put(bytes: &[u8]) -> Result<(), Failure> {
-    let mut out = io::stdout().lock();
-    match out.write_all(bytes).and_then(|_| out.flush()) {
-        Ok(()) => Ok(()),
-        Err(error) if error.kind() == ErrorKind::BrokenPipe => Err(Failure::Closed),
-        Err(error) => Err(Failure::File(format!("standard output: {error}"))),
+/// The end of a message on bytes that are refused for their first one: what they are instead of
+/// a sheet.
+pub fn no_sheet(refusal: Refusal, bytes: &[u8]) -> String {
+    match looks(bytes).filter(|_| refusal == Refusal::Version) {
+        Some(other) => format!("; this is {other}, not a sheet"),
+        None => String::new(),
     }
-}
-
-/// Prints to standard output.
-pub fn print(text: &str) -> Result<(), Failure> {
-    put(text.as_bytes())
-}
-
-/// A line on standard error; if that is gone, nobody is told.
-pub fn note(words: &str) {
-    let _ = writeln!(io::stderr(), "{words}");
 }

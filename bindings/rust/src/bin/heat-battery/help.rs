@@ -4,27 +4,36 @@ pub const ALL: &str = "\
 heat-battery: the proved zone engine for salt hydrate heat batteries
 
   heat-battery card template                 a card to start from
-  heat-battery card check CARD               is the card accepted, and if not, why
+  heat-battery card check CARD               is the card accepted, what does it hold, what is odd
   heat-battery run CARD CALLS -o SHEET       make a list of calls, write the sheet
   heat-battery show SHEET [--json]           every line of a sheet
   heat-battery audit SHEET [--explain]       is the sheet right, and if not, where
   heat-battery plot SHEET -o FILE.svg        zones, state of charge and energies as a picture
-  heat-battery convert SHEET [-o NAME]       back to its card and calls
+  heat-battery convert SHEET -o NAME         back to its card and calls
+  heat-battery --version
 
-Each has --help. A file '-' is standard input or output.
-Status: 0 all well; 1 a card, a call or the sheet is refused; 2 bad usage or a bad file.
+Each has --help. A file '-' is standard input or output; --option=value is --option value; behind
+'--' every word is a file. A file is written whole or not at all.
+Status: 0 all well; 1 a card, a call or the sheet is refused, or isn't the one expected; 2 bad usage
+or a bad file; 3 a demand is unmet and --unmet-fails stands there.
 ";
 
 pub const CARD: &str = "\
 heat-battery card template        print a card to start from
-heat-battery card check FILE      is the card accepted, and if not, why
+heat-battery card check FILE      is the card accepted, what does it hold, what is odd
 ";
 
 pub const CARD_CHECK: &str = "\
 heat-battery card check FILE
 
 Reads a card (one name = value on each line, what follows # is a comment) and says whether the
-engine accepts it. If not, every field that is out of range is named with its range.
+engine accepts it. If so: what the battery holds between empty and full, below, in and above the
+melting range, in kWh, and the card's fingerprint. If not, every field that is out of range is named
+with its line and its range.
+
+Warnings, on standard error, are of what is legal but odd: a start above max or below reference,
+losses that empty a full battery in a day, a melting capacity below the others or over 1000 times as
+large. They change no status.
 
 Status: 0 accepted; 1 refused; 2 the file can't be read or is no card.
 ";
@@ -36,7 +45,7 @@ Prints a card to start from, with each field's meaning, unit and range.
 ";
 
 pub const RUN: &str = "\
-heat-battery run CARD CALLS -o SHEET [--stop] [--most BYTES]
+heat-battery run CARD CALLS -o SHEET [--stop] [--most BYTES] [--unmet-fails]
 
 Opens a battery with the card, makes the calls in order and writes the sheet. CALLS has one call
 on each line, a kind and its fields in any order; what follows # is a comment:
@@ -51,26 +60,40 @@ on each line, a kind and its fields in any order; what follows # is a comment:
 
 Services: combi, regular, space, direct. return_temperature and flow_maximum may be none. Units:
 kWh, h, kW, °C, l/min, m/s, m. A refused call is reported with its number, its meaning and its
-line, and the list goes on: 20 to 25 stand on the sheet as a line, 10 and 11 leave no line.
+line, and the list goes on: 20 to 25 stand on the sheet as a line, 10 and 11 leave no line. Beyond
+twenty, refused calls are counted.
 
-  --stop        end at the first refused call; the sheet so far is written
-  --most BYTES  let the sheet grow to so many bytes (the audit program reads 65536)
+A committed demand that got over 0.001 kWh less than it required is unmet; a refused one got
+nothing. How many are, and what they lack, is said at the end.
 
-Status: 0 every call was answered; 1 a call or the card was refused; 2 bad usage or a bad file.
+  --stop         end at the first refused call; the sheet so far is written
+  --most BYTES   hold the sheet to so many bytes; the list ends at the first line that has no room
+  --unmet-fails  status 3 where a demand is unmet
+
+Status: 0 every call was answered; 1 a call or the card was refused; 2 bad usage or a bad file; 3
+every call was answered, a demand is unmet and --unmet-fails stands there.
 ";
 
 pub const SHOW: &str = "\
-heat-battery show SHEET [--json]
+heat-battery show SHEET [--json] [--unmet-fails]
 
-Prints the card and every line: kind and fields of the call, refusal in words, energy, outlet,
-time, substeps, zones and totals, and at the end the audit's verdict. The table is rounded;
---json has every number exactly (one that isn't finite is a string).
+Prints the card and every line: kind and fields of the call, refusal in words, energy, shortfall of
+a demand, outlet, time, substeps, zones and totals; at the end unmet demand, the card's fingerprint
+and the audit's verdict. Energy is heat that moved. What was only asked stands apart: the energy of
+a trial, the state of charge (0 to 1), the charge energy demand ('to charge').
 
-Status: 0 the audit accepts the sheet; 1 it refuses it (what is readable is shown); 2 bad file.
+The table is rounded; --json has every number exactly (one that isn't finite is a string). Its energy
+and shortfall are 0 where there is none; trial_energy, state_of_charge, charge_energy_demand and
+outlet are then null.
+
+  --unmet-fails  status 3 where a demand is unmet, as 'run' has it
+
+Status: 0 the audit accepts the sheet; 1 it refuses it (what is readable is shown); 2 bad file; 3 it
+accepts it, a demand is unmet and --unmet-fails stands there.
 ";
 
 pub const AUDIT: &str = "\
-heat-battery audit SHEET [--explain]
+heat-battery audit SHEET [--explain] [--card CARD] [--lines N]
 
 Makes the sheet's calls again on a fresh battery and compares every answer. Prints 'accepted N'
 with the number of call lines, or 'refused R line K':
@@ -83,28 +106,43 @@ with the number of call lines, or 'refused R line K':
 The laboratory's audit program reads at most 65,536 bytes and answers 'refused 44 line 0' to a
 longer sheet. Here such a sheet is audited too, and a last line says what the program would answer.
 
+The next line is 'card F', the fingerprint of the sheet's card, if that is readable: eight
+hexadecimal digits that 'card check' prints too. An accepted sheet is right about its own card and
+its own lines; whether they are the ones meant is asked with
+
+  --card CARD   the sheet's card has to be this one, bit for bit
+  --lines N     it has to have so many call lines: a sheet cut at a line's end is accepted
   --explain     say which field it is, what the sheet says and what the steps give
 
-Status: 0 accepted; 1 refused; 2 bad usage or a bad file.
+Status: 0 accepted; 1 refused, or another card or count than expected; 2 bad usage or a bad file.
 ";
 
 pub const PLOT: &str = "\
 heat-battery plot SHEET -o FILE.svg [--from LINE] [--to LINE]
 
-Draws zone temperatures, state of charge and energies over the call lines. Heat in points up,
-heat out points down; trials are hollow. The audit's verdict stands under the title.
+Draws zone temperatures, state of charge and energies over hours; call lines stand along the top.
+Hours are those of closed timesteps; the calls of one share it in their order. A sheet that closes
+none is drawn over its call lines. Heat in points up, heat out points down; trials are hollow. Marked
+are refused lines, unmet demands and the line that the audit refuses; card and verdict stand under
+the title.
 
-  --from, --to  only these lines (at most 5000 are drawn)
+  --from, --to  only these call lines
 
-Status: 0 the audit accepts the sheet; 1 it refuses it (what is readable is drawn); 2 bad file.
+Beyond 5000 call lines several are drawn as one: zones and charge after the last of them, their
+energies added up by kind. The title then says how many.
+
+Status: 0 the audit accepts the sheet; 1 it refuses it (what is readable is drawn); 2 bad usage, such
+as a range without lines or a name that doesn't end in .svg, or a bad file.
 ";
 
 pub const CONVERT: &str = "\
-heat-battery convert SHEET [-o NAME]
+heat-battery convert SHEET -o NAME
+heat-battery convert SHEET --only card|calls [-o FILE]
 
-Writes the sheet's card and calls as text, to NAME.card and NAME.calls, or both to standard
-output. 'heat-battery run' of the two gives the same sheet again, byte for byte, if the engine
-wrote it; convert makes the calls again and says so if not.
+Writes the sheet's card and calls as text, to NAME.card and NAME.calls, or only one of them, to FILE
+or to standard output. 'heat-battery run' of the two gives the same sheet again if the engine wrote
+it. convert makes the calls again and says so if not; as for the audit, a zero of the other sign is
+no difference, but it is noted.
 
-Status: 0 the same sheet will come; 1 the sheet is refused or another will come; 2 bad file.
+Status: 0 the same sheet will come; 1 the sheet is refused or another will come; 2 bad usage or file.
 ";

@@ -1,17 +1,20 @@
 //! A sheet as JSON. Numbers are written so that they read back exactly; one that is not finite,
 //! which only a damaged sheet has, is a string.
 
-use heat_battery::{Call, Card, Damage, Line, Totals, Value, Verdict, VERSION};
+use heat_battery::{Call, Card, Damage, Line, Totals, Unmet, Value, Verdict, VERSION};
 use std::fmt::Write;
 
 pub fn sheet(card: &Card, lines: &[Line], damage: Option<&Damage>, verdict: Verdict) -> String {
-    let mut text =
-        format!("{{\"version\":{VERSION},\n\"card\":{},\n\"lines\":[", card_object(card));
+    let mut text = format!(
+        "{{\"version\":{VERSION},\n\"card\":{},\n\"fingerprint\":{},\n\"lines\":[",
+        card_object(card),
+        string(&card.fingerprint().to_string())
+    );
     for (at, one) in lines.iter().enumerate() {
         text.push_str(if at == 0 { "\n" } else { ",\n" });
         text.push_str(&line(one));
     }
-    text.push_str("],\n");
+    let _ = writeln!(text, "],\n\"unmet\":{},", unmet_object(&Unmet::of(lines)));
     if let Some(damage) = damage {
         let _ = writeln!(text, "\"damage\":{},", string(&damage.to_string()));
     }
@@ -23,6 +26,7 @@ fn line(line: &Line) -> String {
     let answer = &line.answer;
     let refusal = answer.refusal.map_or(0, |refusal| refusal.number());
     let words = answer.refusal.map_or("null".into(), |refusal| string(refusal.words()));
+    let or_null = |x: Option<f64>| x.map_or("null".into(), number);
     let zones: Vec<String> = answer.zones.iter().map(|zone| number(*zone)).collect();
     let members = [
         ("line", line.index.to_string()),
@@ -31,7 +35,11 @@ fn line(line: &Line) -> String {
         ("refusal", refusal.to_string()),
         ("refusal_words", words),
         ("energy", number(answer.energy)),
-        ("outlet", answer.outlet.map_or("null".into(), number)),
+        ("shortfall", number(line.shortfall().unwrap_or(0.0))),
+        ("trial_energy", or_null(answer.trial_energy)),
+        ("state_of_charge", or_null(answer.state_of_charge)),
+        ("charge_energy_demand", or_null(answer.charge_energy_demand)),
+        ("outlet", or_null(answer.outlet)),
         ("time", number(answer.time)),
         ("substeps", answer.substeps.to_string()),
         ("zones", format!("[{}]", zones.join(","))),
@@ -52,6 +60,10 @@ fn call_object(call: &Call) -> String {
 fn totals_object(totals: &Totals) -> String {
     let names = Totals::NAMES.iter().map(|(name, _)| *name);
     object(names.zip(totals.numbers().map(number)))
+}
+
+fn unmet_object(unmet: &Unmet) -> String {
+    object([("lines", unmet.lines.to_string()), ("shortfall", number(unmet.energy))])
 }
 
 fn object<'a>(members: impl IntoIterator<Item = (&'a str, String)>) -> String {

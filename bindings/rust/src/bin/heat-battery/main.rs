@@ -9,15 +9,21 @@ mod course;
 mod failure;
 mod files;
 mod help;
+mod holds;
 mod json;
+mod legend;
+mod output;
 mod picture;
 mod plot;
+mod progress;
 mod run;
 mod show;
 mod svg;
 
-use arguments::{Arguments, Flag};
+use arguments::{Arguments, Flag, END};
 use failure::Failure;
+use heat_battery::text::hint;
+use output::print;
 use std::ffi::OsString;
 use std::process::ExitCode;
 
@@ -48,21 +54,26 @@ const COMMANDS: [Command; 7] = [
     Command {
         name: &["run"],
         places: &["CARD", "CALLS"],
-        flags: &[Flag::value("-o"), Flag::bare("--stop"), Flag::value("--most")],
+        flags: &[
+            Flag::value("-o"),
+            Flag::bare("--stop"),
+            Flag::value("--most"),
+            Flag::bare("--unmet-fails"),
+        ],
         run: run::run,
         help: help::RUN,
     },
     Command {
         name: &["show"],
         places: &["SHEET"],
-        flags: &[Flag::bare("--json")],
+        flags: &[Flag::bare("--json"), Flag::bare("--unmet-fails")],
         run: show::show,
         help: help::SHOW,
     },
     Command {
         name: &["audit"],
         places: &["SHEET"],
-        flags: &[Flag::bare("--explain")],
+        flags: &[Flag::bare("--explain"), Flag::value("--card"), Flag::value("--lines")],
         run: audit::audit,
         help: help::AUDIT,
     },
@@ -76,7 +87,7 @@ const COMMANDS: [Command; 7] = [
     Command {
         name: &["convert"],
         places: &["SHEET"],
-        flags: &[Flag::value("-o")],
+        flags: &[Flag::value("-o"), Flag::value("--only")],
         run: convert::convert,
         help: help::CONVERT,
     },
@@ -97,8 +108,8 @@ fn start(words: &[OsString]) -> Result<(), Failure> {
         return without_command(words);
     };
     let rest = words.get(command.name.len()..).unwrap_or_default();
-    if rest.iter().any(is_help) {
-        return files::print(command.help);
+    if rest.iter().take_while(|word| *word != END).any(is_help) {
+        return print(command.help);
     }
     let arguments = Arguments::read(rest, command.places, command.flags).map_err(|words| {
         let name = command.name.join(" ");
@@ -108,19 +119,31 @@ fn start(words: &[OsString]) -> Result<(), Failure> {
 }
 
 fn without_command(words: &[OsString]) -> Result<(), Failure> {
-    let first = words.first().map(|word| word.to_string_lossy());
-    match first.as_deref() {
-        None => Err(Failure::Usage("no command; see heat-battery --help".into())),
-        Some("-h" | "--help" | "help") => files::print(help::ALL),
-        Some("card") if words.get(1).is_some_and(is_help) => files::print(help::CARD),
-        Some("card") => {
+    let word = |at: usize| words.get(at).map(|word| word.to_string_lossy());
+    match (word(0).as_deref(), word(1).as_deref()) {
+        (None, _) => Err(Failure::Usage("no command; see heat-battery --help".into())),
+        (Some("-h" | "--help" | "help"), _) => print(help::ALL),
+        (Some("-V" | "--version"), _) => {
+            print(&format!("heat-battery {}\n", env!("CARGO_PKG_VERSION")))
+        }
+        (Some("card"), Some("-h" | "--help")) => print(help::CARD),
+        (Some("card"), None) => {
             Err(Failure::Usage("card: check or template? See heat-battery card --help".into()))
         }
-        Some(_) => {
-            let names = "card check, card template, run, show, audit, plot, convert";
-            Err(Failure::Usage(format!("no such command; the commands are {names}")))
-        }
+        (Some("card"), Some(second)) => Err(no_command(second, 1)),
+        (Some(first), _) => Err(no_command(first, 0)),
     }
+}
+
+/// A word that isn't the first or the second of a command; the nearest that is.
+fn no_command(word: &str, at: usize) -> Failure {
+    let names: Vec<String> = COMMANDS.iter().map(|command| command.name.join(" ")).collect();
+    let there = COMMANDS.iter().filter_map(|command| command.name.get(at).copied());
+    let meant = match hint(word, there) {
+        none if none.is_empty() => format!("; the commands are {}", names.join(", ")),
+        meant => meant,
+    };
+    Failure::Usage(format!("no such command: {}{meant}", word.escape_debug()))
 }
 
 fn main() -> ExitCode {

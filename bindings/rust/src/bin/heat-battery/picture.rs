@@ -1,25 +1,26 @@
-//! The picture of a sheet's course: three panels over the call lines, with their legends.
+//! The picture of a sheet's course: three panels over hours or call lines.
 
 use crate::axis::{is_drawable, Axis};
-use crate::card::count;
-use crate::course::{Bar, Class, Course, CLASSES};
+use crate::card::size;
+use crate::course::Course;
 use crate::svg::{Hang, Svg};
-use heat_battery::{Card, Kind, Verdict};
+use heat_battery::{Line, Unmet, Verdict};
 
 const WIDTH: f64 = 1120.0;
 const HEIGHT: f64 = 900.0;
 const LEFT: f64 = 80.0;
 const RIGHT: f64 = 900.0;
-const LEGEND: f64 = 922.0;
-const ZONES: (f64, f64) = (104.0, 440.0);
-const CHARGE: (f64, f64) = (474.0, 604.0);
-const ENERGY: (f64, f64) = (638.0, 838.0);
+pub const ZONES: (f64, f64) = (104.0, 440.0);
+pub const CHARGE: (f64, f64) = (474.0, 604.0);
+pub const ENERGY: (f64, f64) = (638.0, 838.0);
 
 const FRAME: &str = "fill=\"none\" stroke=\"#333\" stroke-width=\"1\"";
 const GRID: &str = "stroke=\"#ddd\" stroke-width=\"1\"";
 const CLOSING: &str = "stroke=\"#bbb\" stroke-width=\"0.6\" stroke-dasharray=\"2 3\"";
-const SMALL: &str = "fill=\"#222\" font-size=\"13\"";
-const HEAD: &str = "fill=\"#000\" font-size=\"14\" font-weight=\"bold\"";
+pub const SMALL: &str = "fill=\"#222\" font-size=\"13\"";
+pub const MARK: &str = "stroke=\"#d00\" stroke-width=\"1.5\"";
+const AUDIT: &str = "stroke=\"#d00\" stroke-width=\"1.5\" stroke-dasharray=\"5 4\"";
+pub const MARK_FILL: &str = "fill=\"#d00\"";
 
 /// From the first zone to the last, dark to light, apart in grey too.
 const RAMP: [(f64, f64, f64); 6] = [
@@ -32,7 +33,7 @@ const RAMP: [(f64, f64, f64); 6] = [
 ];
 
 /// The colour of a zone.
-fn ramp(at: usize, count: usize) -> String {
+pub fn ramp(at: usize, count: usize) -> String {
     let place = at as f64 / (count.max(2) - 1) as f64 * (RAMP.len() - 1) as f64;
     let below = (place.floor() as usize).min(RAMP.len() - 2);
     let part = place - below as f64;
@@ -41,31 +42,45 @@ fn ramp(at: usize, count: usize) -> String {
     format!("rgb({},{},{})", mix(low.0, high.0), mix(low.1, high.1), mix(low.2, high.2))
 }
 
-/// A number with at most two decimals.
-fn hundredths(x: f64) -> String {
-    format!("{}", (x * 100.0).round() / 100.0)
-}
-
 /// The most closings that are drawn through a panel.
 const MOST_CLOSINGS: usize = 100;
-/// The most zones that the legend names.
-const MOST_NAMED: usize = 10;
+/// Labels along the top that are nearer to each other are left out.
+const LEAST_GAP: f64 = 44.0;
 
 pub struct Picture<'a> {
-    course: &'a Course,
+    pub course: &'a Course,
     name: &'a str,
-    svg: Svg,
+    pub svg: Svg,
     across: Axis,
+}
+
+/// Whether a line is refused.
+pub fn is_refused(line: &Line) -> bool {
+    line.answer.refusal.is_some()
+}
+
+/// Whether a line's demand is unmet.
+pub fn is_unmet(line: &Line) -> bool {
+    line.shortfall().is_some()
 }
 
 impl<'a> Picture<'a> {
     pub fn new(course: &'a Course, name: &'a str) -> Picture<'a> {
-        let across = Axis::whole(course.first(), course.last(), 12);
+        let (first, last) = (course.first(), course.last());
+        let across = match course.is_timed {
+            true => Axis::hours(first, last, 12),
+            false => Axis::whole(first, last, 12),
+        };
         Picture { course, name, svg: Svg::new(WIDTH, HEIGHT, name), across }
     }
 
-    fn x(&self, line: f64) -> f64 {
-        LEFT + (RIGHT - LEFT) * self.across.place(line)
+    fn x(&self, at: f64) -> f64 {
+        LEFT + (RIGHT - LEFT) * self.across.place(at)
+    }
+
+    /// Where the left end of something so wide is drawn around a place, inside the frame.
+    fn left(&self, at: f64, width: f64) -> f64 {
+        (self.x(at) - width / 2.0).clamp(LEFT, RIGHT - width)
     }
 
     fn y(&self, axis: &Axis, (top, bottom): (f64, f64), value: f64) -> f64 {
@@ -77,18 +92,26 @@ impl<'a> Picture<'a> {
         self.zones();
         self.charge();
         self.energy();
+        self.refused_by_audit(verdict);
         self.svg.end()
     }
 
     fn title(&mut self, verdict: Verdict) {
-        let Course { card, lines, .. } = self.course;
+        let course = self.course;
         self.svg.label(LEFT, 30.0, Hang::Start, "font-size=\"18\" font-weight=\"bold\"", self.name);
-        let size = format!("{}, {}", count(card.layers, "layer"), count(card.units, "unit"));
-        let lines = match (lines.first(), lines.last()) {
+        let mut lines = match (course.lines().next(), course.lines().next_back()) {
             (Some(first), Some(last)) => format!("call lines {} to {}", first.index, last.index),
             _ => "no call lines".into(),
         };
-        let words = format!("{size}, {lines}; audit: {verdict}");
+        if course.together > 1 {
+            lines.push_str(&format!(", {} drawn as one", course.together));
+        }
+        let card = course.card.fingerprint();
+        let mut words = format!("{}, {lines}; card {card}; audit: {verdict}", size(&course.card));
+        let unmet = Unmet::of(course.lines());
+        if !unmet.is_none() {
+            words.push_str(&format!("; {unmet}"));
+        }
         self.svg.label(LEFT, 50.0, Hang::Start, "fill=\"#333\"", &words);
     }
 
@@ -101,12 +124,12 @@ impl<'a> Picture<'a> {
             self.svg.label(LEFT - 8.0, y + 4.0, Hang::End, SMALL, &text);
         }
         let closings = self.course.closings();
-        for (line, _) in closings.iter().step_by(closings.len().div_ceil(MOST_CLOSINGS).max(1)) {
-            let x = self.x(*line);
+        for at in closings.iter().step_by(closings.len().div_ceil(MOST_CLOSINGS).max(1)) {
+            let x = self.x(*at);
             self.svg.line((x, top), (x, bottom), CLOSING);
         }
-        for (line, text) in self.across.ticks() {
-            let x = self.x(line);
+        for (at, text) in self.across.ticks() {
+            let x = self.x(at);
             self.svg.line((x, bottom), (x, bottom + 5.0), "stroke=\"#333\"");
             self.svg.label(x, bottom + 18.0, Hang::Middle, SMALL, &text);
         }
@@ -114,20 +137,23 @@ impl<'a> Picture<'a> {
         self.svg.upright(24.0, (top + bottom) / 2.0, label);
     }
 
-    /// Hours of closed timesteps along the top.
-    fn hours(&mut self) {
+    /// Call lines along the top of a picture over hours.
+    fn line_numbers(&mut self) {
         let top = ZONES.0;
-        let closings = self.course.closings();
-        let gap = closings.len().div_ceil(12).max(1);
-        for (line, hours) in closings.iter().skip(gap - 1).step_by(gap) {
-            let x = self.x(*line);
+        let ends = self.course.lines().next().zip(self.course.lines().next_back());
+        let Some((first, last)) = ends.filter(|_| self.course.is_timed) else { return };
+        let numbers = Axis::whole(first.index as f64 - 1.0, last.index as f64, 12);
+        let mut right = f64::NEG_INFINITY;
+        for (number, text) in numbers.ticks() {
+            let Some(x) = self.course.place(number as u64).map(|at| self.x(at)) else { continue };
+            if x < right + LEAST_GAP {
+                continue;
+            }
+            right = x;
             self.svg.line((x, top - 5.0), (x, top), "stroke=\"#333\"");
-            self.svg.label(x, top - 9.0, Hang::Middle, SMALL, &hundredths(*hours));
+            self.svg.label(x, top - 9.0, Hang::Middle, SMALL, &text);
         }
-        if !closings.is_empty() {
-            let words = "timesteps closed, h";
-            self.svg.label(RIGHT, top - 26.0, Hang::End, SMALL, words);
-        }
+        self.svg.label(RIGHT, top - 26.0, Hang::End, SMALL, "call line");
     }
 
     fn zones(&mut self) {
@@ -141,58 +167,21 @@ impl<'a> Picture<'a> {
         let size = (RIGHT - LEFT, (low - high).max(1.0));
         self.svg.rect((LEFT, high), size, "fill=\"#fde8c8\"");
         self.panel(ZONES, &axis, "zone temperature, °C");
-        self.hours();
+        self.line_numbers();
         for at in 0..layers {
             let points: Vec<Option<(f64, f64)>> = course
                 .zone(at)
-                .map(|(line, zone)| {
-                    is_drawable(zone).then(|| (self.x(line), self.y(&axis, ZONES, zone)))
+                .map(|(at, zone)| {
+                    is_drawable(zone).then(|| (self.x(at), self.y(&axis, ZONES, zone)))
                 })
                 .collect();
             let style = format!("stroke=\"{}\" stroke-width=\"1.6\"", ramp(at, layers));
             self.svg.path(points.into_iter(), &style);
         }
-        self.refused_lines();
+        for at in course.marks(is_refused) {
+            self.svg.cross((self.left(at, 6.0), ZONES.1 - 11.0), 6.0, MARK);
+        }
         self.zone_legend(layers);
-    }
-
-    /// A cross at the foot of the zones for each refused line.
-    fn refused_lines(&mut self) {
-        let style = "stroke=\"#d00\" stroke-width=\"1.5\"";
-        for line in self.course.lines.iter().filter(|line| line.answer.refusal.is_some()) {
-            let (x, y) = (self.x(line.index as f64), ZONES.1 - 8.0);
-            self.svg.line((x - 3.0, y - 3.0), (x + 3.0, y + 3.0), style);
-            self.svg.line((x - 3.0, y + 3.0), (x + 3.0, y - 3.0), style);
-        }
-    }
-
-    fn zone_legend(&mut self, layers: usize) {
-        let mut y = ZONES.0 + 10.0;
-        self.svg.label(LEGEND, y, Hang::Start, HEAD, "Zones");
-        let shown = layers.min(MOST_NAMED);
-        for at in (0..shown).map(|at| at * (layers - 1) / (shown - 1).max(1)) {
-            y += 20.0;
-            let style = format!("stroke=\"{}\" stroke-width=\"3\"", ramp(at, layers));
-            self.svg.line((LEGEND, y - 4.0), (LEGEND + 26.0, y - 4.0), &style);
-            let water = match at {
-                0 => " (water in)",
-                at if at + 1 == layers => " (water out)",
-                _ => "",
-            };
-            let text = format!("zone {}{water}", at + 1);
-            self.svg.label(LEGEND + 34.0, y, Hang::Start, SMALL, &text);
-        }
-        y += 24.0;
-        let style = "fill=\"#fde8c8\" stroke=\"#e5c48f\"";
-        self.svg.rect((LEGEND, y - 11.0), (26.0, 12.0), style);
-        let Card { lower, upper, .. } = self.course.card;
-        let text = format!("melting, {} to {} °C", hundredths(lower), hundredths(upper));
-        self.svg.label(LEGEND + 34.0, y, Hang::Start, SMALL, &text);
-        if self.course.lines.iter().any(|line| line.answer.refusal.is_some()) {
-            y += 22.0;
-            self.svg.label(LEGEND + 9.0, y, Hang::Start, "fill=\"#d00\"", "×");
-            self.svg.label(LEGEND + 34.0, y, Hang::Start, SMALL, "refused line");
-        }
     }
 
     fn charge(&mut self) {
@@ -202,77 +191,64 @@ impl<'a> Picture<'a> {
         self.panel(CHARGE, &axis, "state of charge, %");
         let points: Vec<Option<(f64, f64)>> = charges
             .iter()
-            .map(|(line, percent)| {
+            .map(|(at, percent)| {
                 let percent = percent.filter(|x| is_drawable(*x))?;
-                Some((self.x(*line), self.y(&axis, CHARGE, percent)))
+                Some((self.x(*at), self.y(&axis, CHARGE, percent)))
             })
             .collect();
         self.svg.path(points.into_iter(), "stroke=\"#000\" stroke-width=\"1.6\"");
-        let asked = self.course.lines.iter().filter(|line| line.call.kind() == Kind::StateOfCharge);
-        for line in asked.filter(|line| line.answer.refusal.is_none()) {
-            let percent = line.answer.energy * 100.0;
-            if is_drawable(percent) {
-                let at = (self.x(line.index as f64), self.y(&axis, CHARGE, percent));
-                self.svg.dot(at, 2.2, "fill=\"#fff\" stroke=\"#000\"");
-            }
+        let inside = |percent: f64| (axis.low..=axis.high).contains(&percent);
+        for (at, percent) in self.course.asked().filter(|(_, percent)| inside(*percent)) {
+            let at = (self.x(at), self.y(&axis, CHARGE, percent));
+            self.svg.dot(at, 2.2, "fill=\"#fff\" stroke=\"#000\"");
         }
         self.charge_legend();
     }
 
-    fn charge_legend(&mut self) {
-        let y = CHARGE.0 + 10.0;
-        self.svg.label(LEGEND, y, Hang::Start, HEAD, "State of charge");
-        let style = "stroke=\"#000\" stroke-width=\"1.6\"";
-        self.svg.line((LEGEND, y + 16.0), (LEGEND + 26.0, y + 16.0), style);
-        self.svg.label(LEGEND + 34.0, y + 20.0, Hang::Start, SMALL, "of each line's zones");
-        self.svg.dot((LEGEND + 13.0, y + 36.0), 2.2, "fill=\"#fff\" stroke=\"#000\"");
-        self.svg.label(LEGEND + 34.0, y + 40.0, Hang::Start, SMALL, "asked for by a call");
-    }
-
     fn energy(&mut self) {
         let bars = self.course.bars();
-        let axis = Axis::new(bars.iter().map(|bar| bar.energy).chain([0.0]), 6);
+        let ends = bars.iter().flat_map(|bar| [bar.base, bar.base + bar.energy]);
+        let axis = Axis::new(ends.chain([0.0]), 6);
         self.panel(ENERGY, &axis, "energy, kWh");
         let zero = self.y(&axis, ENERGY, 0.0);
         self.svg.line((LEFT, zero), (RIGHT, zero), "stroke=\"#333\"");
-        let width = ((self.x(1.0) - self.x(0.0)) * 0.9).clamp(1.0, 24.0);
         for bar in &bars {
-            let y = self.y(&axis, ENERGY, bar.energy);
-            let corner = (self.x(bar.line) - width / 2.0, y.min(zero));
+            let width = ((self.x(bar.to) - self.x(bar.from)) * 0.9).clamp(1.0, 24.0);
+            let [base, tip] =
+                [bar.base, bar.base + bar.energy].map(|energy| self.y(&axis, ENERGY, energy));
+            let corner = (self.left((bar.from + bar.to) / 2.0, width), base.min(tip));
             let color = bar.class.color;
             let style = match bar.is_trial {
                 true => format!("fill=\"#fff\" stroke=\"{color}\" stroke-width=\"0.8\""),
                 false => format!("fill=\"{color}\""),
             };
-            self.svg.rect(corner, (width, (y - zero).abs()), &style);
+            self.svg.rect(corner, (width, (tip - base).abs()), &style);
+        }
+        for at in self.course.marks(is_unmet) {
+            self.svg.triangle((self.left(at, 8.0), ENERGY.1 - 10.0), 8.0, MARK_FILL);
         }
         let middle = (LEFT + RIGHT) / 2.0;
-        self.svg.label(middle, ENERGY.1 + 38.0, Hang::Middle, "", "call line");
+        let words = match self.course.is_timed {
+            true => "hours (the calls of a timestep share it in their order)",
+            false => "call line",
+        };
+        self.svg.label(middle, ENERGY.1 + 38.0, Hang::Middle, "", words);
         self.energy_legend(&bars);
     }
 
-    fn energy_legend(&mut self, bars: &[Bar]) {
-        let mut y = ENERGY.0 + 10.0;
-        let is_drawn = |class: &Class| bars.iter().any(|bar| bar.class == class && !bar.is_trial);
-        for (head, sign) in [("Heat in (up)", 1.0), ("Heat out (down)", -1.0)] {
-            let classes = CLASSES.iter().filter(|class| class.sign == sign && is_drawn(class));
-            let classes: Vec<&Class> = classes.collect();
-            if classes.is_empty() {
-                continue;
-            }
-            self.svg.label(LEGEND, y, Hang::Start, HEAD, head);
-            for class in classes {
-                y += 20.0;
-                let style = format!("fill=\"{}\"", class.color);
-                self.svg.rect((LEGEND, y - 10.0), (26.0, 11.0), &style);
-                self.svg.label(LEGEND + 34.0, y, Hang::Start, SMALL, class.name);
-            }
-            y += 26.0;
+    /// The line that the audit refuses, through all panels.
+    fn refused_by_audit(&mut self, verdict: Verdict) {
+        let Verdict::Refused { refusal, line } = verdict else { return };
+        let Some(at) = self.course.place(line) else { return };
+        let x = self.left(at, 2.0) + 1.0;
+        for (top, bottom) in [ZONES, CHARGE, ENERGY] {
+            self.svg.line((x, top), (x, bottom), AUDIT);
         }
-        if bars.iter().any(|bar| bar.is_trial) {
-            y -= 6.0;
-            self.svg.rect((LEGEND, y - 10.0), (26.0, 11.0), "fill=\"#fff\" stroke=\"#444\"");
-            self.svg.label(LEGEND + 34.0, y, Hang::Start, SMALL, "trial, nothing given");
-        }
+        let (gap, hang) = match x < (LEFT + RIGHT) / 2.0 {
+            true => (6.0, Hang::Start),
+            false => (-6.0, Hang::End),
+        };
+        let words = format!("line {line}: refused {}", refusal.number());
+        self.svg.label(x + gap, ZONES.0 + 16.0, hang, MARK_FILL, &words);
     }
 }

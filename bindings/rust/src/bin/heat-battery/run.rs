@@ -1,60 +1,95 @@
 //! `run`: a list of calls, made and written as a sheet.
 
 use crate::arguments::Arguments;
-use crate::card::accept;
+use crate::card::{accepted, count};
 use crate::failure::Failure;
-use crate::files::{self, note};
+use crate::files;
+use crate::output::{note, write};
+use crate::progress::Progress;
 use heat_battery::text::{self, ListedCall};
-use heat_battery::{Refusal, Sheet, MOST_AUDITED};
-use std::io::{self, IsTerminal, Write};
-use std::time::{Duration, Instant};
+use heat_battery::{shortfall, Looks, Refusal, Sheet, Unmet, MOST_AUDITED};
+use std::ffi::OsStr;
 
 pub fn run(arguments: &Arguments) -> Result<(), Failure> {
     let (card_path, calls_path) = (arguments.place(0), arguments.place(1));
     let out = arguments.flag("-o").ok_or(Failure::Usage("run: -o SHEET is missing".into()))?;
     let most = arguments.whole("--most").map_err(Failure::Usage)?;
     let most = most.map_or(usize::MAX, |most| usize::try_from(most).unwrap_or(usize::MAX));
-    if files::is_standard(card_path) && files::is_standard(calls_path) {
-        return Err(Failure::Usage("run: only one of CARD and CALLS can be '-'".into()));
-    }
-    if [card_path, calls_path].iter().any(|path| files::is_same(path, out)) {
-        return Err(Failure::Usage(format!("{} would be overwritten", files::name(out))));
-    }
-    let card = files::card(card_path)?;
-    let refused = |words| Failure::Refused(format!("{}: {words}", files::name(card_path)));
-    accept(&card).map_err(refused)?;
-    let name = files::name(calls_path);
-    let calls = text::calls(&files::text(calls_path)?)
-        .map_err(|slips| Failure::File(format!("{name}: no list of calls:\n{slips}")))?;
+    test_paths(card_path, calls_path, out)?;
+    let card = accepted(card_path)?;
+    let calls = text::calls(&files::text(calls_path, Looks::Calls)?)
+        .map_err(|slips| files::trouble(calls_path, format!("no list of calls:\n{slips}")))?;
     let sheet = Sheet::open_within(&card, most)
         .map_err(|refusal| Failure::Refused(format!("no sheet: {refusal}")))?;
-    let mut list = List { sheet, name, refused: 0, progress: Progress::new(calls.len()) };
+    let mut list = List::new(sheet, files::name(calls_path), calls.len());
     list.make(&calls, arguments.has("--stop"));
-    files::write(out, list.sheet.as_bytes())?;
-    list.close(calls.len())
+    write(out, list.sheet.as_bytes())?;
+    list.close(calls.len(), arguments.has("--unmet-fails"))
 }
+
+fn test_paths(card: &OsStr, calls: &OsStr, out: &OsStr) -> Result<(), Failure> {
+    if files::is_standard(card) && files::is_standard(calls) {
+        return Err(Failure::Usage("run: only one of CARD and CALLS can be '-'".into()));
+    }
+    files::test_apart(&[card, calls], out)?;
+    if files::looks_like(card, Looks::Calls) && files::looks_like(calls, Looks::Card) {
+        let [card, calls] = [card, calls].map(files::name);
+        let words = format!("{card} is a list of calls and {calls} a card");
+        return Err(Failure::Usage(format!("run: CARD and CALLS are swapped: {words}")));
+    }
+    Ok(())
+}
+
+/// The most refused calls that are reported; the others are counted.
+const MOST_REPORTS: usize = 20;
 
 struct List {
     sheet: Sheet,
     /// Of the calls' file.
     name: String,
     refused: usize,
+    unmet: Unmet,
     progress: Progress,
 }
 
 impl List {
+    fn new(sheet: Sheet, name: String, calls: usize) -> List {
+        let unmet = Unmet::default();
+        List { sheet, name, refused: 0, unmet, progress: Progress::new(calls) }
+    }
+
+    /// Makes the calls up to one that has no room or, if asked to stop, up to a refused one.
     fn make(&mut self, calls: &[ListedCall], stop: bool) {
         for (at, listed) in calls.iter().enumerate() {
             self.progress.show(at);
-            if let Err(refusal) = self.sheet.call(&listed.call) {
-                self.refused += 1;
+            let Some(refusal) = self.call(listed) else { continue };
+            self.refused += 1;
+            if self.refused <= MOST_REPORTS {
                 self.report(at + 1, listed, refusal);
-                if stop {
-                    break;
-                }
+            }
+            if refusal == Refusal::NoRoom {
+                let left = count((calls.len() - at - 1) as u64, "call");
+                note(&format!("the sheet is full; not made besides: {left}"));
+            }
+            if stop || refusal == Refusal::NoRoom {
+                break;
             }
         }
         self.progress.end();
+        if let Some(more @ 1..) = self.refused.checked_sub(MOST_REPORTS) {
+            note(&format!("and {} refused", count(more as u64, "more call")));
+        }
+    }
+
+    /// Makes a call; the refusal, as a line or not.
+    fn call(&mut self, listed: &ListedCall) -> Option<Refusal> {
+        match self.sheet.answer(&listed.call) {
+            Ok(answer) => {
+                self.unmet.add(shortfall(&listed.call, &answer));
+                answer.refusal
+            }
+            Err(refusal) => Some(refusal),
+        }
     }
 
     /// The number of the call, its line in the text, the refusal, and where it stands.
@@ -74,54 +109,32 @@ impl List {
         }
     }
 
-    fn close(&self, calls: usize) -> Result<(), Failure> {
-        let (lines, bytes) = (self.sheet.len(), self.sheet.as_bytes().len());
-        note(&format!("{calls} calls, {} refused: {lines} lines, {bytes} bytes", self.refused));
+    fn close(&self, calls: usize, unmet_fails: bool) -> Result<(), Failure> {
+        let bytes = self.sheet.as_bytes().len();
+        let [calls, lines, length] =
+            [(calls as u64, "call"), (self.sheet.len(), "line"), (bytes as u64, "byte")]
+                .map(|(number, thing)| count(number, thing));
+        let card = self.sheet.battery().card().fingerprint();
+        note(&format!("{calls}, {} refused: {lines}, {length}, card {card}", self.refused));
+        if !self.unmet.is_none() {
+            note(&self.unmet.to_string());
+        }
         if bytes > MOST_AUDITED {
             let said = "the laboratory's audit program reads at most";
             note(&format!("{said} {MOST_AUDITED} bytes and would refuse it with 44"));
         }
         match self.refused {
+            0 if unmet_fails => unmet_status(&self.name, self.unmet),
             0 => Ok(()),
             count => Err(Failure::Refused(format!("{}: {count} refused", self.name))),
         }
     }
 }
 
-/// How far a long list is, on standard error about once a second.
-struct Progress {
-    calls: usize,
-    last: Instant,
-    is_terminal: bool,
-    is_shown: bool,
-}
-
-impl Progress {
-    fn new(calls: usize) -> Progress {
-        let is_terminal = io::stderr().is_terminal();
-        Progress { calls, last: Instant::now(), is_terminal, is_shown: false }
-    }
-
-    fn show(&mut self, done: usize) {
-        if self.last.elapsed() < Duration::from_secs(1) {
-            return;
-        }
-        self.last = Instant::now();
-        let words = format!("{done} of {} calls", self.calls);
-        match self.is_terminal {
-            true => {
-                let _ = write!(io::stderr(), "\r{words}");
-                self.is_shown = true;
-            }
-            false => note(&words),
-        }
-    }
-
-    /// Leaves the line that shows the progress.
-    fn end(&mut self) {
-        if self.is_shown {
-            note("");
-            self.is_shown = false;
-        }
+/// Unmet demand is a failure.
+pub fn unmet_status(name: &str, unmet: Unmet) -> Result<(), Failure> {
+    match unmet.is_none() {
+        true => Ok(()),
+        false => Err(Failure::Unmet(format!("{name}: {unmet}"))),
     }
 }

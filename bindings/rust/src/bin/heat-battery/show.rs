@@ -4,7 +4,9 @@ use crate::arguments::Arguments;
 use crate::failure::Failure;
 use crate::files;
 use crate::json;
-use heat_battery::{audit, Answer, Card, Damage, Line, Verdict};
+use crate::output::print;
+use crate::run::unmet_status;
+use heat_battery::{audit, Answer, Card, Damage, Line, Unmet, Verdict};
 use std::ffi::OsStr;
 use std::fmt::Write;
 
@@ -17,8 +19,12 @@ pub fn show(arguments: &Arguments) -> Result<(), Failure> {
         true => json::sheet(&card, &lines, damage.as_ref(), verdict),
         false => table(&card, &lines, verdict),
     };
-    files::print(&text)?;
-    verdict_status(path, verdict, damage)
+    print(&text)?;
+    verdict_status(path, verdict, damage)?;
+    match arguments.has("--unmet-fails") {
+        true => unmet_status(&files::name(path), Unmet::of(&lines)),
+        false => Ok(()),
+    }
 }
 
 /// A refused sheet is a failure, with the damage if there is one.
@@ -27,12 +33,11 @@ pub fn verdict_status(
     verdict: Verdict,
     damage: Option<Damage>,
 ) -> Result<(), Failure> {
-    let name = files::name(path);
     match (verdict, damage) {
         (Verdict::Accepted(_), _) => Ok(()),
-        (_, Some(damage)) => Err(Failure::Refused(format!("{name}: {damage}"))),
+        (_, Some(damage)) => Err(files::refused(path, damage)),
         (Verdict::Refused { refusal, line }, None) => {
-            Err(Failure::Refused(format!("{name}: the audit refuses line {line} with {refusal}")))
+            Err(files::refused(path, format!("the audit refuses line {line} with {refusal}")))
         }
     }
 }
@@ -41,7 +46,7 @@ pub fn verdict_status(
 const ZONES_A_ROW: usize = 8;
 
 const HEAD: &str = "\
-line  kind                   energy kWh  outlet °C     time s  substeps  running h     pump h   direct h  charged kWh  electric kWh
+line  kind                   energy kWh  shortfall kWh   trial kWh  charge 0-1  to charge kWh  outlet °C     time s  substeps  running h     pump h   direct h  charged kWh  electric kWh
 ";
 
 fn table(card: &Card, lines: &[Line], verdict: Verdict) -> String {
@@ -49,20 +54,32 @@ fn table(card: &Card, lines: &[Line], verdict: Verdict) -> String {
     for line in lines {
         add_line(&mut text, line);
     }
-    let _ = writeln!(text, "\naudit: {verdict}");
+    let unmet = Unmet::of(lines);
+    if !unmet.is_none() {
+        let _ = writeln!(text, "\n{unmet}");
+    }
+    let _ = writeln!(text, "\ncard {}\naudit: {verdict}", card.fingerprint());
     text
 }
 
 fn add_line(text: &mut String, line: &Line) {
-    let Answer { energy, outlet, time, substeps, zones, totals, refusal } = &line.answer;
-    let outlet = outlet.map_or("-".into(), |outlet| rounded(outlet, 4));
+    let Answer { outlet, time, substeps, zones, totals, refusal, .. } = &line.answer;
+    // Only a damaged sheet has an energy on a question's line.
+    let is_shown = |energy: &f64| !line.call.is_question() || *energy != 0.0;
+    let energy = Some(line.answer.energy).filter(is_shown);
+    let or_dash = |x: Option<f64>, decimals| x.map_or("-".into(), |x| rounded(x, decimals));
     let [running, pump, direct, charged, electric] = totals.numbers().map(|x| rounded(x, 5));
     let _ = writeln!(
         text,
-        "{:>4}  {:<20} {:>12} {outlet:>10} {:>10} {substeps:>9} {running:>10} {pump:>10} {direct:>10} {charged:>12} {electric:>13}",
+        "{:>4}  {:<20} {:>12} {:>14} {:>11} {:>11} {:>14} {:>10} {:>10} {substeps:>9} {running:>10} {pump:>10} {direct:>10} {charged:>12} {electric:>13}",
         line.index,
         line.call.kind().name(),
-        rounded(*energy, 6),
+        or_dash(energy, 6),
+        or_dash(line.shortfall(), 6),
+        or_dash(line.answer.trial_energy, 6),
+        or_dash(line.answer.state_of_charge, 6),
+        or_dash(line.answer.charge_energy_demand, 6),
+        or_dash(*outlet, 4),
         rounded(*time, 3),
     );
     if let Some(refusal) = refusal {

@@ -82,6 +82,21 @@ impl Svg {
         let _ = writeln!(self.text, "<circle cx=\"{x:.1}\" cy=\"{y:.1}\" r=\"{radius}\" {style}/>");
     }
 
+    /// A cross in a square, by its upper left corner.
+    pub fn cross(&mut self, (x, y): (f64, f64), size: f64, style: &str) {
+        self.line((x, y), (x + size, y + size), style);
+        self.line((x, y + size), (x + size, y), style);
+    }
+
+    /// A triangle on its tip in a square, by its upper left corner.
+    pub fn triangle(&mut self, (x, y): (f64, f64), size: f64, style: &str) {
+        let (right, middle, foot) = (x + size, x + size / 2.0, y + size);
+        let _ = writeln!(
+            self.text,
+            "<path d=\"M{x:.1} {y:.1}L{right:.1} {y:.1}L{middle:.1} {foot:.1}Z\" {style}/>"
+        );
+    }
+
     /// A path through points; a missing one leaves a gap.
     pub fn path(&mut self, points: impl Iterator<Item = Option<(f64, f64)>>, style: &str) {
         let mut path = String::new();
