@@ -6,7 +6,7 @@ mod command;
 mod json;
 
 use command::{example, run, run_with, Ended, Folder};
-use heat_battery::{audit, explain, ffi, is_too_long, Explanation, MOST_AUDITED};
+use heat_battery::{audit, explain, ffi, is_too_long, read, Explanation, MOST_AUDITED};
 use heat_battery::{Call, Card, Refusal, ServiceType, Sheet, Verdict};
 use json::is_json;
 use std::fs;
@@ -102,6 +102,12 @@ fn program_line(length: usize) -> String {
     format!("{said}: it reads at most 65536 bytes, and this sheet has {length}\n")
 }
 
+/// The line that says which card it is.
+fn card_line(sheet: &[u8]) -> String {
+    let (card, _) = read(sheet).expect("a card");
+    format!("card {}\n", card.fingerprint())
+}
+
 fn assert_said(ended: &Ended, status: i32, out: &str) {
     assert_eq!((ended.status, ended.out.as_str()), (status, out), "{}", ended.err);
 }
@@ -110,24 +116,26 @@ fn assert_said(ended: &Ended, status: i32, out: &str) {
 fn the_audit_says_what_the_program_would_answer() {
     let folder = Folder::new("long_audit");
     let sheet = long_sheet();
-    let program = program_line(sheet.len());
-    let accepted = format!("accepted {LINES}\n{program}");
+    let (card, program) = (card_line(&sheet), program_line(sheet.len()));
+    let accepted = format!("accepted {LINES}\n{card}{program}");
     assert_said(&run(&["audit", &folder.write("sheet", &sheet)]), 0, &accepted);
     assert_said(&run_with(&["audit", "-"], &sheet), 0, &accepted);
 
     let file = folder.write("altered", &altered(sheet));
-    let out = format!("refused 43 line {LINES}\n{program}");
+    let out = format!("refused 43 line {LINES}\n{card}{program}");
     assert_said(&run(&["audit", &file]), 1, &out);
     let explained = run(&["audit", "--explain", &file]);
     assert_eq!(explained.status, 1);
-    let start = format!("refused 43 line {LINES}\nline {LINES} is close_timestep\n  ");
+    let start = format!("refused 43 line {LINES}\n{card}line {LINES} is close_timestep\n  ");
     assert!(explained.out.starts_with(&start) && explained.out.ends_with(&program));
     assert!(explained.out.contains("kWh: the sheet says "), "{}", explained.out);
 }
 
 #[test]
 fn a_sheet_that_the_program_reads_has_no_such_line() {
-    assert_said(&run(&["audit", &example("winter-day.sheet")]), 0, "accepted 204\n");
+    let day = example("winter-day.sheet");
+    let card = card_line(&fs::read(&day).expect("the day"));
+    assert_said(&run(&["audit", &day]), 0, &format!("accepted 204\n{card}"));
 }
 
 #[test]
