@@ -2,7 +2,7 @@
 # Instructions per round of a row, by callgrind: instructions.sh ROW CONTENDER..
 set -eu
 here=$(cd "$(dirname "$0")" && pwd)
-program=${CARGO_TARGET_DIR:-$here/target}/release/bench
+program=${CARGO_TARGET_DIR:-$here/../target}/measured/bench
 row=$1
 shift
 count() {

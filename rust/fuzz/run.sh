@@ -1,11 +1,11 @@
 #!/bin/sh
 # Fuzzes libheat_battery.a with libFuzzer; the oracle's independent entries and auditor are the referee.
 #
-#   fuzz/run.sh entries|audit SECONDS [OPTION..]     further options go to libFuzzer
-#   fuzz/run.sh --broken                             puts faults in, one after another; each must be found
+#   rust/fuzz/run.sh entries|audit SECONDS [OPTION..]     further options go to libFuzzer
+#   rust/fuzz/run.sh --broken                             puts faults in, one after another; each must be found
 #
-# The library is taken from the folder that HEAT_BATTERY_LIB names, else from target/staticlib. Needs cargo, the published Rust as the
-# oracle does, and Debian's packages clang and libclang-rt-14-dev. Ends with 0 where all agree; the last line sums up.
+# The archive is the prebuilt one, or the one in the folder that HEAT_BATTERY_LIB names. Needs cargo and Debian's packages clang and
+# libclang-rt-14-dev. Ends with 0 where all agree; the last line sums up.
 set -eu
 here=$(cd "$(dirname "$0")" && pwd)
 usage() { sed -n '4,5s/^# *//p' "$here/run.sh" >&2; exit 2; }
@@ -16,27 +16,24 @@ case ${1-} in
     *) usage ;;
 esac
 
-library=${HEAT_BATTERY_LIB:-$here/../target/staticlib}
-[ -f "$library/libheat_battery.a" ] || { echo "no $library/libheat_battery.a: run rt staticlib heat_battery" >&2; exit 2; }
-HEAT_BATTERY_LIB=$(cd "$library" && pwd)
-export HEAT_BATTERY_LIB
 runtime=$(clang -print-file-name=libclang_rt.fuzzer-x86_64.a 2>/dev/null) || runtime=
 [ -f "$runtime" ] || { echo "no libFuzzer: apt-get install clang libclang-rt-14-dev" >&2; exit 2; }
 
 # Referee and harness tell libFuzzer where they go and what they compare; the archive has no such marks.
-cd "$here"
 coverage=-sanitizer-coverage
 RUSTFLAGS="-C passes=sancov-module -C llvm-args=$coverage-level=3 -C llvm-args=$coverage-inline-8bit-counters \
 -C llvm-args=$coverage-pc-table -C llvm-args=$coverage-trace-compares -C link-arg=$runtime -C link-arg=-lstdc++" \
-    cargo build --release --offline --quiet --target x86_64-unknown-linux-gnu --target-dir target
+    cargo build --release --offline --quiet --target x86_64-unknown-linux-gnu --target-dir "$here/target" \
+    --manifest-path "$here/Cargo.toml"
+cd "$here"
 programs=target/x86_64-unknown-linux-gnu/release
 
 # Makes a folder for a run, with the program and its seeds: made FOLDER TARGET all|sound
 made() {
     mkdir -p "$1/corpus" "$1/found"
     rm -rf "$1/seeds"
-    cp -f "$programs/$2" "$1/program"
-    "$programs/seeds" "$2" "$3" "$1/seeds" >"$1/answers"
+    cp -f "$programs/fuzz-$2" "$1/program"
+    "$programs/fuzz-seeds" "$2" "$3" "$1/seeds" >"$1/answers"
 }
 
 # Runs a folder's program: fuzz FOLDER SECONDS OPTION..
@@ -74,8 +71,8 @@ broken() {
 
 if [ "$1" = --broken ]; then
     missed=0
-    broken entries room room-first line-before-room flag absent-bytes refused-record behind-line referee
-    broken audit passes-all passes-none index last-line order no-limit referee
+    broken entries room room-first line-before-room flag absent-bytes refused-record behind-line reads-behind reads-before referee
+    broken audit passes-all passes-none index last-line order no-limit reads-behind reads-before referee
     echo "$missed faults were not found"
     [ "$missed" -eq 0 ]
     exit
@@ -92,7 +89,7 @@ cat "$folder/answers"
 found=$(($(findings "$folder") - before))
 if [ $failed -ne 0 ]; then
     grep -v -E 'NEW|REDUCE|pulse|^"' "$folder/log" | tail -25
-    echo "the inputs are in fuzz/$folder/found"
+    echo "the inputs are in rust/fuzz/$folder/found"
 fi
 reached=$(sed -n 's/.* cov: \([0-9]*\) .*/\1/p' "$folder/log" | tail -1)
 compared=$(sed -n 's/^\([0-9]*\) inputs, .*/\1/p' "$folder/answers")

@@ -89,8 +89,9 @@ fn main() {
     println!("cargo:rerun-if-changed=build.rs");
     let Some(source) = published(&manifest) else {
         println!(
-            "cargo:warning=skipped: all that needs the published Rust, as there is no {}; README.md says where to get it",
-            NAMES[1]
+            "cargo:warning=skipped: the judge and new vectors, as no {} is at hand; set SRC to the folder with {}",
+            NAMES[1],
+            include_str!("SOURCE").trim_end()
         );
         return;
     };

@@ -39,12 +39,12 @@ impl Arguments {
         }
     }
 
-    /// `--steps plain` or `--steps judge`.
+    /// `--steps plain`, `--steps judge`, or `--steps best`: the judge's where it is there.
     pub fn steps(&self, default: Step) -> Result<Step, String> {
         match self.option("--steps") {
             None => Ok(default),
             Some(name) => {
-                let words = "--steps takes plain or, with the published file, judge";
+                let words = "--steps takes plain, best or, with the published file, judge";
                 entries::steps(name).ok_or(format!("{words}, not {name}"))
             }
         }

@@ -6,6 +6,7 @@
 //! and `sheet` hold afterwards. The slices are card, record, sheet; record, call, sheet; sheet.
 
 use crate::compare;
+use crate::lent::Flush;
 use crate::library::{Independent, Library};
 use crate::{entries, plain};
 use std::cell::RefCell;
@@ -61,6 +62,11 @@ impl Library for Recorder {
         let result = self.entries.audit(sheet);
         self.record(AUDIT, &[sheet], result, &[]);
         result
+    }
+
+    /// Each is written down once.
+    fn lent(&self) -> &'static [Flush] {
+        &[Flush::End]
     }
 }
 

@@ -1,10 +1,12 @@
 //! A library against the independent entries and auditor: results, lines, records, and every
-//! byte that must stay, also around what is lent.
+//! byte that must stay, also around what is lent. Each input is lent twice, with its end and with
+//! its start against a page that can't be read.
 
 use crate::auditor::{self, Verdict};
 use crate::damage::{self, Sheet};
 use crate::entries::{self, Step};
 use crate::generate;
+use crate::lent::{Flush, Lent, LentValue};
 use crate::library::Library;
 use crate::model::Battery;
 use crate::own::{self, Record, Shown};
@@ -76,85 +78,69 @@ pub fn hex(bytes: &[u8]) -> String {
     bytes.iter().map(|byte| format!("{byte:02x}")).collect()
 }
 
-// ---- Lent memory
+// ---- Entries
 
-/// Bytes on each side of what is lent, which nobody may write.
-const GUARD: usize = 64;
-const GUARD_BYTE: u8 = 0xa5;
-
-/// Lent bytes with guards around them.
-#[derive(PartialEq)]
-struct Lent(Vec<u8>);
-
-impl Lent {
-    fn new(bytes: &[u8]) -> Self {
-        let guard = [GUARD_BYTE; GUARD];
-        Lent([&guard[..], bytes, &guard[..]].concat())
-    }
-
-    fn bytes(&self) -> &[u8] {
-        &self.0[GUARD..self.0.len() - GUARD]
-    }
-
-    fn bytes_mut(&mut self) -> &mut [u8] {
-        let end = self.0.len() - GUARD;
-        &mut self.0[GUARD..end]
-    }
-}
-
-/// All that one entry was lent, and its result.
+/// An entry's result, and what it was lent as it left it.
 #[derive(PartialEq)]
 struct Outcome {
     result: u8,
-    record: Lent,
-    sheet: Lent,
+    record: Vec<u8>,
+    sheet: Vec<u8>,
     /// Card or call.
-    read: Lent,
+    read: Vec<u8>,
+    /// Whether what lies beside these is as it was.
+    guarded: bool,
 }
 
 impl Outcome {
+    /// Before an entry.
     fn lend(record: &[u8], sheet: &[u8], read: &[u8]) -> Self {
-        Outcome {
-            result: 0,
-            record: Lent::new(record),
-            sheet: Lent::new(sheet),
-            read: Lent::new(read),
-        }
+        let (record, sheet, read) = (record.to_vec(), sheet.to_vec(), read.to_vec());
+        Outcome { result: 0, record, sheet, read, guarded: true }
+    }
+
+    /// After an entry that is lent the same, flush against a page that can't be read.
+    fn after(&self, flush: Flush, entry: impl Fn(&[u8], &mut [u8], &mut [u8]) -> u8) -> Self {
+        let mut record = Lent::new(&self.record, flush);
+        let mut sheet = Lent::new(&self.sheet, flush);
+        let read = Lent::new(&self.read, flush);
+        let result = entry(read.bytes(), record.bytes_mut(), sheet.bytes_mut());
+        let guarded = [&record, &sheet, &read].iter().all(|lent| lent.is_guarded());
+        let [record, sheet, read] = [record, sheet, read].map(|lent| lent.bytes().to_vec());
+        Outcome { result, record, sheet, read, guarded }
     }
 
     fn text(&self, who: &str) -> String {
-        format!(
-            "  {who}: result {}\n    record {}\n    sheet {}",
-            self.result,
-            hex(&self.record.0),
-            hex(&self.sheet.0)
-        )
+        let Outcome { result, record, sheet, guarded, .. } = self;
+        let beside = if *guarded { "" } else { ", bytes beside them changed" };
+        let (record, sheet) = (hex(record), hex(sheet));
+        format!("  {who}: result {result}{beside}\n    record {record}\n    sheet {sheet}")
     }
 }
 
-fn failure(what: &str, read: &[u8], lent: &Outcome, ours: &Outcome, theirs: &Outcome) -> String {
+fn failure(what: &str, lent: &Outcome, ours: &Outcome, theirs: Option<&Outcome>) -> String {
     format!(
         "{what}\n  card or call {}\n  record {}\n  sheet {}\n{}\n{}",
-        hex(read),
-        hex(lent.record.bytes()),
-        hex(lent.sheet.bytes()),
-        ours.text("independent, with guards"),
-        theirs.text("library, with guards")
+        hex(&lent.read),
+        hex(&lent.record),
+        hex(&lent.sheet),
+        ours.text("independent"),
+        theirs.map_or(String::new(), |theirs| theirs.text("library"))
     )
 }
-
-// ---- Entries
 
 /// Compares an opening.
 pub fn check_open(library: &impl Library, input: &Opening, report: &mut Report) {
     let lend = || Outcome::lend(&input.record, &input.sheet, &input.card);
-    let (mut ours, mut theirs) = (lend(), lend());
-    ours.result = entries::open(ours.read.bytes(), ours.record.bytes_mut(), ours.sheet.bytes_mut());
-    theirs.result =
-        library.open(theirs.read.bytes(), theirs.record.bytes_mut(), theirs.sheet.bytes_mut());
+    let mut ours = lend();
+    ours.result = entries::open(&ours.read, &mut ours.record, &mut ours.sheet);
+    let theirs = |flush: &Flush| {
+        lend().after(*flush, |card, record, sheet| library.open(card, record, sheet))
+    };
+    let other = library.lent().iter().map(theirs).find(|theirs| *theirs != ours);
     report.add("open", ours.result);
-    report.fail(input.known.allows(ours.result), ours == theirs, || {
-        failure("open", &input.card, &lend(), &ours, &theirs)
+    report.fail(input.known.allows(ours.result), other.is_none(), || {
+        failure("open", &lend(), &ours, other.as_ref())
     });
 }
 
@@ -166,24 +152,17 @@ pub fn check_call(
     report: &mut Report,
 ) -> Option<Battery> {
     let lend = || Outcome::lend(&input.record, &input.sheet, &input.call);
-    let (mut ours, mut theirs) = (lend(), lend());
-    let (record, sheet) = (ours.record.bytes_mut(), ours.sheet.bytes_mut());
-    ours.result = entries::call_by(step, record, ours.read.bytes(), sheet);
-    let (record, sheet) = (theirs.record.bytes_mut(), theirs.sheet.bytes_mut());
-    theirs.result = library.call(record, theirs.read.bytes(), sheet);
+    let mut ours = lend();
+    ours.result = entries::call_by(step, &mut ours.record, &ours.read, &mut ours.sheet);
+    let theirs = |flush: &Flush| {
+        lend().after(*flush, |call, record, sheet| library.call(record, call, sheet))
+    };
+    let other = library.lent().iter().map(theirs).find(|theirs| *theirs != ours);
     report.add("call", ours.result);
-    report.fail(input.known.allows(ours.result), ours == theirs, || {
-        failure("call", &input.call, &lend(), &ours, &theirs)
+    report.fail(input.known.allows(ours.result), other.is_none(), || {
+        failure("call", &lend(), &ours, other.as_ref())
     });
-    reading::battery(ours.record.bytes())
-}
-
-/// The caller's own record with guards around it.
-#[repr(C)]
-struct Guarded {
-    before: [u8; GUARD],
-    record: Record,
-    after: [u8; GUARD],
+    reading::battery(&ours.record)
 }
 
 /// Compares a call on the caller's own record.
@@ -194,26 +173,23 @@ pub fn check_advance(
     call: &[u8],
     report: &mut Report,
 ) {
-    let guard = [GUARD_BYTE; GUARD];
     let mut ours = *record;
     let expected = own::advance(step, &mut ours, call);
-    let lent = Lent::new(call);
-    let mut theirs = Guarded { before: guard, record: *record, after: guard };
-    let shown = advance(&mut theirs.record, lent.bytes());
     report.add("advance", expected.refusal);
-    let same = shown.words() == expected.words()
-        && theirs.record.words() == ours.words()
-        && (theirs.before, theirs.after) == (guard, guard)
-        && lent == Lent::new(call);
-    report.fail(true, same, || {
+    // What it shows, the record that it leaves, and whether the rest is as it was.
+    let theirs = |flush: Flush| {
+        let read = Lent::new(call, flush);
+        let mut lent = LentValue::new(*record, flush);
+        let shown = advance(lent.value_mut(), read.bytes());
+        let kept = lent.is_guarded() && read.is_guarded() && read.bytes() == call;
+        (shown.words(), lent.value_mut().words(), kept)
+    };
+    let same = (expected.words(), ours.words(), true);
+    let other = Flush::BOTH.into_iter().map(theirs).find(|theirs| *theirs != same);
+    report.fail(true, other.is_none(), || {
+        let lent = (hex(call), record.words());
         format!(
-            "advance\n  call {}\n  record {:x?}\n  independent: {:x?}\n    record {:x?}\n  library: {:x?}\n    record {:x?}",
-            hex(call),
-            record.words(),
-            expected.words(),
-            ours.words(),
-            shown.words(),
-            theirs.record.words()
+            "advance of call and record {lent:x?}\n  independent: {same:x?}\n  library: {other:x?}"
         )
     });
 }
@@ -241,12 +217,15 @@ pub fn entries(library: &impl Library, step: Step, count: u64, seed: u64) -> Rep
 pub fn check_sheet(library: &impl Library, step: Step, sheet: &Sheet, report: &mut Report) {
     let verdict = auditor::audit_by(step, &sheet.bytes);
     let ours = auditor::limited(&sheet.bytes, |_| verdict);
-    let lent = Lent::new(&sheet.bytes);
-    let theirs = library.audit(lent.bytes());
+    let theirs = |flush: &Flush| {
+        let lent = Lent::new(&sheet.bytes, *flush);
+        let word = library.audit(lent.bytes());
+        (word, lent.is_guarded() && lent.bytes() == sheet.bytes)
+    };
+    let other = library.lent().iter().map(theirs).find(|theirs| *theirs != (ours.word(), true));
     report.add("audit", ours.refusal());
-    let unchanged = lent == Lent::new(&sheet.bytes);
-    report.fail(sheet.known.allows(&verdict), ours.word() == theirs && unchanged, || {
-        sheet_failure(sheet, &ours, theirs)
+    report.fail(sheet.known.allows(&verdict), other.is_none(), || {
+        sheet_failure(sheet, &ours, other.map_or(ours.word(), |(word, _)| word))
     });
 }
 

@@ -18,11 +18,12 @@ pub const STEPS: [Step; 1] = [plain::step];
 /// The judge's steps, or without the published file the plain ones.
 pub const BEST: Step = STEPS[STEPS.len() - 1];
 
-/// The steps by name: the plain implementation, or the judge where there is one.
+/// The steps by name.
 pub fn steps(name: &str) -> Option<Step> {
     match name {
         "plain" => Some(plain::step),
         "judge" => STEPS.get(1).copied(),
+        "best" => Some(BEST),
         _ => None,
     }
 }

@@ -34,6 +34,10 @@ pub enum Fault {
     Order,
     /// No limit of length.
     NoLimit,
+    /// The byte behind the sheet read.
+    ReadsBehind,
+    /// The byte before the sheet read.
+    ReadsBefore,
 }
 
 /// Faults by their names for a variable or an option.
@@ -53,6 +57,10 @@ pub const FAULTS: [(&str, Fault); 13] = [
     ("no-limit", Fault::NoLimit),
 ];
 
+/// Faults that end the program, as a page that can't be read is read.
+pub const ENDING: [(&str, Fault); 2] =
+    [("reads-behind", Fault::ReadsBehind), ("reads-before", Fault::ReadsBefore)];
+
 pub struct Faulty {
     pub fault: Fault,
 }
@@ -62,8 +70,19 @@ const SOUND: Independent = Independent { step: plain::step };
 impl Faulty {
     /// The fault of that name; none for another name.
     pub fn named(name: &str) -> Self {
-        let found = FAULTS.iter().find(|(known, _)| *known == name);
+        let found = FAULTS.iter().chain(&ENDING).find(|(known, _)| *known == name);
         Faulty { fault: found.map_or(Fault::None, |(_, fault)| *fault) }
+    }
+
+    /// Reads a byte outside of what is lent.
+    fn stray(&self, sheet: &[u8]) {
+        let byte = match self.fault {
+            Fault::ReadsBehind => sheet.as_ptr().wrapping_add(sheet.len()),
+            Fault::ReadsBefore => sheet.as_ptr().wrapping_sub(1),
+            _ => return,
+        };
+        // SAFETY: none, which is the fault.
+        unsafe { byte.read_volatile() };
     }
 
     /// The call as a faulty reader takes it.
@@ -91,6 +110,7 @@ impl Library for Faulty {
     }
 
     fn call(&self, record: &mut [u8], call: &[u8], sheet: &mut [u8]) -> u8 {
+        self.stray(sheet);
         let needed = line_length(record, call);
         if self.fault == Fault::Room && sheet.len() == needed {
             return SOUND.call(record, call, &mut []);
@@ -109,6 +129,7 @@ impl Library for Faulty {
     }
 
     fn audit(&self, sheet: &[u8]) -> u64 {
+        self.stray(sheet);
         let sound = auditor::audit_limited(sheet);
         let faulty = match (self.fault, sound) {
             (Fault::NoLimit, _) => auditor::audit(sheet),

@@ -13,6 +13,7 @@ pub mod entries;
 pub mod faults;
 pub mod fields;
 pub mod generate;
+pub mod lent;
 pub mod library;
 pub mod own;
 pub mod plain;

@@ -2,12 +2,17 @@
 
 use crate::auditor;
 use crate::entries::{self, Step};
+use crate::lent::Flush;
 
 pub trait Library {
     fn open(&self, card: &[u8], record: &mut [u8], sheet: &mut [u8]) -> u8;
     fn call(&self, record: &mut [u8], call: &[u8], sheet: &mut [u8]) -> u8;
     /// The C audit: line × 256 + refusal, or lines × 256.
     fn audit(&self, sheet: &[u8]) -> u64;
+    /// The ways in which each input is lent.
+    fn lent(&self) -> &'static [Flush] {
+        &Flush::BOTH
+    }
 }
 
 /// The independent entries and auditor, by the steps given.

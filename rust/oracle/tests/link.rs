@@ -38,7 +38,14 @@ fn the_driver_links_agrees_and_finds_faults() {
         let (well, last) = drive(command, "");
         assert!(well && last.contains(" 0 disagreements, 0 against"), "{last}");
     }
-    for (command, fault) in [("entries", "refused-record"), ("audit", "last-line")] {
+    for (command, fault) in [
+        ("entries", "refused-record"),
+        ("audit", "last-line"),
+        ("entries", "reads-behind"),
+        ("entries", "reads-before"),
+        ("audit", "reads-behind"),
+        ("audit", "reads-before"),
+    ] {
         let (well, last) = drive(command, fault);
         assert!(!well && !last.contains(" 0 disagreements"), "{fault}: {last}");
     }

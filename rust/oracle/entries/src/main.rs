@@ -6,8 +6,8 @@ use oracle::{compare, plain};
 use std::process::ExitCode;
 
 const USAGE: &str = "usage:
-  entries entries [--count N] [--seed S] [--steps plain|judge]
-  entries audit [--count N] [--seed S] [--steps plain|judge]";
+  entries entries [--count N] [--seed S] [--steps plain|judge|best]
+  entries audit [--count N] [--seed S] [--steps plain|judge|best]";
 
 fn run() -> Result<(), String> {
     let arguments = Arguments::read(std::env::args().skip(1))?;
