@@ -40,14 +40,20 @@ fn say(words: &str) {
     }
 }
 
+/// The folder of an archive that is there; another one there is linked anew.
+fn watched(folder: PathBuf) -> PathBuf {
+    println!("cargo:rerun-if-changed={}", folder.join(ARCHIVE).display());
+    folder
+}
+
 /// Proves and makes the archive at the repository's root; its folder.
 fn prove(root: &Path) -> PathBuf {
     println!("cargo:rerun-if-changed={}", root.join("crates").display());
     println!("cargo:rerun-if-changed={}", root.join("crates.txt").display());
-    say("HEAT_BATTERY_PROVE is set: proving the library, ten minutes or so where nothing is proved yet");
+    say("HEAT_BATTERY_PROVE is set: proving the library, five to ten minutes where nothing is proved yet");
     let begun = Instant::now();
     let mut rt = Command::new("rt");
-    rt.args(["staticlib", "heat_battery"]).current_dir(root).stdout(Stdio::piped());
+    rt.args(["staticlib", "heat_battery"]).current_dir(root).stderr(Stdio::piped());
     let mut run = match rt.spawn() {
         Ok(run) => run,
         Err(error) => stop(format!(
@@ -55,12 +61,10 @@ fn prove(root: &Path) -> PathBuf {
              Install the Rattle kit, or unset HEAT_BATTERY_PROVE to link the prebuilt archive"
         )),
     };
-    let printed = run.stdout.take().into_iter().flat_map(|out| BufReader::new(out).lines());
-    for line in printed.map_while(Result::ok) {
-        println!("{line}");
-        if line.starts_with("rt: ") {
-            say(&format!("{:4} s  {line}", begun.elapsed().as_secs()));
-        }
+    let progress = run.stderr.take().into_iter().flat_map(|out| BufReader::new(out).lines());
+    for line in progress.map_while(Result::ok) {
+        eprintln!("{line}");
+        say(&format!("{:4} s  {line}", begun.elapsed().as_secs()));
     }
     match run.wait() {
         Ok(status) if status.success() => {}
@@ -81,16 +85,15 @@ fn main() {
     let root = Path::new(env!("CARGO_MANIFEST_DIR")).join("../..");
     let (given, proved) = (set("HEAT_BATTERY_LIB"), set("HEAT_BATTERY_PROVE"));
     let folder = match given.map(PathBuf::from) {
-        Some(folder) if folder.is_absolute() => folder,
-        Some(folder) => caller().join(folder),
+        Some(folder) if folder.is_absolute() => watched(folder),
+        Some(folder) => watched(caller().join(folder)),
         None if proved.is_some_and(|value| value != "0") => prove(&root),
-        None => root.join("prebuilt/x86_64-linux"),
+        None => watched(root.join("prebuilt/x86_64-linux")),
     };
     let archive = folder.join(ARCHIVE);
     if !archive.is_file() {
         stop(format!("no {}", archive.display()));
     }
-    println!("cargo:rerun-if-changed={}", archive.display());
     println!("cargo:rustc-link-search=native={}", folder.display());
     println!("cargo:rustc-link-lib=static=heat_battery");
 }

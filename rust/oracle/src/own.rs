@@ -135,6 +135,8 @@ pub fn advance(step: Step, record: &mut Record, call: &[u8]) -> Shown {
         return Shown::refused(10);
     };
     let (answer, after) = step(&battery, &call);
-    record.put(&after.state);
+    if answer.refusal == 0 {
+        record.put(&after.state);
+    }
     Shown::new(&answer)
 }

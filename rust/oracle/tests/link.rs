@@ -1,5 +1,7 @@
-//! The link driver with the fake library: it agrees, and it finds a fault put in.
+//! The link driver and the replay from C with the fake library: they agree, and find a fault put
+//! in. A byte read outside of what is lent ends them.
 
+use std::os::unix::process::ExitStatusExt;
 use std::path::{Path, PathBuf};
 use std::process::Command;
 
@@ -30,6 +32,24 @@ fn drive(command: &str, fault: &str) -> (bool, String) {
     (output.status.success(), text.lines().last().unwrap_or_default().to_string())
 }
 
+/// The replay of tests/c, made with the fake library, and cases for it.
+fn replay() -> (PathBuf, PathBuf) {
+    let (program, cases) = (folder().join("replay"), folder().join("cases"));
+    let root = Path::new(env!("CARGO_MANIFEST_DIR")).join("../..");
+    let made = Command::new("cc")
+        .args(["-std=c11", "-O2", "-I"])
+        .args([root.join("include"), root.join("tests/c/replay.c")])
+        .arg(folder().join("release/libheat_battery.a"))
+        .args(["-lgcc_s", "-lpthread", "-ldl", "-lm", "-o"])
+        .arg(&program)
+        .status();
+    assert!(made.expect("cc runs").success());
+    let oracle = env!("CARGO_BIN_EXE_oracle");
+    let drawn = Command::new(oracle).arg("cases").arg(&cases).args(["--count", "2000"]).output();
+    assert!(drawn.expect("it runs").status.success());
+    (program, cases)
+}
+
 #[test]
 fn the_driver_links_agrees_and_finds_faults() {
     build("fake");
@@ -48,5 +68,12 @@ fn the_driver_links_agrees_and_finds_faults() {
     ] {
         let (well, last) = drive(command, fault);
         assert!(!well && !last.contains(" 0 disagreements"), "{fault}: {last}");
+    }
+    let (program, cases) = replay();
+    for fault in ["", "refused-record", "reads-behind", "reads-before"] {
+        let mut run = Command::new(&program);
+        let ended = run.arg(&cases).env("HEAT_BATTERY_FAULT", fault).output().expect("it runs");
+        assert_eq!(ended.status.success(), fault.is_empty(), "{fault}");
+        assert_eq!(ended.status.signal().is_some(), fault.starts_with("reads"), "{fault}");
     }
 }

@@ -3,6 +3,8 @@
 
 use oracle::faults::Faulty;
 use oracle::library::Library;
+use oracle::own::{self, Record, Shown};
+use oracle::plain;
 use std::slice::{from_raw_parts, from_raw_parts_mut};
 
 fn library() -> Faulty {
@@ -50,4 +52,16 @@ pub unsafe extern "C" fn heat_battery_call(
 #[no_mangle]
 pub unsafe extern "C" fn heat_battery_audit(sheet: *const u8, sheet_len: usize) -> u64 {
     library().audit(from_raw_parts(sheet, sheet_len))
+}
+
+/// # Safety
+/// The record is whole and the caller's alone, and the other pointer is to as many bytes as its
+/// length says.
+#[no_mangle]
+pub unsafe extern "C" fn heat_battery_advance(
+    record: *mut Record,
+    call: *const u8,
+    call_len: usize,
+) -> Shown {
+    own::advance(plain::step, &mut *record, from_raw_parts(call, call_len))
 }
