@@ -1,6 +1,7 @@
 //! The link driver and the replay from C with the fake library: they agree, and find a fault put
 //! in. A byte read outside of what is lent ends them.
 
+use std::fs;
 use std::os::unix::process::ExitStatusExt;
 use std::path::{Path, PathBuf};
 use std::process::Command;
@@ -9,13 +10,15 @@ fn folder() -> PathBuf {
     Path::new(env!("CARGO_TARGET_TMPDIR")).join("link")
 }
 
+/// The library's folder is named from the one that cargo is called from.
 fn build(package: &str) {
+    fs::create_dir_all(folder()).expect("a folder");
     let built = Command::new(env!("CARGO"))
         .args(["build", "-j1", "--release", "--offline", "--quiet", "-p", package])
-        .arg("--target-dir")
-        .arg(folder())
-        .current_dir(env!("CARGO_MANIFEST_DIR"))
-        .env("HEAT_BATTERY_LIB", folder().join("release"))
+        .args(["--target-dir", ".", "--manifest-path"])
+        .arg(Path::new(env!("CARGO_MANIFEST_DIR")).join("Cargo.toml"))
+        .current_dir(folder())
+        .env("HEAT_BATTERY_LIB", "release")
         .status();
     assert!(built.expect("cargo runs").success(), "{package}");
 }
