@@ -1,9 +1,11 @@
 #!/bin/sh
-# Runs the winter day on the example's card, compares the sheet with the stored one, and audits it.
+# Builds the command with the prebuilt archive, or as HEAT_BATTERY_LIB or HEAT_BATTERY_PROVE say (rust/heat-battery/README.md); runs
+# the winter day on the example's card, compares the sheet with the stored one, and audits it.
 set -eu
-cd "$(dirname "$0")"
-(cd ../bindings/rust && cargo build --release --offline --quiet)
-command=../bindings/rust/target/release/heat-battery
+here=$(cd "$(dirname "$0")" && pwd)
+cargo build --release --offline --quiet --manifest-path "$here/../rust/heat-battery/Cargo.toml"
+cd "$here"
+command=../rust/target/release/heat-battery
 room=$(mktemp -d)
 trap 'rm -rf "$room"' EXIT
 $command run salt-battery.card winter-day.calls -o "$room/sheet"

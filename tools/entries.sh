@@ -6,27 +6,26 @@
 #
 #   tools/entries.sh [COUNT [SEED]]     100,000 inputs of the entries and a tenth as many sheets, seed 1
 #
-# Ends with 0 where all agree.
+# The archive is the prebuilt one, or the one in the folder that HEAT_BATTERY_LIB names. The oracle answers by the judge's steps, or
+# without the published Rust by its plain ones. Ends with 0 where all agree.
 set -eu
-cd "$(dirname "$0")/.."
+root=$(cd "$(dirname "$0")/.." && pwd)
+HEAT_BATTERY_LIB=$(cd "${HEAT_BATTERY_LIB:-$root/prebuilt/x86_64-linux}" && pwd)
+export HEAT_BATTERY_LIB
 count=${1:-100000} seed=${2:-1}
-said=$(rt staticlib heat_battery) || { echo "$said" | tail -20; exit 1; }
-archive=$PWD/target/staticlib
 room=$(mktemp -d)
 trap 'rm -rf "$room"' EXIT
 
-cd oracle
-cargo build --release --offline --quiet
+cd "$root/rust"
+cargo build --release --offline --quiet -p oracle -p entries
 target/release/oracle cases "$room/cases" --count "$count" --seed "$seed"
-cc -std=c11 -O2 -Wall -Wextra -Werror -I../include -o "$room/replay" ../tests/c/replay.c "$archive/libheat_battery.a"
-cc -std=c11 -O2 -Wall -Wextra -Werror -I../include -o "$room/whole" ../tests/c/whole.c "$archive/libheat_battery.a"
+cc -std=c11 -O2 -Wall -Wextra -Werror -I../include -o "$room/replay" ../tests/c/replay.c "$HEAT_BATTERY_LIB/libheat_battery.a"
+cc -std=c11 -O2 -Wall -Wextra -Werror -I../include -o "$room/whole" ../tests/c/whole.c "$HEAT_BATTERY_LIB/libheat_battery.a"
 echo "from C:"
 "$room/replay" "$room/cases"
 "$room/whole" ../examples/*.sheet ../crates/audit_cases/data/*.sheet
-export HEAT_BATTERY_LIB="$archive"
 echo "from Rust:"
-cargo run --release --offline --quiet -p entries -- entries --count "$count" --seed "$seed" --steps judge
-cargo run --release --offline --quiet -p entries -- audit --count $((count / 10)) --seed "$seed" --steps judge
+target/release/entries entries --count "$count" --seed "$seed" --steps best
+target/release/entries audit --count $((count / 10)) --seed "$seed" --steps best
 echo "from Rust, on the caller's own record:"
-cd ../bindings/rust
-HEAT_BATTERY_CALLS=$count HEAT_BATTERY_SEED=$seed cargo test --offline --quiet --test record -- --nocapture
+HEAT_BATTERY_CALLS=$count HEAT_BATTERY_SEED=$seed cargo test --offline --quiet -p heat-battery --test record -- --nocapture

@@ -13,7 +13,9 @@ count=${1:-100000} seed=${2:-2}
     layer_energy soc_to_temp state_of_charge energy_required new_temperature simultaneous \
     viscosity reynolds heat_transfer outlet zone_properties card substep charge_energy_demand lists
 
-(cd oracle && cargo build --release --offline --quiet)
+SRC=$(tools/published.sh "everything")
+export SRC
+(cd rust && cargo build --release --offline --quiet -p oracle)
 said=$(rt check vectors) || { echo "$said" | tail -20; exit 1; }
 
 # The program runs under the kit's loader, as rt runs it.
@@ -22,7 +24,7 @@ kit=$home/on/$(uname -m)/toolchain
 emulator=$kit/bin/qemu-x86_64
 [ -x "$emulator" ] || emulator=
 program=$PWD/target/bin/vectors
-oracle=$PWD/oracle/target/release/oracle
+oracle=$PWD/rust/target/release/oracle
 room=$(mktemp -d)
 trap 'rm -rf "$room"' EXIT
 cd "$room"

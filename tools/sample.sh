@@ -6,8 +6,10 @@ cd "$(dirname "$0")/.."
 crate=$PWD/crates/vectors
 seed=1
 
-(cd oracle && cargo build --release --offline --quiet)
-oracle=$PWD/oracle/target/release/oracle
+SRC=$(tools/published.sh "everything")
+export SRC
+(cd rust && cargo build --release --offline --quiet -p oracle)
+oracle=$PWD/rust/target/release/oracle
 rm -rf "$crate/data" "$crate/args" "$crate/stdout"
 mkdir "$crate/data"
 cd "$crate/data"

@@ -1,5 +1,6 @@
 /* Replays the oracle's cases on the library: `replay FILE`. Every result and every lent byte is compared,
- * and each call is made on the caller's own record too. Ends with 0 where all agree. */
+ * and each call is made on the caller's own record too. All that is lent lies against a page that can't be read:
+ * with its end, and in a second run with its start. Ends with 0 where all agree. */
 #define _DEFAULT_SOURCE /* MAP_ANONYMOUS */
 #include "heat_battery.h"
 #include <stdint.h>
@@ -8,16 +9,18 @@
 #include <string.h>
 #include <sys/mman.h>
 
-enum { OPEN = 1, CALL = 2, AUDIT = 3, WHOLE = 4, GUARD = 64, PAGE = 4096 };
+enum { OPEN = 1, CALL = 2, AUDIT = 3, WHOLE = 4, GUARD = 64, PAGE = 4096, ROOM = 20 * PAGE };
 
 struct slice {
-    uint8_t *bytes; /* with guards on both sides */
+    uint8_t *bytes; /* a page that can't be read on one side, guards on the other */
     size_t length;
 };
 
 static FILE *file;
+static int at_start; /* the side of that page: 0 the end of what is lent, 1 its start */
+static uint8_t *rooms[3]; /* for the slices of a case */
 static unsigned long own_calls; /* on the caller's own record */
-static struct heat_battery *page; /* a record that lies on a page of its own */
+static uint8_t *page; /* for that record */
 
 static void ended(const char *why) {
     fprintf(stderr, "%s\n", why);
@@ -38,21 +41,30 @@ static uint64_t read_number(int width) {
     return number;
 }
 
-static struct slice read_slice(void) {
+/* Pages to lend, with one on each side that can't be read. */
+static uint8_t *pages(size_t length) {
+    uint8_t *memory = mmap(NULL, length + 2 * PAGE, PROT_NONE, MAP_PRIVATE | MAP_ANONYMOUS, -1, 0);
+    if (memory == MAP_FAILED || mprotect(memory + PAGE, length, PROT_READ | PROT_WRITE) != 0)
+        ended("no memory");
+    return memory + PAGE;
+}
+
+static uint8_t *guards(struct slice s) { return at_start ? s.bytes + s.length : s.bytes - GUARD; }
+
+static struct slice read_slice(int room) {
     struct slice s;
     s.length = (size_t)read_number(4);
-    uint8_t *memory = malloc(s.length + 2 * GUARD);
-    if (memory == NULL)
-        ended("no memory");
-    memset(memory, 0xa5, s.length + 2 * GUARD);
-    s.bytes = memory + GUARD;
+    if (s.length + GUARD > ROOM)
+        ended("a slice is too long");
+    s.bytes = at_start ? rooms[room] : rooms[room] + ROOM - s.length;
+    memset(guards(s), 0xa5, GUARD);
     read_bytes(s.bytes, s.length);
     return s;
 }
 
 static int guarded(struct slice s) {
     for (int i = 0; i < GUARD; i++)
-        if (s.bytes[-1 - i] != 0xa5 || s.bytes[s.length + (size_t)i] != 0xa5)
+        if (guards(s)[i] != 0xa5)
             return 0;
     return 1;
 }
@@ -67,8 +79,6 @@ static int as_expected(struct slice s) {
     free(expected);
     return same;
 }
-
-static void drop(struct slice s) { free(s.bytes - GUARD); }
 
 /* ---- the caller's own record */
 
@@ -144,28 +154,28 @@ static int own_record_agrees(const uint8_t *before, size_t length, struct slice 
     fill_above(&b);
     fill_above(&expected);
     own_calls++;
-    *page = b;
+    struct heat_battery *own = (struct heat_battery *)(at_start ? page : page + PAGE - sizeof b);
+    *own = b;
     allow(result == 0 ? PROT_READ | PROT_WRITE : PROT_READ); /* a refused call that stores anything ends the program */
-    struct heat_battery_shown shown = heat_battery_advance(page, call.bytes, call.length);
+    struct heat_battery_shown shown = heat_battery_advance(own, call.bytes, call.length);
     allow(PROT_READ | PROT_WRITE);
-    return same_answer(shown, result, sheet.bytes + 2 + call.length) && same_battery(page, &expected);
+    return same_answer(shown, result, sheet.bytes + 2 + call.length) && same_battery(own, &expected);
 }
 
 /* ---- cases */
 
 static int replay_open(void) {
-    struct slice card = read_slice(), record = read_slice(), sheet = read_slice();
+    struct slice card = read_slice(0), record = read_slice(1), sheet = read_slice(2);
     uint8_t result = heat_battery_open(card.bytes, card.length, record.bytes, record.length, sheet.bytes, sheet.length);
     int same = result == read_number(8);
     same &= as_expected(record);
     same &= as_expected(sheet);
     same &= guarded(card);
-    drop(card), drop(record), drop(sheet);
     return same;
 }
 
 static int replay_call(void) {
-    struct slice record = read_slice(), call = read_slice(), sheet = read_slice();
+    struct slice record = read_slice(0), call = read_slice(1), sheet = read_slice(2);
     uint8_t *before = malloc(record.length + 1);
     if (before == NULL)
         ended("no memory");
@@ -177,24 +187,20 @@ static int replay_call(void) {
     same &= guarded(call);
     same &= own_record_agrees(before, record.length, call, result, record, sheet);
     free(before);
-    drop(record), drop(call), drop(sheet);
     return same;
 }
 
 static int replay_audit(void) {
-    struct slice sheet = read_slice();
+    struct slice sheet = read_slice(0);
     uint64_t result = heat_battery_audit(sheet.bytes, sheet.length);
     int same = result == read_number(8) && guarded(sheet);
-    drop(sheet);
     return same;
 }
 
 static int replay_whole(void) {
-    struct slice sheet = read_slice();
+    struct slice sheet = read_slice(0);
     struct heat_battery_verdict verdict = heat_battery_audit_whole(sheet.bytes, sheet.length);
-    int same = verdict.line * 256 + verdict.refusal == read_number(8) && guarded(sheet);
-    drop(sheet);
-    return same;
+    return verdict.line * 256 + verdict.refusal == read_number(8) && guarded(sheet);
 }
 
 static int replay(int entry) {
@@ -207,19 +213,29 @@ static int replay(int entry) {
     }
 }
 
-int main(int argc, char **argv) {
+static unsigned long replay_file(void) {
     unsigned long cases = 0, wrong = 0;
-    if (argc != 2 || (file = fopen(argv[1], "rb")) == NULL)
-        ended("usage: replay FILE");
-    page = mmap(NULL, PAGE, PROT_READ | PROT_WRITE, MAP_PRIVATE | MAP_ANONYMOUS, -1, 0);
-    if (page == MAP_FAILED)
-        ended("no memory");
+    own_calls = 0;
+    rewind(file);
     for (int entry = getc(file); entry != EOF; entry = getc(file)) {
         int same = replay(entry);
         cases++;
         if (!same && wrong++ < 20)
             printf("case %lu disagrees (entry %d)\n", cases, entry);
     }
-    printf("%lu cases, %lu calls on the own record too, %lu disagree\n", cases, own_calls, wrong);
+    printf("unreadable %s: %lu cases, %lu calls on the own record too, %lu disagree\n", at_start ? "before" : "behind", cases,
+           own_calls, wrong);
+    return wrong;
+}
+
+int main(int argc, char **argv) {
+    unsigned long wrong = 0;
+    if (argc != 2 || (file = fopen(argv[1], "rb")) == NULL)
+        ended("usage: replay FILE");
+    page = pages(PAGE);
+    for (int room = 0; room < 3; room++)
+        rooms[room] = pages(ROOM);
+    for (at_start = 0; at_start <= 1; at_start++)
+        wrong += replay_file();
     return wrong == 0 ? 0 : 1;
 }

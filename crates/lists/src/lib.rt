@@ -1,4 +1,4 @@
-// Lists of calls on one battery, ids 50 and 51 of oracle/VECTORS.md, but for the engine: calls, batteries and answers in words.
+// Lists of calls on one battery, ids 50 and 51 of rust/oracle/VECTORS.md, but for the engine: calls, batteries and answers in words.
 // Between the records of a list the battery is held as the words of record 50: card, zones, five totals. Where they have no layers,
 // every call is refused with 10, which no record has.
 pub mod calls;

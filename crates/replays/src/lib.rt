@@ -1,4 +1,4 @@
-// The ids of oracle/VECTORS.md but those of lists, each with the module that replays its records.
+// The ids of rust/oracle/VECTORS.md but those of lists, each with the module that replays its records.
 mod cards;
 mod exchanger;
 mod levels;

@@ -1,4 +1,4 @@
-// Vector files (oracle/VECTORS.md): a record's head and words read from an open file, what a file has shown so far, and the lines on it.
+// Vector files (rust/oracle/VECTORS.md): a record's head and words read from an open file, what a file has shown so far, and the lines on it.
 pub mod lines;
 
 use std::num::wrapping_add_u64;

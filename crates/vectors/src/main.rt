@@ -1,4 +1,4 @@
-// Replays the vector files that its arguments name (oracle/VECTORS.md) and compares every answer bit for bit.
+// Replays the vector files that its arguments name (rust/oracle/VECTORS.md) and compares every answer bit for bit.
 mod calls;
 
 use std::num::wrapping_add_u64;

@@ -1,0 +1,76 @@
+//! The entries of document 01's module 9 on byte slices, written from document 01 alone.
+//! What is lent is changed only where an entry returns 0 or one of 20 to 25.
+
+use crate::model::{Answer, Battery, Call};
+use crate::plain;
+use crate::reading;
+use crate::sheet;
+
+/// One call of the steps: the answer, and the battery that it leaves.
+pub type Step = fn(&Battery, &Call) -> (Answer, Battery);
+
+/// The plain implementation's steps, and with the published file the judge's.
+#[cfg(published)]
+pub const STEPS: [Step; 2] = [plain::step, crate::judge::step];
+#[cfg(not(published))]
+pub const STEPS: [Step; 1] = [plain::step];
+
+/// The judge's steps, or without the published file the plain ones.
+pub const BEST: Step = STEPS[STEPS.len() - 1];
+
+/// The steps by name.
+pub fn steps(name: &str) -> Option<Step> {
+    match name {
+        "plain" => Some(plain::step),
+        "judge" => STEPS.get(1).copied(),
+        "best" => Some(BEST),
+        _ => None,
+    }
+}
+
+/// Writes version and line 0 to the front of the sheet, and the fresh battery.
+pub fn open(card: &[u8], record: &mut [u8], sheet: &mut [u8]) -> u8 {
+    let Some(read) = reading::card(card) else {
+        return 1;
+    };
+    let refusal = plain::card_refusal(&read);
+    if refusal != 0 {
+        return refusal;
+    }
+    let fresh = sheet::battery_bytes(&Battery::fresh(&read));
+    if record.len() != fresh.len() {
+        return 10;
+    }
+    if sheet.len() < sheet::OPENING_BYTES {
+        return 11;
+    }
+    record.copy_from_slice(&fresh);
+    put_in_front(sheet, &sheet::opening(&read));
+    0
+}
+
+/// Writes the call's line to the front of the sheet and renews the battery, by the plain steps.
+pub fn call(record: &mut [u8], call: &[u8], sheet: &mut [u8]) -> u8 {
+    call_by(plain::step, record, call, sheet)
+}
+
+/// `call` by the steps given.
+pub fn call_by(step: Step, record: &mut [u8], call: &[u8], sheet: &mut [u8]) -> u8 {
+    let Some(battery) = reading::battery(record) else {
+        return 10;
+    };
+    let Some(read) = reading::call(&battery.card, call) else {
+        return 10;
+    };
+    if sheet.len() < 2 + call.len() + sheet::answer_length(battery.card.layers) {
+        return 11;
+    }
+    let (answer, after) = step(&battery, &read);
+    put_in_front(sheet, &sheet::line_with(call, &answer));
+    record.copy_from_slice(&sheet::battery_bytes(&after));
+    answer.refusal
+}
+
+fn put_in_front(sheet: &mut [u8], bytes: &[u8]) {
+    sheet[..bytes.len()].copy_from_slice(bytes);
+}

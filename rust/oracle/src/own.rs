@@ -1,0 +1,142 @@
+//! The caller's own record as include/heat_battery.h has it, and the independent entry on it,
+//! written from document 01 alone.
+
+use crate::entries::Step;
+use crate::model::{Answer, Battery, Card, State, Totals};
+use crate::plain;
+use crate::ranges;
+use crate::reading;
+
+pub const MOST_LAYERS: usize = 64;
+
+#[repr(C)]
+#[derive(Clone, Copy)]
+pub struct OwnCard {
+    pub layers: u8,
+    pub units: u16,
+    pub simultaneous: u8,
+    pub budget: u16,
+    /// Substep to power, in the header's order.
+    pub numbers: [f64; 19],
+}
+
+#[repr(C)]
+#[derive(Clone, Copy)]
+pub struct Record {
+    pub card: OwnCard,
+    pub zones: [f64; MOST_LAYERS],
+    pub count: u8,
+    pub totals: [f64; 5],
+}
+
+const _: () = assert!(size_of::<OwnCard>() == 160 && size_of::<Record>() == 720);
+
+#[repr(C)]
+#[derive(Clone, Copy)]
+pub struct Shown {
+    pub refusal: u8,
+    pub mark: u8,
+    pub substeps: u32,
+    pub energy: f64,
+    pub outlet: f64,
+    pub time: f64,
+}
+
+impl From<&Card> for OwnCard {
+    fn from(card: &Card) -> Self {
+        OwnCard {
+            layers: card.layers,
+            units: card.units,
+            simultaneous: card.simultaneous,
+            budget: card.budget,
+            numbers: card.numbers(),
+        }
+    }
+}
+
+/// At most 64 zones are taken; the places above them are 0.
+impl From<&Battery> for Record {
+    fn from(battery: &Battery) -> Self {
+        let mut record = Record {
+            card: OwnCard::from(&battery.card),
+            zones: [0.0; MOST_LAYERS],
+            count: battery.card.layers,
+            totals: [0.0; 5],
+        };
+        record.put(&battery.state);
+        record
+    }
+}
+
+impl Record {
+    /// Zones and totals; the places above the zones stay.
+    fn put(&mut self, state: &State) {
+        for (place, zone) in self.zones.iter_mut().zip(&state.zones) {
+            *place = *zone;
+        }
+        self.totals = state.totals.numbers();
+    }
+
+    /// The battery; None where refusal 10 applies to it.
+    fn battery(&self) -> Option<Battery> {
+        let OwnCard { layers, units, simultaneous, budget, numbers } = self.card;
+        let mut card = Card { layers, units, simultaneous, budget, ..Card::default() };
+        for (number, own) in card.numbers_mut().into_iter().zip(numbers) {
+            *number = own;
+        }
+        if self.count != layers || plain::card_refusal(&card) != 0 {
+            return None;
+        }
+        let zones = self.zones[..usize::from(layers)].to_vec();
+        let [running_hours, pump_hours, direct_hours, charged, charged_electric] = self.totals;
+        let totals = Totals { running_hours, pump_hours, direct_hours, charged, charged_electric };
+        let battery = Battery { card, state: State { zones, totals } };
+        (!ranges::battery_refusal(&battery)).then_some(battery)
+    }
+
+    /// Every number by its bits, the places above the count too.
+    pub fn words(&self) -> Vec<u64> {
+        let OwnCard { layers, units, simultaneous, budget, numbers } = self.card;
+        let whole = [layers.into(), units.into(), simultaneous.into(), budget.into()];
+        let floats = numbers.iter().chain(&self.zones).chain(&self.totals).map(|x| x.to_bits());
+        whole.into_iter().chain([u64::from(self.count)]).chain(floats).collect()
+    }
+}
+
+impl Shown {
+    fn refused(refusal: u8) -> Self {
+        Shown { refusal, mark: 0, substeps: 0, energy: 0.0, outlet: 0.0, time: 0.0 }
+    }
+
+    fn new(answer: &Answer) -> Self {
+        Shown {
+            refusal: answer.refusal,
+            mark: u8::from(answer.outlet.is_some()),
+            substeps: answer.substeps,
+            energy: answer.energy,
+            outlet: answer.outlet.unwrap_or(0.0),
+            time: answer.time,
+        }
+    }
+
+    pub fn words(&self) -> [u64; 6] {
+        let floats = [self.energy, self.outlet, self.time].map(f64::to_bits);
+        let [energy, outlet, time] = floats;
+        [self.refusal.into(), self.mark.into(), self.substeps.into(), energy, outlet, time]
+    }
+}
+
+/// Advances the record by a call; it stays where one of 10 and 20 to 25 is shown.
+pub fn advance(step: Step, record: &mut Record, call: &[u8]) -> Shown {
+    let Some(battery) = record.battery() else {
+        return Shown::refused(10);
+    };
+    let Some(call) = reading::call(&battery.card, call) else {
+        return Shown::refused(10);
+    };
+    let (answer, after) = step(&battery, &call);
+    if answer.refusal == 0 {
+        record.put(&after.state);
+    }
+    Shown::new(&answer)
+}
