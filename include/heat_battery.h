@@ -13,7 +13,10 @@
    get an answer or a refusal.
 
    Numbers are big-endian; an f64 is the 8 bytes of its IEEE 754 binary64 bits,
-   the highest byte first. */
+   the highest byte first.
+
+   docs/RULES.md states every rule behind these figures; it restates document
+   01, the customer's specification. */
 
 #ifndef HEAT_BATTERY_H
 #define HEAT_BATTERY_H
