@@ -13,7 +13,7 @@ count=${1:-100000} seed=${2:-2}
     layer_energy soc_to_temp state_of_charge energy_required new_temperature simultaneous \
     viscosity reynolds heat_transfer outlet zone_properties card substep charge_energy_demand lists
 
-SRC=$(tools/published.sh "everything")
+SRC=$(tools/published.sh "the replay")
 export SRC
 (cd rust && cargo build --release --offline --quiet -p oracle)
 said=$(rt check vectors) || { echo "$said" | tail -20; exit 1; }

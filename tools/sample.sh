@@ -6,7 +6,7 @@ cd "$(dirname "$0")/.."
 crate=$PWD/crates/vectors
 seed=1
 
-SRC=$(tools/published.sh "everything")
+SRC=$(tools/published.sh "the sample")
 export SRC
 (cd rust && cargo build --release --offline --quiet -p oracle)
 oracle=$PWD/rust/target/release/oracle

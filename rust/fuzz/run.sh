@@ -24,7 +24,7 @@ coverage=-sanitizer-coverage
 RUSTFLAGS="-C passes=sancov-module -C llvm-args=$coverage-level=3 -C llvm-args=$coverage-inline-8bit-counters \
 -C llvm-args=$coverage-pc-table -C llvm-args=$coverage-trace-compares -C link-arg=$runtime -C link-arg=-lstdc++" \
     cargo build --release --offline --quiet --target x86_64-unknown-linux-gnu --target-dir "$here/target" \
-    --manifest-path "$here/Cargo.toml"
+    --features libfuzzer --manifest-path "$here/Cargo.toml"
 cd "$here"
 programs=target/x86_64-unknown-linux-gnu/release
 

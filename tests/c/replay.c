@@ -3,13 +3,10 @@
  * with its end, and in a second run with its start. Ends with 0 where all agree. */
 #define _DEFAULT_SOURCE /* MAP_ANONYMOUS */
 #include "heat_battery.h"
-#include <stdint.h>
-#include <stdio.h>
-#include <stdlib.h>
+#include "pages.h"
 #include <string.h>
-#include <sys/mman.h>
 
-enum { OPEN = 1, CALL = 2, AUDIT = 3, WHOLE = 4, GUARD = 64, PAGE = 4096, ROOM = 20 * PAGE };
+enum { OPEN = 1, CALL = 2, AUDIT = 3, WHOLE = 4, GUARD = 64, ROOM = 20 * PAGE };
 
 struct slice {
     uint8_t *bytes; /* a page that can't be read on one side, guards on the other */
@@ -21,11 +18,6 @@ static int at_start; /* the side of that page: 0 the end of what is lent, 1 its 
 static uint8_t *rooms[3]; /* for the slices of a case */
 static unsigned long own_calls; /* on the caller's own record */
 static uint8_t *page; /* for that record */
-
-static void ended(const char *why) {
-    fprintf(stderr, "%s\n", why);
-    exit(2);
-}
 
 static void read_bytes(void *to, size_t length) {
     if (length > 0 && fread(to, 1, length, file) != length)
@@ -39,14 +31,6 @@ static uint64_t read_number(int width) {
     for (int i = 0; i < width; i++)
         number = number << 8 | bytes[i];
     return number;
-}
-
-/* Pages to lend, with one on each side that can't be read. */
-static uint8_t *pages(size_t length) {
-    uint8_t *memory = mmap(NULL, length + 2 * PAGE, PROT_NONE, MAP_PRIVATE | MAP_ANONYMOUS, -1, 0);
-    if (memory == MAP_FAILED || mprotect(memory + PAGE, length, PROT_READ | PROT_WRITE) != 0)
-        ended("no memory");
-    return memory + PAGE;
 }
 
 static uint8_t *guards(struct slice s) { return at_start ? s.bytes + s.length : s.bytes - GUARD; }

@@ -4,29 +4,18 @@
  * page that can't be read. Ends with 0 where all is as it should be. */
 #define _DEFAULT_SOURCE /* MAP_ANONYMOUS */
 #include "heat_battery.h"
-#include <stdint.h>
-#include <stdio.h>
-#include <stdlib.h>
+#include "pages.h"
 #include <string.h>
-#include <sys/mman.h>
 
-enum { PAGE = 4096, LIMIT = 65536, MOST_STORED = 1 << 20, DAMAGED_EVERYWHERE = 8192, LINES = 40000 };
+enum { LIMIT = 65536, MOST_STORED = 1 << 20, DAMAGED_EVERYWHERE = 8192, LINES = 40000 };
 
 static unsigned long audits, wrong;
 static uint8_t kept[MOST_STORED]; /* a stored sheet */
 
-static void ended(const char *why) {
-    fprintf(stderr, "%s\n", why);
-    exit(2);
-}
-
 /* Room for so many bytes in front of a page that can't be read: the address behind them. */
 static uint8_t *room_before_a_wall(size_t length) {
-    size_t pages = (length + PAGE - 1) / PAGE * PAGE;
-    uint8_t *room = mmap(NULL, pages + PAGE, PROT_READ | PROT_WRITE, MAP_PRIVATE | MAP_ANONYMOUS, -1, 0);
-    if (room == MAP_FAILED || mprotect(room + pages, PAGE, PROT_NONE) != 0)
-        ended("no memory");
-    return room + pages;
+    size_t room = (length + PAGE - 1) / PAGE * PAGE;
+    return pages(room) + room;
 }
 
 static void expect(int is_so, const char *what) {
