@@ -28,4 +28,4 @@ echo "from Rust:"
 target/release/entries entries --count "$count" --seed "$seed" --steps best
 target/release/entries audit --count $((count / 10)) --seed "$seed" --steps best
 echo "from Rust, on the caller's own record:"
-HEAT_BATTERY_CALLS=$count HEAT_BATTERY_SEED=$seed cargo test --offline --quiet -p heat-battery --test record -- --nocapture
+HEAT_BATTERY_CALLS=$count HEAT_BATTERY_SEED=$seed cargo test --offline --quiet -p compared --test record -- --nocapture

@@ -67,13 +67,13 @@ impl Crate {
         Crate { record: start.clone(), start, calls }
     }
 
-    /// The sum of energies, refusals and the first zone, from the record as it was at first.
+    /// The sum of figures, refusals and the first zone, from the record as it was at first.
     pub fn list(&mut self) -> f64 {
         let mut sum = 0.0;
         self.record.clone_from(&self.start);
         for call in &self.calls {
             sum += match self.record.advance(call) {
-                Ok(answer) => answer.energy,
+                Ok(answer) => answer.figure(),
                 Err(refusal) => f64::from(refusal.number()),
             };
         }

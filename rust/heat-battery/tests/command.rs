@@ -5,13 +5,10 @@ mod common {
     pub mod json;
 }
 
-use common::command::{example, run, run_unread, run_with, Folder};
+use common::command::{commands, example, run, run_unread, run_with, Folder};
 use common::json::is_json;
 use heat_battery::{Call, Card, Sheet, Totals};
-use oracle::random::Random;
-use oracle::{damage, generate, sheets};
 use std::fs;
-use std::time::{Duration, Instant};
 
 const DAY: &str = "winter-day.sheet";
 const ALTERED: &str = "winter-day-altered.sheet";
@@ -224,24 +221,6 @@ fn bad_usage_is_said() {
     }
 }
 
-/// Every command that reads a file, on one file.
-fn commands(folder: &Folder, file: &str) -> Vec<Vec<String>> {
-    let (card, calls) = (example("salt-battery.card"), example("winter-day.calls"));
-    let (svg, out, name) = (folder.path("x.svg"), folder.path("x.sheet"), folder.path("x"));
-    let words: [&[&str]; 9] = [
-        &["card", "check", file],
-        &["run", file, &calls, "-o", &out],
-        &["run", &card, file, "-o", &out],
-        &["show", file],
-        &["show", "--json", file],
-        &["audit", file],
-        &["audit", "--explain", file],
-        &["plot", file, "-o", &svg],
-        &["convert", file, "-o", &name],
-    ];
-    words.iter().map(|words| words.iter().map(|word| word.to_string()).collect()).collect()
-}
-
 fn assert_all_fail(folder: &Folder, file: &str) {
     for words in commands(folder, file) {
         let words: Vec<&str> = words.iter().map(String::as_str).collect();
@@ -303,63 +282,7 @@ fn bad_outputs_are_said() {
     }
 }
 
-// ---- Damaged sheets
-
-/// Every command on a sheet ends in words; the audit's status is its verdict's.
-fn assert_ends(folder: &Folder, bytes: &[u8], accepted: bool) {
-    let file = folder.write("sheet", bytes);
-    for words in commands(folder, &file).into_iter().skip(3) {
-        let words: Vec<&str> = words.iter().map(String::as_str).collect();
-        let ended = run(&words);
-        match accepted {
-            true => ended.assert_fine(&words.join(" ")),
-            false => ended.assert_failed(&words.join(" ")),
-        }
-        if words[..2] == ["show", "--json"] && !ended.out.is_empty() {
-            assert!(is_json(&ended.out), "{}", ended.out);
-        }
-        if words[0] == "plot" && ended.status == 0 {
-            assert_drawn(&fs::read_to_string(folder.path("x.svg")).unwrap());
-        }
-    }
-}
-
-/// No number of the picture is missing or without end.
-fn assert_drawn(svg: &str) {
-    assert!(svg.ends_with("</svg>\n"));
-    for word in ["NaN", "inf"] {
-        assert!(!svg.contains(word), "{word}");
-    }
-}
-
-#[test]
-fn damaged_sheets_are_said() {
-    let folder = Folder::new("damaged");
-    let mut random = Random::new(21);
-    for index in 1..12 {
-        for sheet in damage::family(&mut random, index).iter().step_by(4) {
-            let verdict = oracle::auditor::audit(&sheet.bytes);
-            assert_ends(&folder, &sheet.bytes, verdict.refusal() == 0);
-        }
-    }
-    for sheet in sheets::all() {
-        let verdict = oracle::auditor::audit(&sheet.bytes);
-        assert_ends(&folder, &sheet.bytes, verdict.refusal() == 0);
-    }
-}
-
-#[test]
-fn random_sheets_are_drawn() {
-    let folder = Folder::new("drawn");
-    let mut random = Random::new(22);
-    for _ in 0..60 {
-        let card = generate::card(&mut random);
-        let sheet = damage::write(&mut random, &card, 20, 60_000).bytes;
-        assert_ends(&folder, &sheet, true);
-    }
-}
-
-// ---- Time
+// ---- Full sheets
 
 /// As many lines as 65,536 bytes hold.
 fn full_sheet(layers: u8) -> Vec<u8> {
@@ -371,16 +294,13 @@ fn full_sheet(layers: u8) -> Vec<u8> {
 }
 
 #[test]
-fn full_sheets_take_under_a_second() {
+fn full_sheets_are_read_to_their_end() {
     let folder = Folder::new("full");
     for layers in [1, 8, 64] {
         let file = folder.write("sheet", &full_sheet(layers));
         for words in commands(&folder, &file).into_iter().skip(3) {
             let words: Vec<&str> = words.iter().map(String::as_str).collect();
-            let start = Instant::now();
             run(&words).assert_fine(&words.join(" "));
-            let took = start.elapsed();
-            assert!(took < Duration::from_secs(1), "{words:?} took {took:?}");
         }
     }
 }

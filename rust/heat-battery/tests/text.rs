@@ -1,74 +1,9 @@
-//! The text formats: the oracle's lists there and back, and what is said of slips.
+//! The text formats: what is said of slips.
 
-mod common;
-
-use heat_battery::{read, text, Call, Card, Sheet};
-use oracle::random::Random;
-use oracle::{generate, model, plain};
+use heat_battery::{text, Call, Card};
 
 fn listed(list: &str) -> Vec<Call> {
     text::calls(list).expect("a list").into_iter().map(|listed| listed.call).collect()
-}
-
-fn run(card: &Card, calls: &[Call]) -> Vec<u8> {
-    let mut sheet = Sheet::open(card).expect("an accepted card");
-    for call in calls {
-        sheet.answer(call).expect("a call in range has a line");
-    }
-    sheet.into_bytes()
-}
-
-fn bytes(calls: &[Call]) -> Vec<Vec<u8>> {
-    calls.iter().map(Call::to_bytes).collect()
-}
-
-/// A random list of the oracle's from a fresh battery.
-fn list(random: &mut Random) -> (Card, Vec<Call>) {
-    let drawn = generate::card(random);
-    let mut battery = model::Battery::fresh(&drawn);
-    let mut calls = Vec::new();
-    for _ in 0..generate::list_length(random) {
-        let next = generate::next_call(random, &battery);
-        battery = plain::step(&battery, &next).1;
-        calls.push(common::call(&next));
-    }
-    (common::card(&drawn), calls)
-}
-
-/// 10,000 lists: text, sheet, text again, and the sheet once more.
-#[test]
-fn lists_go_there_and_back() {
-    let mut random = Random::new(11);
-    for _ in 0..10_000 {
-        let (card, calls) = list(&mut random);
-        let card_text = card.to_string();
-        let calls_text = text::list(calls.iter().copied());
-        let again: Card = card_text.parse().expect("a card");
-        assert_eq!(again.to_bytes(), card.to_bytes());
-        assert_eq!(bytes(&listed(&calls_text)), bytes(&calls));
-
-        let sheet = run(&again, &listed(&calls_text));
-        let (card_read, lines) = read(&sheet).expect("a sheet");
-        let calls_read: Vec<Call> = lines.map(|line| line.expect("a line").call).collect();
-        assert_eq!(card_read.to_string(), card_text);
-        assert_eq!(text::list(calls_read), calls_text);
-    }
-}
-
-/// Any bits of a number but a NaN's payload come back from text.
-#[test]
-fn numbers_read_back_exactly() {
-    let mut random = Random::new(12);
-    for _ in 0..200_000 {
-        let drawn =
-            if random.one_in(4) { random.odd_number() } else { f64::from_bits(random.word()) };
-        let call = Call::Electric { power: drawn, target: 0.0 };
-        let again: Call = call.to_string().parse().expect("a call");
-        match drawn.is_nan() {
-            true => assert!(again.to_string().contains("NaN")),
-            false => assert_eq!(again.to_bytes(), call.to_bytes()),
-        }
-    }
 }
 
 fn slip(list: &str) -> String {

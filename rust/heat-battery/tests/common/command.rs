@@ -5,6 +5,7 @@ use std::fs;
 use std::io::Write;
 use std::path::{Path, PathBuf};
 use std::process::{Command, Output, Stdio};
+use std::sync::OnceLock;
 
 pub struct Ended {
     pub status: i32,
@@ -39,8 +40,27 @@ impl Ended {
     }
 }
 
+/// The command as cargo made it for this package's tests; for another's it is made here.
+fn program() -> &'static Path {
+    static MADE: OnceLock<PathBuf> = OnceLock::new();
+    MADE.get_or_init(|| match option_env!("CARGO_BIN_EXE_heat-battery") {
+        Some(program) => program.into(),
+        None => made(&Path::new(env!("CARGO_TARGET_TMPDIR")).join("command")),
+    })
+}
+
+fn made(folder: &Path) -> PathBuf {
+    let built = Command::new(env!("CARGO"))
+        .args(["build", "--offline", "--quiet", "-p", "heat-battery", "--target-dir"])
+        .arg(folder)
+        .current_dir(env!("CARGO_MANIFEST_DIR"))
+        .status();
+    assert!(built.expect("cargo runs").success());
+    folder.join("debug/heat-battery")
+}
+
 fn command() -> Command {
-    Command::new(env!("CARGO_BIN_EXE_heat-battery"))
+    Command::new(program())
 }
 
 pub fn run(words: &[&str]) -> Ended {
@@ -57,7 +77,7 @@ pub fn run_in(folder: &Folder, words: &[&str]) -> Ended {
 /// By a line of the shell, in which $1 is the command and $2 and the following are the words.
 pub fn run_by_shell(line: &str, words: &[&str]) -> Ended {
     let mut shell = Command::new("sh");
-    let shell = shell.args(["-c", line, "sh", env!("CARGO_BIN_EXE_heat-battery")]);
+    let shell = shell.args(["-c", line, "sh"]).arg(program());
     Ended::new(shell.args(words).stdin(Stdio::null()).output().expect("it runs"))
 }
 
@@ -128,4 +148,22 @@ impl Folder {
         fs::File::create(&path).and_then(|file| file.set_len(length)).expect("a file");
         path
     }
+}
+
+/// Every command that reads a file, on one file.
+pub fn commands(folder: &Folder, file: &str) -> Vec<Vec<String>> {
+    let (card, calls) = (example("salt-battery.card"), example("winter-day.calls"));
+    let (svg, out, name) = (folder.path("x.svg"), folder.path("x.sheet"), folder.path("x"));
+    let words: [&[&str]; 9] = [
+        &["card", "check", file],
+        &["run", file, &calls, "-o", &out],
+        &["run", &card, file, "-o", &out],
+        &["show", file],
+        &["show", "--json", file],
+        &["audit", file],
+        &["audit", "--explain", file],
+        &["plot", file, "-o", &svg],
+        &["convert", file, "-o", &name],
+    ];
+    words.iter().map(|words| words.iter().map(|word| word.to_string()).collect()).collect()
 }

@@ -1,8 +1,6 @@
 //! The oracle's lists, cards, calls and sheets replayed through the crate.
 
-mod common;
-
-use common::{assert_same, battery, call, card};
+use compared::{assert_same, battery, call, card};
 use heat_battery::{audit, explain, ffi, is_too_long, Battery, Call, Card, Explanation, Refusal};
 use heat_battery::{Sheet, Verdict};
 use oracle::random::Random;

@@ -1,5 +1,4 @@
-//! The oracle's cards, calls and answers beside the crate's.
-#![allow(dead_code)]
+//! The crate and the command against the oracle; here, the oracle's cards, calls and answers beside the crate's.
 
 use heat_battery::{Answer, Battery, Call, Card, Totals};
 use oracle::{model, sheet};

@@ -1,9 +1,7 @@
 //! The caller's own record against the byte entry: the same answer, zones and totals, bit for
 //! bit, and the same refusals.
 
-mod common;
-
-use common::{battery, bits};
+use compared::{battery, bits};
 use heat_battery::{ffi, Answer, Battery, Call, Record, Refusal};
 use oracle::random::Random;
 use oracle::{generate, raw, reading, sheet};
