@@ -88,7 +88,7 @@ fn calls_are_refused_and_explained() {
         let Ok(read) = read else { continue };
         let before = ours.clone();
         match ours.call(&read) {
-            Err(Refusal::CallField) => refused += 1,
+            Err(Refusal::BadCall) => refused += 1,
             other => {
                 assert!(!expected, "{other:?}");
                 answered += 1;
@@ -143,7 +143,7 @@ fn explained(bytes: &[u8], verdict: Verdict) -> Verdict {
         }
         Explanation::Differences { line, fields, .. } => {
             assert!(!fields.is_empty());
-            Verdict::Refused { refusal: Refusal::Disagreement, line }
+            Verdict::Refused { refusal: Refusal::Disagrees, line }
         }
     }
 }
@@ -157,7 +157,7 @@ fn a_sheet_without_room_refuses() {
     assert!(ours.call(&Call::StandingLoss).is_ok());
     let before = ours.clone();
     let bad = Call::Electric { power: -1.0, target: 1.0 };
-    assert_eq!(ours.call(&bad), Err(Refusal::CallField), "10 before 11");
+    assert_eq!(ours.call(&bad), Err(Refusal::BadCall), "10 before 11");
     assert_eq!(ours.call(&Call::CloseTimestep), Err(Refusal::NoRoom));
     assert_eq!(ours.as_bytes(), before.as_bytes());
     assert_eq!(ours.battery().as_bytes(), before.battery().as_bytes());

@@ -43,7 +43,7 @@ impl fmt::Display for Verdict {
 /// ```
 /// use heat_battery::{audit, Refusal, Verdict};
 ///
-/// assert_eq!(audit(&[1]), Verdict::Refused { refusal: Refusal::CardLine, line: 0 });
+/// assert_eq!(audit(&[1]), Verdict::Refused { refusal: Refusal::BadCard, line: 0 });
 /// assert_eq!(audit(&[1]).to_string(), "refused 41 line 0");
 /// ```
 pub fn audit(sheet: &[u8]) -> Verdict {
@@ -121,11 +121,11 @@ fn first_trouble(sheet: &[u8]) -> Result<Option<Disagreement>, Damage> {
         words: format!("the entry refuses it with {refusal}"),
     };
     let mut battery =
-        Battery::open(&card).map_err(|refusal| refused(refusal, 0, Refusal::CardLine))?;
+        Battery::open(&card).map_err(|refusal| refused(refusal, 0, Refusal::BadCard))?;
     for line in lines {
         let Line { index, call, answer } = line?;
         let given =
-            battery.answer(&call).map_err(|refusal| refused(refusal, index, Refusal::CallLine))?;
+            battery.answer(&call).map_err(|refusal| refused(refusal, index, Refusal::BadLine))?;
         let fields = differences(&answer, &given);
         if !fields.is_empty() {
             return Ok(Some((index, call, fields)));

@@ -44,7 +44,7 @@ pub(crate) fn line_bytes(call: usize, layers: u8) -> usize {
 ///     start: 0.0,
 ///     return_temperature: None,
 /// };
-/// assert_eq!(battery.call(&demand), Err(Refusal::NoReturnTemperature));
+/// assert_eq!(battery.call(&demand), Err(Refusal::NoReturn));
 /// assert_eq!(battery.zones(), before);
 /// # Ok::<(), Refusal>(())
 /// ```
@@ -189,7 +189,7 @@ impl Battery {
         let result = call.with_bytes(|bytes| ffi::call(self.record.as_mut(), bytes, sheet));
         match Refusal::from_number(result) {
             Some(refusal) if !refusal.is_line() => Err(refusal),
-            _ => self.read_answer(call, sheet).ok_or(Refusal::CallField),
+            _ => self.read_answer(call, sheet).ok_or(Refusal::BadCall),
         }
     }
 

@@ -296,7 +296,7 @@ impl Call {
     pub fn faults(&self, card: &Card) -> Vec<Fault> {
         let fault = |(field, value): &(&'static Field, Value)| {
             let words = on_card(field, card).fault(value)?;
-            Some(Fault { field: field.name, refusal: Refusal::CallField, words })
+            Some(Fault { field: field.name, refusal: Refusal::BadCall, words })
         };
         self.fields().iter().filter_map(fault).collect()
     }
@@ -321,10 +321,10 @@ impl Call {
     /// rest.
     pub fn from_bytes(bytes: &[u8]) -> Result<Call, Refusal> {
         let mut cursor = Cursor(bytes);
-        let call = Call::read(&mut cursor).map_err(|_| Refusal::CallField)?;
+        let call = Call::read(&mut cursor).map_err(|_| Refusal::BadCall)?;
         match cursor.0.is_empty() {
             true => Ok(call),
-            false => Err(Refusal::CallField),
+            false => Err(Refusal::BadCall),
         }
     }
 

@@ -141,7 +141,7 @@ impl Card {
     pub fn faults(&self) -> Vec<Fault> {
         let fault = |(field, value): (&Field, Value)| {
             let words = field.fault(&value)?;
-            Some(Fault { field: field.name, refusal: Refusal::CardField, words })
+            Some(Fault { field: field.name, refusal: Refusal::CardOutOfRange, words })
         };
         let mut faults: Vec<Fault> =
             Card::FIELDS.iter().zip(self.values()).filter_map(fault).collect();
@@ -272,7 +272,7 @@ impl Card {
     /// A card of any numbers. Refusal 1 for another length and for a flag other than 0 or 1;
     /// [`Card::check`] has the rest.
     pub fn from_bytes(bytes: &[u8]) -> Result<Card, Refusal> {
-        Card::read(bytes).map_err(|_| Refusal::CardField)
+        Card::read(bytes).map_err(|_| Refusal::CardOutOfRange)
     }
 
     /// `from_bytes` with its reason in words.

@@ -38,7 +38,7 @@ impl<'a> Form<'a> {
         match field.parse(text) {
             Ok(value) => *place = Place::Filled(value, line),
             Err(Misread::Words(words)) => return Err(slip(words, None)),
-            Err(Misread::Range(words)) => return Err(slip(words, Some(Refusal::CardField))),
+            Err(Misread::Range(words)) => return Err(slip(words, Some(Refusal::CardOutOfRange))),
         }
         Ok(())
     }

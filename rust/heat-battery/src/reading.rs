@@ -50,13 +50,13 @@ impl std::error::Error for Damage {}
 /// }
 /// ```
 pub fn read(sheet: &[u8]) -> Result<(Card, Lines<'_>), Damage> {
-    let version = |words: String| Damage::new(Refusal::Version, 0, words);
+    let version = |words: String| Damage::new(Refusal::NoVersion, 0, words);
     let (first, rest) = sheet.split_first().ok_or_else(|| version("no bytes at all".into()))?;
     if *first != VERSION {
         return Err(version(format!("the first byte is {first}, not the version {VERSION}")));
     }
     let mut bytes = Cursor(rest);
-    let card = card_line(&mut bytes).map_err(|words| Damage::new(Refusal::CardLine, 0, words))?;
+    let card = card_line(&mut bytes).map_err(|words| Damage::new(Refusal::BadCard, 0, words))?;
     Ok((card, Lines { card, bytes: bytes.0, index: 0 }))
 }
 
@@ -113,6 +113,6 @@ impl Iterator for Lines<'_> {
         let mut bytes = Cursor(self.bytes);
         let line = content(&mut bytes).and_then(|content| self.line(content));
         self.bytes = if line.is_ok() { bytes.0 } else { &[] };
-        Some(line.map_err(|words| Damage::new(Refusal::CallLine, self.index, words)))
+        Some(line.map_err(|words| Damage::new(Refusal::BadLine, self.index, words)))
     }
 }

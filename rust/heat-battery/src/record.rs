@@ -113,7 +113,7 @@ impl Record {
     /// let mut record = Record::open(&Card::example())?;
     /// let before = record.clone();
     /// let charge = Call::Electric { power: -1.0, target: 1.0 };
-    /// assert_eq!(record.advance(&charge), Err(Refusal::CallField));
+    /// assert_eq!(record.advance(&charge), Err(Refusal::BadCall));
     /// assert_eq!(record, before);
     /// # Ok::<(), Refusal>(())
     /// ```

@@ -8,16 +8,16 @@ use std::fmt;
 /// use heat_battery::Refusal;
 ///
 /// let refusal = Refusal::from_number(20);
-/// assert_eq!(refusal, Some(Refusal::NoReturnTemperature));
+/// assert_eq!(refusal, Some(Refusal::NoReturn));
 /// assert_eq!(
-///     Refusal::NoReturnTemperature.to_string(),
+///     Refusal::NoReturn.to_string(),
 ///     "20: required above 1e-10 without a return temperature"
 /// );
 /// ```
 #[derive(Clone, Copy, Debug, PartialEq, Eq, Hash)]
 pub enum Refusal {
     /// 1, a card.
-    CardField,
+    CardOutOfRange,
     /// 2, a card.
     LowerAboveUpper,
     /// 3, a card.
@@ -25,69 +25,63 @@ pub enum Refusal {
     /// 4, a card.
     NothingToStore,
     /// 10, a call without a line.
-    CallField,
+    BadCall,
     /// 10 too: the battery that was handed in.
     BadBattery,
     /// 11, a call without a line, or an opening.
     NoRoom,
     /// 20, as a line.
-    NoReturnTemperature,
+    NoReturn,
     /// 21, as a line.
-    ServiceType,
+    NoService,
     /// 22, as a line.
-    Budget,
+    OverBudget,
     /// 23, as a line.
     NotFinite,
     /// 24, as a line.
-    Logarithm,
+    NoLogarithm,
     /// 25, as a line.
-    StateOfCharge,
+    OverFull,
     /// 40, a sheet.
-    Version,
+    NoVersion,
     /// 41, a sheet.
-    CardLine,
+    BadCard,
     /// 42, a sheet.
-    CallLine,
+    BadLine,
     /// 43, a sheet.
-    Disagreement,
+    Disagrees,
     /// 44, a sheet.
     TooLong,
     /// A number that document 01 has no refusal for. Only a damaged sheet shows one.
     Other(u8),
 }
 
-/// Each refusal with its number and its meaning.
-const REFUSALS: [(Refusal, u8, &str); 18] = [
-    (Refusal::CardField, 1, "a card field is not finite or out of range"),
-    (Refusal::LowerAboveUpper, 2, "lower is above upper"),
-    (Refusal::MaxTooLow, 3, "max is at most 20 °C"),
-    (Refusal::NothingToStore, 4, "max is below ref or nearly equal to it"),
-    (Refusal::CallField, 10, "a call field is not finite or out of range"),
-    (
-        Refusal::BadBattery,
-        10,
+/// Each refusal with its number, its name in the C header and in the definitions, and its meaning.
+const REFUSALS: [(Refusal, u8, &str, &str); 18] = [
+    (Refusal::CardOutOfRange, 1, "CARD_OUT_OF_RANGE", "a card field is not finite or out of range"),
+    (Refusal::LowerAboveUpper, 2, "LOWER_ABOVE_UPPER", "lower is above upper"),
+    (Refusal::MaxTooLow, 3, "MAX_TOO_LOW", "max is at most 20 °C"),
+    (Refusal::NothingToStore, 4, "NOTHING_TO_STORE", "max is below ref or nearly equal to it"),
+    (Refusal::BadCall, 10, "BAD_CALL", "a call field is not finite or out of range"),
+    (Refusal::BadBattery, 10, "BAD_CALL",
         "the battery handed in has another length, a refused card, or a zone or total that is not finite",
     ),
-    (Refusal::NoRoom, 11, "fewer free sheet bytes than the line needs"),
-    (Refusal::NoReturnTemperature, 20, "required above 1e-10 without a return temperature"),
-    (Refusal::ServiceType, 21, "a committed demand of service type combi"),
-    (Refusal::Budget, 22, "a substep is called for after the card's budget of them is done"),
-    (
-        Refusal::NotFinite,
-        23,
+    (Refusal::NoRoom, 11, "NO_ROOM", "fewer free sheet bytes than the line needs"),
+    (Refusal::NoReturn, 20, "NO_RETURN", "required above 1e-10 without a return temperature"),
+    (Refusal::NoService, 21, "NO_SERVICE", "a committed demand of service type combi"),
+    (Refusal::OverBudget, 22, "OVER_BUDGET", "a substep is called for after the card's budget of them is done"),
+    (Refusal::NotFinite, 23, "NOT_FINITE",
         "a zone, outlet, delivered sum, charged energy or total is not finite",
     ),
-    (Refusal::Logarithm, 24, "the logarithm's argument is not positive, normal and finite"),
-    (Refusal::StateOfCharge, 25, "the state of charge is above 1"),
-    (Refusal::Version, 40, "no first byte, or it is not the version 1"),
-    (Refusal::CardLine, 41, "the card line is missing, of wrong length or its card is refused"),
-    (
-        Refusal::CallLine,
-        42,
+    (Refusal::NoLogarithm, 24, "NO_LOGARITHM", "the logarithm's argument is not positive, normal and finite"),
+    (Refusal::OverFull, 25, "OVER_FULL", "the state of charge is above 1"),
+    (Refusal::NoVersion, 40, "NO_VERSION", "no first byte, or it is not the version 1"),
+    (Refusal::BadCard, 41, "BAD_CARD", "the card line is missing, of wrong length or its card is refused"),
+    (Refusal::BadLine, 42, "BAD_LINE",
         "a call line is cut short, of unknown kind or wrong length, or has a field out of range",
     ),
-    (Refusal::Disagreement, 43, "an answer disagrees with the steps"),
-    (Refusal::TooLong, 44, "more than 65,536 bytes"),
+    (Refusal::Disagrees, 43, "DISAGREES", "an answer disagrees with the steps"),
+    (Refusal::TooLong, 44, "TOO_LONG", "more than 65,536 bytes"),
 ];
 
 impl Refusal {
@@ -101,7 +95,7 @@ impl Refusal {
         Some(known.map_or(Refusal::Other(number), |entry| entry.0))
     }
 
-    fn entry(&self) -> Option<&'static (Refusal, u8, &'static str)> {
+    fn entry(&self) -> Option<&'static (Refusal, u8, &'static str, &'static str)> {
         REFUSALS.iter().find(|entry| entry.0 == *self)
     }
 
@@ -113,9 +107,20 @@ impl Refusal {
         }
     }
 
+    /// Its name: that of the C header behind `HEAT_BATTERY_`. Both refusals with the number 10 have
+    /// one name.
+    pub fn name(&self) -> &'static str {
+        self.entry().map_or("OTHER", |entry| entry.2)
+    }
+
     /// What it means.
     pub fn words(&self) -> &'static str {
-        self.entry().map_or("no refusal of document 01", |entry| entry.2)
+        self.entry().map_or("no refusal of document 01", |entry| entry.3)
+    }
+
+    /// Every refusal of document 01, in the order of their numbers.
+    pub fn all() -> impl Iterator<Item = Refusal> {
+        REFUSALS.iter().map(|entry| entry.0)
     }
 
     /// Whether it stands on the sheet as a line: 20 to 25.

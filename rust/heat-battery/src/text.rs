@@ -84,7 +84,7 @@ pub fn card(text: &str) -> Result<ListedCard, Slips> {
     if !slips.is_empty() {
         for (field, value, line) in form.filled() {
             if let Some(words) = field.fault(&value) {
-                slips.add(Slip { line: Some(line), words, refusal: Some(Refusal::CardField) });
+                slips.add(Slip { line: Some(line), words, refusal: Some(Refusal::CardOutOfRange) });
             }
         }
         return Err(slips);

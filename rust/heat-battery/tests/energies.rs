@@ -82,7 +82,7 @@ fn batteries_and_records_have_methods_for_the_questions() -> Result<(), Refusal>
     let answer = battery.call(&call)?;
     assert_eq!((answer.energy, answer.charge_energy_demand), (0.0, Some(demand)));
     assert_eq!(record.advance(&call)?, answer);
-    assert_eq!(battery.charge_energy_demand(None, 2.0), Err(Refusal::CallField));
+    assert_eq!(battery.charge_energy_demand(None, 2.0), Err(Refusal::BadCall));
     Ok(())
 }
 

@@ -63,12 +63,12 @@ fn megabytes_are_audited_to_the_last_line() {
     assert_eq!(audit(&sheet), Verdict::Accepted(LINES));
     assert_eq!(explain(&sheet), Explanation::Agreement);
 
-    assert_eq!(audit(&sheet[..sheet.len() - 1]), refused(Refusal::CallLine, LINES));
+    assert_eq!(audit(&sheet[..sheet.len() - 1]), refused(Refusal::BadLine, LINES));
     let behind = [&sheet[..], &[0]].concat();
-    assert_eq!(audit(&behind), refused(Refusal::CallLine, LINES + 1));
+    assert_eq!(audit(&behind), refused(Refusal::BadLine, LINES + 1));
 
     let altered = altered(sheet);
-    assert_eq!(audit(&altered), refused(Refusal::Disagreement, LINES));
+    assert_eq!(audit(&altered), refused(Refusal::Disagrees, LINES));
     let Explanation::Differences { line, call, fields } = explain(&altered) else {
         panic!("no differences")
     };

@@ -58,7 +58,7 @@ pub fn accepted(path: &OsStr) -> Result<Card, Failure> {
     };
     let listed =
         text::card(&files::text(path, Looks::Card)?).map_err(|slips| match slips.is_refusal() {
-            true => refused(Refusal::CardField, &slips),
+            true => refused(Refusal::CardOutOfRange, &slips),
             false => files::trouble(path, format!("no card:\n{slips}")),
         })?;
     match listed.card.check() {

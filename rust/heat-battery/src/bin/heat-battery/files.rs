@@ -103,7 +103,7 @@ pub fn parts(path: &OsStr, bytes: &[u8]) -> Result<(Card, Vec<Line>, Option<Dama
 /// The end of a message on bytes that are refused for their first one: what they are instead of
 /// a sheet.
 pub fn no_sheet(refusal: Refusal, bytes: &[u8]) -> String {
-    match looks(bytes).filter(|_| refusal == Refusal::Version) {
+    match looks(bytes).filter(|_| refusal == Refusal::NoVersion) {
         Some(other) => format!("; this is {other}, not a sheet"),
         None => String::new(),
     }

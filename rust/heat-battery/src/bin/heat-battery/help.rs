@@ -10,6 +10,7 @@ heat-battery: the proved zone engine for salt hydrate heat batteries
   heat-battery audit SHEET [--explain]       is the sheet right, and if not, where
   heat-battery plot SHEET -o FILE.svg        zones, state of charge and energies as a picture
   heat-battery convert SHEET -o NAME         back to its card and calls
+  heat-battery refusals                      every refusal: number, name, meaning
   heat-battery --version
 
 Each has --help. A file '-' is standard input or output; --option=value is --option value; behind
@@ -145,4 +146,11 @@ it. convert makes the calls again and says so if not; as for the audit, a zero o
 no difference, but it is noted.
 
 Status: 0 the same sheet will come; 1 the sheet is refused or another will come; 2 bad usage or file.
+";
+
+pub const REFUSALS: &str = "\
+heat-battery refusals
+
+Lists every refusal: its number as sheets and verdicts have it, its name as in the C header (there
+with HEAT_BATTERY_ before it), and what it means.
 ";

@@ -25,6 +25,7 @@ pub fn sheet(card: &Card, lines: &[Line], damage: Option<&Damage>, verdict: Verd
 fn line(line: &Line) -> String {
     let answer = &line.answer;
     let refusal = answer.refusal.map_or(0, |refusal| refusal.number());
+    let name = answer.refusal.map_or("null".into(), |refusal| string(refusal.name()));
     let words = answer.refusal.map_or("null".into(), |refusal| string(refusal.words()));
     let or_null = |x: Option<f64>| x.map_or("null".into(), number);
     let zones: Vec<String> = answer.zones.iter().map(|zone| number(*zone)).collect();
@@ -33,6 +34,7 @@ fn line(line: &Line) -> String {
         ("kind", string(line.call.kind().name())),
         ("call", call_object(&line.call)),
         ("refusal", refusal.to_string()),
+        ("refusal_name", name),
         ("refusal_words", words),
         ("energy", number(answer.energy)),
         ("shortfall", number(line.shortfall().unwrap_or(0.0))),

@@ -16,6 +16,7 @@ mod output;
 mod picture;
 mod plot;
 mod progress;
+mod refusals;
 mod run;
 mod show;
 mod svg;
@@ -36,7 +37,7 @@ struct Command {
     help: &'static str,
 }
 
-const COMMANDS: [Command; 7] = [
+const COMMANDS: [Command; 8] = [
     Command {
         name: &["card", "check"],
         places: &["FILE"],
@@ -90,6 +91,13 @@ const COMMANDS: [Command; 7] = [
         flags: &[Flag::value("-o"), Flag::value("--only")],
         run: convert::convert,
         help: help::CONVERT,
+    },
+    Command {
+        name: &["refusals"],
+        places: &[],
+        flags: &[],
+        run: refusals::refusals,
+        help: help::REFUSALS,
     },
 ];
 

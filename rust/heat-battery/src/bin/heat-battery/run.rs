@@ -102,7 +102,7 @@ impl List {
         let kind = listed.call.kind().name();
         let start = format!("{} line {}, call {number} ({kind})", self.name, listed.line);
         note(&format!("{start}: refused {refusal}; {place}"));
-        if refusal == Refusal::CallField {
+        if refusal == Refusal::BadCall {
             for fault in listed.call.faults(self.sheet.battery().card()) {
                 note(&format!("  {fault}"));
             }
