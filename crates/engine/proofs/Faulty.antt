@@ -24,7 +24,7 @@ use Rattle.card.specs.declared.HeatBatteryPcm.{HeatBatteryPcm}
 use Rattle.substep.specs.Substep.{outcomeOf, perLayer, zoneTransfer, withoutLogarithm, passFinite, passFault, substepFrom, withTransfer, processHeatBatteryZones}
 use Rattle.substep.specs.declared.Drive.{Drive}
 use Rattle.substep.specs.declared.Outcome.{Outcome}
-use Rattle.substep.specs.declared.Pass.{Pass}
+use Rattle.substep.specs.Pass.{Pass}
 use Rattle.substep.specs.declared.Substep.{Substep}
 use Rattle.substep.specs.declared.Fault.{Fault}
 use Rattle.substep.specs.declared.Fault.the-variants.{Nothing, Logarithm, NotFinite}
