@@ -10,6 +10,7 @@ use Rattle.floats.specs.Constants.{zero, tolerance}
 use Rattle.card.specs.Derived.{derived}
 use Rattle.card.proofs.Tests.{and-true}
 use Rattle.battery.specs.Answer.{plainAnswer, answerFinite}
+use Rattle.battery.specs.Ledger.{ledgerOf}
 use Rattle.battery.specs.declared.Battery.{Battery}
 use Rattle.battery.specs.declared.Given.{Given}
 use Rattle.battery.specs.declared.Given.the-variants.{Value}
@@ -90,11 +91,11 @@ module _ (n : ℕ) (l : 22 ≤ n) (b : Battery) where
   level-refuses (inr w) = rw (w .1 .read) (checked-refuses (plainAnswer (w .1 .soc) b) (w .0) (w .1 .found))
 
   to-level-refuses :
-      (most : Given) (target : Float) → LevelWhy n b (λ soc. chargeEnergyDemand b most target soc .0) → demandToLevel b most target (level b) .refusal ≡ n
+      (most : Given) (target : Float) → LevelWhy n b (λ soc. chargeEnergyDemand (b .card) most target soc .0) → demandToLevel b most target (level b) .refusal ≡ n
   unfolding demandToLevel
   to-level-refuses most target (inl w) = rw (w .1) (refused-number 25 b ∙ sym (w .0))
   to-level-refuses most target (inr w) =
-      rw (w .1 .read) (checked-refuses (plainAnswer (chargeEnergyDemand b most target (w .1 .soc) .0) b) (w .0) (w .1 .found))
+      rw (w .1 .read) (checked-refuses (plainAnswer (chargeEnergyDemand (b .card) most target (w .1 .soc) .0) b) (w .0) (w .1 .found))
 
   charge-refuses : (source : Source) (target : Float) → ChargeWhy n b source target → charge b source target .refusal ≡ n
   unfolding charge
@@ -143,11 +144,11 @@ module _ (b : Battery) where
   unfolding chargeBattery wetSource chargeHydronic hydronicEnded
   hydronic-end h = refl
 
-  electric-end : (power target : Float) → chargeBattery b (Electric power) target .part .end ≡ faultEnd (processHeatBatteryZones (b .card) (derived (b .card)) (electricDrive b power target) (b .zones) .fault)
+  electric-end : (power target : Float) → chargeBattery b (Electric power) target .part .end ≡ faultEnd (processHeatBatteryZones (b .card) (derived (b .card)) (electricDrive (ledgerOf b) power target) (b .zones) .fault)
   unfolding chargeBattery chargeElectric electricEnded outcomeOf
   electric-end power target = refl
 
-  loss-end : batteryHeatLoss b .part .end ≡ faultEnd (processHeatBatteryZones (b .card) (derived (b .card)) (lossDrive b) (b .zones) .fault)
+  loss-end : batteryHeatLoss b .part .end ≡ faultEnd (processHeatBatteryZones (b .card) (derived (b .card)) (lossDrive (b .card)) (b .zones) .fault)
   unfolding batteryHeatLoss lossEnded outcomeOf
   loss-end = refl
 

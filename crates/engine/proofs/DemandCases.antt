@@ -94,7 +94,7 @@ module _ (b : Battery) where
   pub to-level-late : (most : Given) (target : Float) (s : StateOfCharge) → Late (demandToLevel b most target s .refusal)
   unfolding demandToLevel refusedWith
   to-level-late most target Above = inr (omega arith)
-  to-level-late most target (Charged soc) = plain-late b (chargeEnergyDemand b most target soc .0)
+  to-level-late most target (Charged soc) = plain-late b (chargeEnergyDemand (b .card) most target soc .0)
 
 -- ---- a demand
 

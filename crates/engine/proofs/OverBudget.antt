@@ -14,6 +14,7 @@ use Rattle.zone.specs.declared.StateOfCharge.the-variants.{Level, Above}
 use Rattle.substep.specs.declared.Fault.{Fault}
 use Rattle.substep.specs.declared.Fault.the-variants.{Nothing, Logarithm, NotFinite}
 use Rattle.battery.specs.Answer.{refusedWith, plainAnswer, answerFinite}
+use Rattle.battery.specs.Ledger.{ledgerOf}
 use Rattle.battery.specs.declared.Battery.{Battery}
 use Rattle.battery.specs.declared.Given.{Given}
 use Rattle.battery.specs.declared.Given.the-variants.{Absent, Value}
@@ -63,7 +64,7 @@ module _ (b : Battery) (d : Demand) (asked : le (d .required) tolerance ≡ fals
   ran : (feed : Float) → d .feed ≡ Value feed → demandRan b d feed .part .end ≡ OverBudget → DemandUsed b d
   unfolding demandEnded
   ran feed e h =
-      let o = demand-run-over (demandTask b d feed) (b .card .budget) 0 (zoned (demandStart b) (b .zones)) h in
+      let o = demand-run-over (demandTask (ledgerOf b) d feed) (b .card .budget) 0 (zoned (demandStart (ledgerOf b)) (b .zones)) h in
       record { asked = asked; feed = feed; given = e; over = record { ended = o .ended; used = o .used ∙ zero-add (b .card .budget); due = o .due } }
 
   answers : (r : Zoned Stopped) → demandAnswer b d r .refusal ≡ 0
@@ -110,9 +111,9 @@ module _ (b : Battery) where
   unfolding charge chargeBattery wetSource chargeHydronic hydronicEnded
   hydronic-over w h =
       let r = chargeBattery b (wetSource w) (w .target) in
-      let x = hydronicTask b (wetOf w) (w .target) in
+      let x = hydronicTask (b .card) (wetOf w) (w .target) in
       let e = run-over b r (runAnswer r (chargedBattery b r)) (run-answers r (chargedBattery b r)) h in
-      record { over = rw zero-add at (hydronic-run-over x (wholeSubsteps x) 0 (zoned (hydronicStart b (wetOf w)) (b .zones)) e) }
+      record { over = rw zero-add at (hydronic-run-over x (wholeSubsteps x) 0 (zoned (hydronicStart (b .card) (wetOf w)) (b .zones)) e) }
 
   loss-over : heatLoss b .refusal ≡ 22 → ⊥
   unfolding heatLoss batteryHeatLoss lossEnded
@@ -129,7 +130,7 @@ module _ (b : Battery) where
   unfolding demandToLevel
   to-level-over most target Above h = let n = refused-number 25 b in omega arith
   to-level-over most target (Level soc) h =
-      let e = chargeEnergyDemand b most target soc .0 in
+      let e = chargeEnergyDemand (b .card) most target soc .0 in
       checked-not-over b (plainAnswer e b) (plain-answers e b) h
 
 pub over-budget-only : (version : ℕ) (b : Battery) (call : Call) → stepOf version b call .refusal ≡ 22 → BudgetUsed b call

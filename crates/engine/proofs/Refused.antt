@@ -54,7 +54,7 @@ Why n b (ChargeHydronic h) = ChargeWhy n b (wetSource h) (h .target)
 Why n b HeatLoss = RunWhy n (batteryHeatLoss b) (runAnswer (batteryHeatLoss b) (cooledBattery b (batteryHeatLoss b)))
 Why n b CloseTimestep = (n ≡ 23) × (answerFinite (plainAnswer zero (closedBattery b)) ≡ false)
 Why n b ReadStateOfCharge = LevelWhy n b (λ soc. soc)
-Why n b (ChargeEnergyDemand most target) = LevelWhy n b (λ soc. chargeEnergyDemand b most target soc .0)
+Why n b (ChargeEnergyDemand most target) = LevelWhy n b (λ soc. chargeEnergyDemand (b .card) most target soc .0)
 
 plain-answers : (energy : Float) (b : Battery) → plainAnswer energy b .refusal ≡ 0
 unfolding plainAnswer
@@ -127,11 +127,11 @@ module _ (n : ℕ) (l : 22 ≤ n) (b : Battery) where
 
   to-level-why :
       (most : Given) (target : Float) (s : StateOfCharge) → level b ≡ s → demandToLevel b most target s .refusal ≡ n →
-      LevelWhy n b (λ soc. chargeEnergyDemand b most target soc .0)
+      LevelWhy n b (λ soc. chargeEnergyDemand (b .card) most target soc .0)
   unfolding demandToLevel
   to-level-why most target Above e h = inl (sym h ∙ refused-number 25 b, e)
   to-level-why most target (Level soc) e h =
-      let g = chargeEnergyDemand b most target soc .0 in
+      let g = chargeEnergyDemand (b .card) most target soc .0 in
       let w = checked-why (plainAnswer g b) (plain-answers g b) h in
       inr (w .0, record { soc = soc; read = e; found = w .1 })
 

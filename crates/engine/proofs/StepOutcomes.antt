@@ -13,6 +13,7 @@ use Rattle.card.specs.Derived.{derived}
 use Rattle.card.proofs.Tests.{no-both}
 use Rattle.battery.specs.Answer.{plainAnswer}
 use Rattle.battery.specs.Kinds.{isCharge, onlyAsks}
+use Rattle.battery.specs.Ledger.{ledgerOf}
 use Rattle.battery.specs.declared.Battery.{Battery}
 use Rattle.battery.specs.declared.Given.{Given}
 use Rattle.battery.specs.declared.Given.the-variants.{Absent, Value}
@@ -45,21 +46,21 @@ module _ (b : Battery) where
   demand-ended : (d : Demand) (feed : Float) → EndedKept b (demandRan b d feed)
   unfolding demandEnded demandTask demandStart
   demand-ended d feed =
-      let n = demand-run-count (demandTask b d feed) (b .card .budget) 0 (zoned (demandStart b) (b .zones)) in
-      record { above = demand-run-above (demandTask b d feed) (b .card .budget) 0 (zoned (demandStart b) (b .zones)); substeps = λ h. omega arith }
+      let n = demand-run-count (demandTask (ledgerOf b) d feed) (b .card .budget) 0 (zoned (demandStart (ledgerOf b)) (b .zones)) in
+      record { above = demand-run-above (demandTask (ledgerOf b) d feed) (b .card .budget) 0 (zoned (demandStart (ledgerOf b)) (b .zones)); substeps = λ h. omega arith }
 
   electric-ended : (power target : Float) → EndedKept b (chargeElectric b power target)
   unfolding chargeElectric electricEnded
   electric-ended power target =
-      record { above = substep-above (b .card) (derived (b .card)) (electricDrive b power target) (b .zones); substeps = λ h. h }
+      record { above = substep-above (b .card) (derived (b .card)) (electricDrive (ledgerOf b) power target) (b .zones); substeps = λ h. h }
 
   hydronic-ended : (wet : Exchanger) (target : Float) → EndedKept b (chargeHydronic b wet target)
   unfolding chargeHydronic hydronicEnded hydronicTask hydronicStart
   hydronic-ended wet target =
-      let x = hydronicTask b wet target in
+      let x = hydronicTask (b .card) wet target in
       record {
-        above = hydronic-run-above x (wholeSubsteps x) 0 (zoned (hydronicStart b wet) (b .zones));
-        substeps = λ h. hydronic-run-count x (wholeSubsteps x) 0 (zoned (hydronicStart b wet) (b .zones)) (omega arith);
+        above = hydronic-run-above x (wholeSubsteps x) 0 (zoned (hydronicStart (b .card) wet) (b .zones));
+        substeps = λ h. hydronic-run-count x (wholeSubsteps x) 0 (zoned (hydronicStart (b .card) wet) (b .zones)) (omega arith);
       }
 
   charge-ended : (source : Source) (target : Float) → EndedKept b (chargeBattery b source target)
@@ -69,7 +70,7 @@ module _ (b : Battery) where
 
   loss-ended : EndedKept b (batteryHeatLoss b)
   unfolding batteryHeatLoss lossEnded
-  loss-ended = record { above = substep-above (b .card) (derived (b .card)) (lossDrive b) (b .zones); substeps = λ h. h }
+  loss-ended = record { above = substep-above (b .card) (derived (b .card)) (lossDrive (b .card)) (b .zones); substeps = λ h. h }
 
 -- a demand keeps the battery where it is a trial
 same-of-not : {A : Type 0} (t : Bool) (x y : A) → not t ≡ true → cond t x y ≡ y
@@ -137,7 +138,7 @@ module _ (b : Battery) where
   unfolding demandToLevel
   to-level-outcome most target Above = refused-outcome b false true 25 (omega arith) (omega arith)
   to-level-outcome most target (Level soc) =
-      let e = chargeEnergyDemand b most target soc .0 in
+      let e = chargeEnergyDemand (b .card) most target soc .0 in
       checked-outcome b false true (plainAnswer e b) (plain-kept b true e)
 
 pub step-outcome : (version : ℕ) (b : Battery) (call : Call) → Outcome b (isCharge call) (onlyAsks call) (stepOf version b call)

@@ -24,6 +24,7 @@ use Rattle.battery.specs.Answer.{refusedWith, answerFinite}
 use Rattle.battery.specs.Battery.{GoodBattery}
 use Rattle.call_ranges.specs.Call.{isLevel, callInRange}
 use Rattle.battery.specs.declared.Answer.{Answer}
+use Rattle.battery.specs.Ledger.{ledgerOf}
 use Rattle.battery.specs.declared.Battery.{Battery}
 use Rattle.battery.specs.declared.Call.the-variants.{ChargeElectric, HeatLoss}
 use Rattle.battery.proofs.Accepted.{AcceptedBattery, accepted-battery}
@@ -71,7 +72,7 @@ module _ (version : ℕ) (b : Battery) (g : GoodBattery version b) (f : CardFits
   loss-warms-none i l =
       let c = accepted version (b .card) (battery-accepted .card) in
       by-refusal (λ (a : Answer). T (le (getD (a .battery .zones) i nan) (getD (b .zones) i nan))) b (batteryHeatLoss b) _
-      (losses-warm-none (b .card) (derived (b .card)) (lossDrive b) (b .zones) salt
+      (losses-warm-none (b .card) (derived (b .card)) (lossDrive (b .card)) (b .zones) salt
       (seconds-nonneg (b .card .timestep) (timestep-nonneg (b .card) (c .times))) places finite refl (neg-nonpos (b .card .losses) (losses-nonneg (b .card) (c .powers))) i l)
       (λ n. as-before i l)
 
@@ -81,7 +82,7 @@ module _ (version : ℕ) (b : Battery) (g : GoodBattery version b) (f : CardFits
   unfolding stepOf charge chargeBattery chargeElectric electricEnded runAnswer chargedBattery refusedWith electricDrive callInRange ofBits
   electric-cools-none power target h i l =
       by-refusal (λ (a : Answer). T (le (getD (b .zones) i nan) (getD (a .battery .zones) i nan))) b (chargeBattery b (Electric power) target) _
-      (charging-cools-none (b .card) (derived (b .card)) (electricDrive b power target) (b .zones) salt
-      (seconds-nonneg (maxZero (timeAvailable b zero)) (max-zero-nonneg (timeAvailable b zero))) places finite refl
+      (charging-cools-none (b .card) (derived (b .card)) (electricDrive (ledgerOf b) power target) (b .zones) salt
+      (seconds-nonneg (maxZero (timeAvailable (ledgerOf b) zero)) (max-zero-nonneg (timeAvailable (ledgerOf b) zero))) places finite refl
       (power-nonneg power (and-true (isPower power) (isLevel target) h .0)) i l)
       (λ n. as-before i l)

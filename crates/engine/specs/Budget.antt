@@ -62,10 +62,10 @@ abbrev pub wetOf : Hydronic → Exchanger
 wetOf h = record { inlet = h .inlet; hours = h .hours; flow = h .flow; limit = h .limit; a = h .a; b = h .b; velocity = h .velocity; diameter = h .diameter }
 
 abbrev pub hydronicTaskOf : Battery → Hydronic → HydronicTask
-hydronicTaskOf b h = hydronicTask b (wetOf h) (h .target)
+hydronicTaskOf b h = hydronicTask (b .card) (wetOf h) (h .target)
 
 abbrev pub hydronicRunOf : Battery → Hydronic → Zoned WetEnd
-hydronicRunOf b h = hydronicRun (hydronicTaskOf b h) (wholeSubsteps (hydronicTaskOf b h)) 0 (zoned (hydronicStart b (wetOf h)) (b .zones))
+hydronicRunOf b h = hydronicRun (hydronicTaskOf b h) (wholeSubsteps (hydronicTaskOf b h)) 0 (zoned (hydronicStart (b .card) (wetOf h)) (b .zones))
 
 pub record HydronicUsed (b : Battery) (h : Hydronic) : Type 0 where
   pub over : HydronicOver (hydronicTaskOf b h) (wholeSubsteps (hydronicTaskOf b h)) (hydronicRunOf b h)

@@ -17,6 +17,7 @@ use Rattle.card.specs.Derived.{derived}
 use Rattle.card.specs.declared.Card.{Card}
 use Rattle.card.specs.declared.HeatBatteryPcm.{HeatBatteryPcm}
 use Rattle.battery.specs.Answer.{plainAnswer, answerFinite}
+use Rattle.battery.specs.Ledger.{ledgerOf}
 use Rattle.battery.specs.declared.Battery.{Battery}
 use Rattle.battery.specs.declared.Given.the-variants as Given
 use Rattle.battery.specs.declared.Demand.{Demand}
@@ -111,7 +112,7 @@ pub record DemandFaulted (f : Fault) (b : Battery) (d : Demand) : Type 0 where
   pub given : d .feed ≡ Given.Value feed
   pub ended : demandRunOf b d feed .part .end ≡ faultEnd f
   pub fault :
-      SubstepFault f (b .card) (derived (b .card)) (demandDrive (demandTask b d feed) (demandRunOf b d feed .part .pace)) (demandRunOf b d feed .zones)
+      SubstepFault f (b .card) (derived (b .card)) (demandDrive (demandTask (ledgerOf b) d feed) (demandRunOf b d feed .part .pace)) (demandRunOf b d feed .zones)
 
 pub record HydronicFaulted (f : Fault) (b : Battery) (h : Hydronic) : Type 0 where
   pub ended : hydronicRunOf b h .part .end ≡ faultEnd f
@@ -150,14 +151,14 @@ pub record LevelNotFinite (b : Battery) (energy : Float → Float) : Type 0 wher
 abbrev pub NotFiniteFound : Battery → Call → Type 0
 NotFiniteFound b (DemandEnergy d) = DemandFaulted NotFinite b d ⊎ (DemandNotFinite b d ⊎ NoDemandNotFinite b d)
 NotFiniteFound b (ChargeElectric power target) =
-    SubstepFault NotFinite (b .card) (derived (b .card)) (electricDrive b power target) (b .zones)
+    SubstepFault NotFinite (b .card) (derived (b .card)) (electricDrive (ledgerOf b) power target) (b .zones)
     ⊎ AnswerNotFinite (chargeBattery b (Electric power) target) (runAnswer (chargeBattery b (Electric power) target) (chargedBattery b (chargeBattery b (Electric power) target)))
 NotFiniteFound b (ChargeHydronic h) =
     HydronicFaulted NotFinite b h
     ⊎ AnswerNotFinite (chargeBattery b (wetSource h) (h .target)) (runAnswer (chargeBattery b (wetSource h) (h .target)) (chargedBattery b (chargeBattery b (wetSource h) (h .target))))
 NotFiniteFound b HeatLoss =
-    SubstepFault NotFinite (b .card) (derived (b .card)) (lossDrive b) (b .zones)
+    SubstepFault NotFinite (b .card) (derived (b .card)) (lossDrive (b .card)) (b .zones)
     ⊎ AnswerNotFinite (batteryHeatLoss b) (runAnswer (batteryHeatLoss b) (cooledBattery b (batteryHeatLoss b)))
 NotFiniteFound b CloseTimestep = answerFinite (plainAnswer zero (closedBattery b)) ≡ false
 NotFiniteFound b ReadStateOfCharge = LevelNotFinite b (λ soc. soc)
-NotFiniteFound b (ChargeEnergyDemand most target) = LevelNotFinite b (λ soc. chargeEnergyDemand b most target soc .0)
+NotFiniteFound b (ChargeEnergyDemand most target) = LevelNotFinite b (λ soc. chargeEnergyDemand (b .card) most target soc .0)

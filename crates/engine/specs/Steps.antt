@@ -14,7 +14,9 @@ use Rattle.card.specs.declared.Card.{Card}
 use Rattle.battery.specs.Battery.{batteryAccepted}
 use Rattle.call_ranges.specs.Call.{callInRange}
 use Rattle.battery.specs.Answer.{refusedWith, plainAnswer}
+use Rattle.battery.specs.Ledger.{ledgerOf}
 use Rattle.battery.specs.declared.Battery.{Battery}
+use Rattle.battery.specs.declared.Ledger.{Ledger}
 use Rattle.battery.specs.declared.Given.{Given}
 use Rattle.battery.specs.declared.Given.the-variants.{Absent, Value}
 use Rattle.battery.specs.declared.Demand.{Demand}
@@ -38,20 +40,20 @@ use Rattle.runs.specs.Zoned.{Zoned, zoned, onPart}
 unfoldable pub demandPower : Card → Bool → Float
 demandPower c control = cond (eqb (c .simultaneous) 1 && control) (c .power) zero
 
-unfoldable pub demandTask : Battery → Demand → Float → DemandTask
-demandTask b d feed =
+unfoldable pub demandTask : Ledger → Demand → Float → DemandTask
+demandTask l d feed =
     record {
-      card = b .card;
-      pcm = derived (b .card);
+      card = l .card;
+      pcm = derived (l .card);
       feed = feed;
-      power = demandPower (b .card) (d .control);
-      demand = kwh (d .required ⊘ unitsOf (b .card));
-      seconds = timeAvailable b (d .start) ⊗ hour;
+      power = demandPower (l .card) (d .control);
+      demand = kwh (d .required ⊘ unitsOf (l .card));
+      seconds = timeAvailable l (d .start) ⊗ hour;
     }
 
 -- a demand's substeps, what they hand out, and the answer
 abbrev pub demandRunOf : Battery → Demand → Float → Zoned PaceEnd
-demandRunOf b d feed = demandRun (demandTask b d feed) (b .card .budget) 0 (zoned (demandStart b) (b .zones))
+demandRunOf b d feed = demandRun (demandTask (ledgerOf b) d feed) (b .card .budget) 0 (zoned (demandStart (ledgerOf b)) (b .zones))
 
 abbrev pub demandRan : Battery → Demand → Float → Zoned Stopped
 demandRan b d feed = onPart demandEnded (demandRunOf b d feed)
@@ -97,7 +99,7 @@ readLevel b (Level soc) = checked b (plainAnswer soc b)
 -- kind 7
 unfoldable pub demandToLevel : Battery → Given → Float → StateOfCharge → Answer
 demandToLevel b most target Above = refusedWith 25 b
-demandToLevel b most target (Level soc) = checked b (plainAnswer (chargeEnergyDemand b most target soc .0) b)
+demandToLevel b most target (Level soc) = checked b (plainAnswer (chargeEnergyDemand (b .card) most target soc .0) b)
 
 -- a hydronic call as a wet source
 unfoldable pub wetSource : Hydronic → Source

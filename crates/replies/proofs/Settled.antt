@@ -12,16 +12,15 @@ use Rattle.battery.specs.declared.Totals.{Totals}
 use Rattle.battery.specs.declared.Ledger.{Ledger}
 use Rattle.battery.specs.declared.Answer.{Answer}
 use Rattle.battery.specs.declared.Reply.{Reply}
-use Rattle.battery.specs.Answer.{refusedWith, plainAnswer}
-use Rattle.battery.specs.Ledger.{whole, answerWith, refusedReply, plainReply, settled}
+use Rattle.battery.specs.Answer.{refusedWith, plainAnswer, answerWith, refusedReply, plainReply, settled}
+use Rattle.battery.specs.Ledger.{whole, renewedBattery}
 use Rattle.runs.specs.declared.Stopped.{Stopped}
 use Rattle.runs.specs.Runs.{endRefusal}
 use Rattle.runs.specs.Zoned.{Zoned, AsDefined}
 use Rattle.totals.specs.declared.ServiceClass.{ServiceClass}
-use Rattle.totals.specs.Apart.{servedTotals, chargedTotals, closedTotals}
-use Rattle.replies.specs.Apart.{demandReply, runReply}
+use Rattle.totals.specs.Totals.{servedTotals, chargedTotals, closedTotals}
 use Rattle.totals.specs.Classes.{serviceClass}
-use Rattle.replies.specs.Replies.{checked, unlessRefused, served, demandKept, demandAnswer, chargedBattery, cooledBattery, runAnswer, closedBattery}
+use Rattle.replies.specs.Replies.{checked, unlessRefused, served, demandKept, demandReply, demandAnswer, chargedBattery, cooledBattery, runReply, runAnswer, closedBattery}
 
 module _ (l : Ledger) (before zones : List Float) (r : Reply) where
   pub settled-answer : r .refusal ≡ 0 → settled l before r zones ≡ answerWith l r zones
@@ -33,24 +32,23 @@ module _ (l : Ledger) (before zones : List Float) (r : Reply) where
   settled-other h = sym (via-false _ _ (ne-eqb _ _ h) refl)
 
   pub settled-refusal : (n : ℕ) → r ≡ refusedReply n → eqb n 0 ≡ false → settled l before r zones ≡ refusedWith n (whole l before)
-  unfolding settled refusedReply
+  unfolding settled
   settled-refusal n e h = rw (e, h)
 
   -- a reply without a run
   pub plain-refusal : (energy : Float) (totals : Totals) → r ≡ plainReply energy totals → r .refusal ≡ 0
-  unfolding plainReply
   plain-refusal energy totals e = ap (λ (x : Reply). x .refusal) e
 
   pub plain-with :
       (energy : Float) (totals : Totals) → r ≡ plainReply energy totals →
-      answerWith l r zones ≡ plainAnswer energy (whole (record { card = l .card; count = l .count; totals = totals }) zones)
-  unfolding plainReply plainAnswer
+      answerWith l r zones ≡ plainAnswer energy (renewedBattery l totals zones)
+  unfolding plainAnswer
   plain-with energy totals e = rw e
 
   pub closed-with :
       (energy : Float) (totals : Totals) → totals ≡ closedTotals l → r ≡ plainReply energy totals →
       answerWith l r zones ≡ plainAnswer energy (closedBattery (whole l zones))
-  unfolding plainReply plainAnswer closedBattery
+  unfolding plainAnswer closedBattery
   closed-with energy totals t e = rw (e, t)
 
 -- An answer to a run, where the run's zones lie apart: if the run is refused they are not shown.
