@@ -25,12 +25,11 @@ use Rattle.runs.specs.Hydronic.{hydronicEnded, wholeSubsteps}
 use Rattle.runs.specs.Charge.{electricDrive, electricEnded, chargeElectric, hydronicStart, chargeHydronic, chargeBattery, lossDrive, lossEnded, batteryHeatLoss}
 use Rattle.runs.specs.declared.End.{End}
 use Rattle.runs.specs.declared.End.the-variants.{Done, Negative, Met, NoStep, Level, Limit, Time, OverBudget, NoLogarithm, NotFiniteRun}
-use Rattle.runs.specs.declared.Stopped.{Stopped}
 use Rattle.runs.specs.declared.Source.the-variants.{Electric}
 use Rattle.replies.specs.Replies.{demandStart}
-use Rattle.runs.specs.Zoned.{Zoned, zoned, onPart}
-use Rattle.engine.specs.Steps.{demandRunOf, demandRan, demandTask, wetSource, stepOf}
-use Rattle.engine.specs.Budget.{hydronicTaskOf, hydronicRunOf, wetOf}
+use Rattle.runs.specs.Zoned.{zoned, onPart}
+use Rattle.engine.specs.Steps.{demandRunOf, demandRan, demandTask, wetSource, stepOf, wetOf}
+use Rattle.engine.specs.Budget.{hydronicTaskOf, hydronicRunOf}
 use Rattle.engine.specs.Faults.{DemandFaulted, HydronicFaulted, NoLogarithmTaken}
 use Rattle.engine.proofs.Turns.{never}
 use Rattle.engine.proofs.Faulty.{logarithm-only, substep-fault, demandFromRun, endFault, demand-run-faults, hydronic-run-faults}
@@ -128,9 +127,9 @@ modes-apart h = never (cc)
 losses-apart : Losses ≡ Normal → ⊥
 losses-apart h = never (cc)
 
-run-24 : (r : Zoned Stopped) (a : Answer) → RunWhy 24 r a → endFault (r .part .end) ≡ Logarithm
-run-24 r a (inl h) = end-fault-24 (r .part .end) h
-run-24 r a (inr w) = let n = w .0 in absurd (omega arith)
+run-24 : (end : End) (a : Answer) → RunWhy 24 end a → endFault end ≡ Logarithm
+run-24 end a (inl h) = end-fault-24 end h
+run-24 end a (inr w) = let n = w .0 in absurd (omega arith)
 
 demand-24 : (b : Battery) (d : Demand) → Why 24 b (DemandEnergy d) → DemandFaulted Logarithm b d
 demand-24 b d (inl w) = let n = w .0 in absurd (omega arith)

@@ -31,7 +31,7 @@ use Rattle.delivery.specs.Demand.{demandEnded}
 use Rattle.runs.specs.Hydronic.{hydronicEnded, wholeSubsteps}
 use Rattle.runs.specs.Charge.{electricDrive, electricEnded, chargeElectric, hydronicTask, hydronicStart, chargeHydronic, chargeBattery, lossDrive, lossEnded, batteryHeatLoss, chargeEnergyDemand}
 use Rattle.totals.specs.Classes.{serviceClass, unserved}
-use Rattle.replies.specs.Replies.{demandStart, served, demandKept, demandAnswer, chargedBattery, cooledBattery, runAnswer, closedBattery}
+use Rattle.replies.specs.Replies.{demandStart, served, demandKept, demandAnswer, closedBattery, chargedAnswer, cooledAnswer}
 use Rattle.runs.specs.Zoned.{Zoned, zoned}
 use Rattle.engine.specs.Steps.{demandRan, demandTask, demandFrom, demandGiven, demandEnergy, charge, heatLoss, level, readLevel, demandToLevel, wetSource, stepOf}
 use Rattle.engine.proofs.Ends.{demand-run-above, demand-run-count, hydronic-run-above, hydronic-run-count}
@@ -100,7 +100,7 @@ module _ (b : Battery) (d : Demand) where
       let r = demandRan b d feed in
       by-test Demanded (d .commit && unserved (serviceClass (b .card) (d .service))) _ _
       (λ h. refused-outcome b false (not (d .commit)) 21 (omega arith) (omega arith))
-      (λ h. run-outcome b false (not (d .commit)) (demandAnswer b d r) (demand-kept r (demand-ended b d feed)) r)
+      (λ h. run-outcome b false (not (d .commit)) (demandAnswer b d r) (demand-kept r (demand-ended b d feed)) (r .part .end))
 
   demand-given : (g : Given) → Demanded (demandGiven b d g)
   unfolding demandGiven
@@ -120,14 +120,14 @@ module _ (b : Battery) where
   charge-outcome source target =
       let r = chargeBattery b source target in
       let k = charge-ended b source target in
-      run-outcome b true false (runAnswer r (chargedBattery b r)) (charged-kept b r (k .above) (k .substeps)) r
+      run-outcome b true false (chargedAnswer b r) (charged-kept b r (k .above) (k .substeps)) (r .part .end)
 
   loss-outcome : Outcome b false false (heatLoss b)
   unfolding heatLoss
   loss-outcome =
       let r = batteryHeatLoss b in
       let k = loss-ended b in
-      run-outcome b false false (runAnswer r (cooledBattery b r)) (cooled-kept b r (k .above) (k .substeps)) r
+      run-outcome b false false (cooledAnswer b r) (cooled-kept b r (k .above) (k .substeps)) (r .part .end)
 
   level-outcome : (s : StateOfCharge) → Outcome b false true (readLevel b s)
   unfolding readLevel

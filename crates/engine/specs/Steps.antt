@@ -24,6 +24,7 @@ use Rattle.battery.specs.declared.Hydronic.{Hydronic}
 use Rattle.battery.specs.declared.Call.{Call}
 use Rattle.battery.specs.declared.Call.the-variants.{DemandEnergy, ChargeElectric, ChargeHydronic, HeatLoss, CloseTimestep, ReadStateOfCharge, ChargeEnergyDemand}
 use Rattle.battery.specs.declared.Answer.{Answer}
+use Rattle.runs.specs.declared.Exchanger.{Exchanger}
 use Rattle.runs.specs.declared.Source.{Source}
 use Rattle.runs.specs.declared.Source.the-variants.{Electric, Wet}
 use Rattle.delivery.specs.declared.DemandTask.{DemandTask}
@@ -33,7 +34,7 @@ use Rattle.runs.specs.Runs.{timeAvailable}
 use Rattle.delivery.specs.Demand.{demandRun, demandEnded}
 use Rattle.runs.specs.Charge.{chargeBattery, batteryHeatLoss, chargeEnergyDemand}
 use Rattle.totals.specs.Classes.{serviceClass, unserved}
-use Rattle.replies.specs.Replies.{checked, unlessRefused, unitsOf, demandStart, demandAnswer, chargedBattery, cooledBattery, runAnswer, closedBattery}
+use Rattle.replies.specs.Replies.{checked, unlessRefused, unitsOf, demandStart, demandAnswer, chargedAnswer, cooledAnswer, closedBattery}
 use Rattle.runs.specs.Zoned.{Zoned, zoned, onPart}
 
 -- '`electric_charge`: the card's power where the call's control flag is 1, else 0', where the card charges during a demand
@@ -59,7 +60,7 @@ abbrev pub demandRan : Battery → Demand → Float → Zoned Stopped
 demandRan b d feed = onPart demandEnded (demandRunOf b d feed)
 
 abbrev pub demandAnswered : Battery → Demand → Float → Answer
-demandAnswered b d feed = unlessRefused b (demandRan b d feed) (demandAnswer b d (demandRan b d feed))
+demandAnswered b d feed = unlessRefused b (demandRan b d feed .part .end) (demandAnswer b d (demandRan b d feed))
 
 -- '21 committed, required above 1e-10, service type 0', before the first substep
 unfoldable pub demandFrom : Battery → Demand → Float → Answer
@@ -77,12 +78,12 @@ demandEnergy b d = cond (le (d .required) tolerance) (checked b (plainAnswer zer
 unfoldable pub charge : Battery → Source → Float → Answer
 charge b source target =
     let r = chargeBattery b source target in
-    unlessRefused b r (runAnswer r (chargedBattery b r))
+    unlessRefused b (r .part .end) (chargedAnswer b r)
 
 unfoldable pub heatLoss : Battery → Answer
 heatLoss b =
     let r = batteryHeatLoss b in
-    unlessRefused b r (runAnswer r (cooledBattery b r))
+    unlessRefused b (r .part .end) (cooledAnswer b r)
 
 -- kind 5: 'the three running times become 0'
 abbrev pub closed : Battery → Answer
@@ -102,9 +103,11 @@ demandToLevel b most target Above = refusedWith 25 b
 demandToLevel b most target (Level soc) = checked b (plainAnswer (chargeEnergyDemand (b .card) most target soc .0) b)
 
 -- a hydronic call as a wet source
+abbrev pub wetOf : Hydronic → Exchanger
+wetOf h = record { inlet = h .inlet; hours = h .hours; flow = h .flow; limit = h .limit; a = h .a; b = h .b; velocity = h .velocity; diameter = h .diameter }
+
 unfoldable pub wetSource : Hydronic → Source
-wetSource h =
-    Wet (record { inlet = h .inlet; hours = h .hours; flow = h .flow; limit = h .limit; a = h .a; b = h .b; velocity = h .velocity; diameter = h .diameter })
+wetSource h = Wet (wetOf h)
 
 -- 'Kind 1 is `demand_energy`, 2 `charge_battery_electric`, 3 `charge_battery_hydronic`, 4 `battery_heat_loss`, 6 `calc_state_of_charge`,
 -- 7 `calculate_charge_energy_demand` ..; 5 sets the running times to 0'

@@ -14,13 +14,14 @@ use Rattle.battery.specs.declared.Answer.{Answer}
 use Rattle.battery.specs.declared.Reply.{Reply}
 use Rattle.battery.specs.Answer.{refusedWith, plainAnswer, answerWith, refusedReply, plainReply, settled}
 use Rattle.battery.specs.Ledger.{whole, renewedBattery}
+use Rattle.runs.specs.declared.End.{End}
 use Rattle.runs.specs.declared.Stopped.{Stopped}
 use Rattle.runs.specs.Runs.{endRefusal}
 use Rattle.runs.specs.Zoned.{Zoned, AsDefined}
 use Rattle.totals.specs.declared.ServiceClass.{ServiceClass}
 use Rattle.totals.specs.Totals.{servedTotals, chargedTotals, closedTotals}
 use Rattle.totals.specs.Classes.{serviceClass}
-use Rattle.replies.specs.Replies.{checked, unlessRefused, served, demandKept, demandReply, demandAnswer, chargedBattery, cooledBattery, runReply, runAnswer, closedBattery}
+use Rattle.replies.specs.Replies.{checked, unlessRefused, served, demandKept, demandReply, demandAnswer, chargedBattery, cooledBattery, runReply, runAnswer, chargedAnswer, cooledAnswer, closedBattery}
 
 module _ (l : Ledger) (before zones : List Float) (r : Reply) where
   pub settled-answer : r .refusal ≡ 0 → settled l before r zones ≡ answerWith l r zones
@@ -57,9 +58,12 @@ pub run-end : (zones : List Float) (s : Stopped) (e : Zoned Stopped) → AsDefin
 run-end zones s e same = sym (ap (λ (x : Stopped). x .end) (same .0))
 
 module _ (l : Ledger) (before zones : List Float) (s : Stopped) (e : Zoned Stopped) (same : AsDefined (endRefusal (s .end)) s zones e) where
-  answered : (a b : Answer) → (zones ≡ e .zones → a ≡ b) → unlessRefused (whole l before) e a ≡ unlessRefused (whole l before) e b
+  by-definition : (a : Answer) → unlessRefused (whole l before) (s .end) a ≡ unlessRefused (whole l before) (e .part .end) a
+  by-definition a = sym (ap (λ (end : End). unlessRefused (whole l before) end a) (run-end zones s e same))
+
+  answered : (a b : Answer) → (zones ≡ e .zones → a ≡ b) → unlessRefused (whole l before) (s .end) a ≡ unlessRefused (whole l before) (e .part .end) b
   unfolding unlessRefused
-  answered a b f = by (eqb (endRefusal (e .part .end)) 0) (λ h. eqb-true (endRefusal (e .part .end)) 0 h)
+  answered a b f = by-definition a ∙ by (eqb (endRefusal (e .part .end)) 0) (λ h. eqb-true (endRefusal (e .part .end)) 0 h)
     where
       by : (t : Bool) → (t ≡ true → endRefusal (e .part .end) ≡ 0) →
           cond t (checked (whole l before) a) (refusedWith (endRefusal (e .part .end)) (whole l before)) ≡ cond t (checked (whole l before) b) (refusedWith (endRefusal (e .part .end)) (whole l before))
@@ -69,26 +73,29 @@ module _ (l : Ledger) (before zones : List Float) (s : Stopped) (e : Zoned Stopp
   module _ (r : Reply) where
     pub charged-with :
         (totals : Totals) → totals ≡ chargedTotals l s → r ≡ runReply s totals →
-        unlessRefused (whole l before) e (answerWith l r zones) ≡ unlessRefused (whole l before) e (runAnswer e (chargedBattery (whole l before) e))
+        unlessRefused (whole l before) (s .end) (answerWith l r zones) ≡ unlessRefused (whole l before) (e .part .end) (chargedAnswer (whole l before) e)
     unfolding runAnswer chargedBattery
     charged-with totals t g = answered _ _ (λ z. rw (g, t, z, same .0))
 
     pub cooled-with :
         r ≡ runReply s (l .totals) →
-        unlessRefused (whole l before) e (answerWith l r zones) ≡ unlessRefused (whole l before) e (runAnswer e (cooledBattery (whole l before) e))
+        unlessRefused (whole l before) (s .end) (answerWith l r zones) ≡ unlessRefused (whole l before) (e .part .end) (cooledAnswer (whole l before) e)
     unfolding runAnswer cooledBattery
     cooled-with g = answered _ _ (λ z. rw (g, z, same .0))
 
     pub committed-with :
         (d : Demand) (class : ServiceClass) (totals : Totals) → d .commit ≡ true → class ≡ serviceClass (l .card) (d .service) →
         totals ≡ servedTotals l class s → r ≡ demandReply l s totals →
-        unlessRefused (whole l before) e (answerWith l r zones) ≡ unlessRefused (whole l before) e (demandAnswer (whole l before) d e)
+        unlessRefused (whole l before) (s .end) (answerWith l r zones) ≡ unlessRefused (whole l before) (e .part .end) (demandAnswer (whole l before) d e)
     unfolding demandAnswer demandKept served
     committed-with d class totals h k t g = answered _ _ (λ z. rw (g, t, k, z, same .0, h))
 
     -- a trial's zones stay
+    trial-answer : (d : Demand) → d .commit ≡ false → r ≡ demandReply l s (l .totals) → answerWith l r before ≡ demandAnswer (whole l before) d e
+    unfolding demandAnswer demandKept
+    trial-answer d h g = rw (g, same .0, h)
+
     pub trial-with :
         (d : Demand) → d .commit ≡ false → r ≡ demandReply l s (l .totals) →
-        answerWith l r before ≡ demandAnswer (whole l before) d e
-    unfolding demandAnswer demandKept
-    trial-with d h g = rw (g, same .0, h)
+        unlessRefused (whole l before) (s .end) (answerWith l r before) ≡ unlessRefused (whole l before) (e .part .end) (demandAnswer (whole l before) d e)
+    trial-with d h g = by-definition _ ∙ ap (unlessRefused (whole l before) (e .part .end)) (trial-answer d h g)

@@ -20,6 +20,7 @@ use Rattle.totals.specs.declared.ServiceClass.{ServiceClass}
 use Rattle.totals.specs.Classes.{serviceClass}
 use Rattle.totals.specs.Totals.{servedTotals, chargedTotals, closedTotals}
 use Rattle.delivery.specs.declared.Pace.{Pace}
+use Rattle.runs.specs.declared.End.{End}
 use Rattle.runs.specs.declared.Stopped.{Stopped}
 use Rattle.runs.specs.Zoned.{Zoned}
 use Rattle.runs.specs.Runs.{endRefusal, reynoldBetween}
@@ -29,8 +30,8 @@ unfoldable pub checked : Battery → Answer → Answer
 checked b a = cond (answerFinite a) a (refusedWith 23 b)
 
 -- an answer of a run, unless it ended in 22, 23 or 24
-unfoldable pub unlessRefused : Battery → Zoned Stopped → Answer → Answer
-unlessRefused b r a = cond (eqb (endRefusal (r .part .end)) 0) (checked b a) (refusedWith (endRefusal (r .part .end)) b)
+unfoldable pub unlessRefused : Battery → End → Answer → Answer
+unlessRefused b end a = cond (eqb (endRefusal end) 0) (checked b a) (refusedWith (endRefusal end) b)
 
 abbrev pub unitsOf : Card → Float
 unitsOf c = ofInt binary64 (pos (c .units))
@@ -74,8 +75,14 @@ abbrev pub runReply : Stopped → Totals → Reply
 runReply s totals =
     record { refusal = 0; energy = s .energy .0; mark = 0; outlet = zero; time = zero; substeps = s .substeps; totals = totals }
 
-unfoldable pub runAnswer : Zoned Stopped → Battery → Answer
-runAnswer r b = answerOf (runReply (r .part) (totalsOf b)) b
+unfoldable pub runAnswer : Stopped → Battery → Answer
+runAnswer s b = answerOf (runReply s (totalsOf b)) b
+
+abbrev pub chargedAnswer : Battery → Zoned Stopped → Answer
+chargedAnswer b r = runAnswer (r .part) (chargedBattery b r)
+
+abbrev pub cooledAnswer : Battery → Zoned Stopped → Answer
+cooledAnswer b r = runAnswer (r .part) (cooledBattery b r)
 
 -- kind 5: 'the three running times become 0'
 unfoldable pub closedBattery : Battery → Battery

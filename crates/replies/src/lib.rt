@@ -16,8 +16,6 @@ ghost use Rattle.battery.specs.Battery.{zonesFinite};
 ghost use Rattle.battery.specs.Answer.{answerWith, settled};
 ghost use Rattle.battery.specs.Ledger.{whole};
 ghost use Rattle.runs.specs.Runs.{endRefusal};
-ghost use Rattle.runs.specs.declared.Stopped.{Stopped};
-ghost use Rattle.runs.specs.Zoned.{Zoned};
 ghost use Rattle.replies.specs.Replies.{checked as checkedOf, unlessRefused, demandStart, demandReply, runReply};
 
 // 23 where a reported number or total is not finite.
@@ -35,7 +33,7 @@ pub fn checked(l: Ledger, a: Reply, zones: &[f64; 64]) -> Reply
 // (crates/engine/proofs/FiniteZones.antt), and are not tested again.
 pub fn unless_refused(end: End, a: Reply) -> Reply
     requires { ⌜ a .refusal ≡ 0 ⌝ }
-    ensures { λ r. ⌜ ((l : Ledger) (before zones : List Float) (e : Zoned Stopped) → e .part .end ≡ end → (endRefusal end ≡ 0 → zonesFinite zones (l .card .layers) ≡ true) → settled l before r zones ≡ unlessRefused (whole l before) e (answerWith l a zones)) ⌝ }
+    ensures { λ r. ⌜ ((l : Ledger) (before zones : List Float) → (endRefusal end ≡ 0 → zonesFinite zones (l .card .layers) ≡ true) → settled l before r zones ≡ unlessRefused (whole l before) end (answerWith l a zones)) ⌝ }
 {
     let refusal = runs::end_refusal(end);
     if refusal == 0 {
