@@ -13,6 +13,7 @@ use Rattle.card.specs.Derived.{derived}
 use Rattle.card.proofs.Tests.{no-both}
 use Rattle.battery.specs.Answer.{plainAnswer}
 use Rattle.battery.specs.Kinds.{isCharge, onlyAsks}
+use Rattle.battery.specs.Ledger.{ledgerOf}
 use Rattle.battery.specs.declared.Battery.{Battery}
 use Rattle.battery.specs.declared.Given.{Given}
 use Rattle.battery.specs.declared.Given.the-variants.{Absent, Value}
@@ -22,43 +23,44 @@ use Rattle.battery.specs.declared.Call.the-variants.{DemandEnergy, ChargeElectr
 use Rattle.battery.specs.declared.Answer.{Answer}
 use Rattle.battery.specs.Places.{SameAbove}
 use Rattle.substep.proofs.Above.{substep-above}
-use Rattle.runs.specs.declared.Ended.{Ended}
+use Rattle.runs.specs.declared.Stopped.{Stopped}
 use Rattle.runs.specs.declared.Exchanger.{Exchanger}
 use Rattle.runs.specs.declared.Source.{Source}
 use Rattle.runs.specs.declared.Source.the-variants.{Electric, Wet}
-use Rattle.delivery.specs.Demand.{demandRun, demandEnded}
+use Rattle.delivery.specs.Demand.{demandEnded}
 use Rattle.runs.specs.Hydronic.{hydronicEnded, wholeSubsteps}
 use Rattle.runs.specs.Charge.{electricDrive, electricEnded, chargeElectric, hydronicTask, hydronicStart, chargeHydronic, chargeBattery, lossDrive, lossEnded, batteryHeatLoss, chargeEnergyDemand}
 use Rattle.totals.specs.Classes.{serviceClass, unserved}
-use Rattle.replies.specs.Replies.{demandStart, served, demandKept, demandAnswer, chargedBattery, cooledBattery, runAnswer, closedBattery}
-use Rattle.engine.specs.Steps.{demandTask, demandFrom, demandGiven, demandEnergy, charge, heatLoss, level, readLevel, demandToLevel, wetSource, stepOf}
+use Rattle.replies.specs.Replies.{demandStart, served, demandKept, demandAnswer, closedBattery, chargedAnswer, cooledAnswer}
+use Rattle.runs.specs.Zoned.{Zoned, zoned}
+use Rattle.engine.specs.Steps.{demandRan, demandTask, demandFrom, demandGiven, demandEnergy, charge, heatLoss, level, readLevel, demandToLevel, wetSource, stepOf}
 use Rattle.engine.proofs.Ends.{demand-run-above, demand-run-count, hydronic-run-above, hydronic-run-count}
 use Rattle.engine.proofs.Outcomes.{StateKept, state-kept, Kept, Outcome, refused-outcome, checked-outcome, run-outcome, plain-kept, closed-kept, charged-kept, cooled-kept}
 
 -- what a run hands out
-pub record EndedKept (b : Battery) (r : Ended) : Type 0 where
+pub record EndedKept (b : Battery) (r : Zoned Stopped) : Type 0 where
   pub above : SameAbove (b .card .layers) (b .zones) (r .zones)
-  pub substeps : 1 ≤ b .card .budget → r .substeps ≤ b .card .budget
+  pub substeps : 1 ≤ b .card .budget → r .part .substeps ≤ b .card .budget
 
 module _ (b : Battery) where
-  demand-ended : (d : Demand) (feed : Float) → EndedKept b (demandEnded (demandRun (demandTask b d feed) (b .card .budget) 0 (demandStart b)))
+  demand-ended : (d : Demand) (feed : Float) → EndedKept b (demandRan b d feed)
   unfolding demandEnded demandTask demandStart
   demand-ended d feed =
-      let n = demand-run-count (demandTask b d feed) (b .card .budget) 0 (demandStart b) in
-      record { above = demand-run-above (demandTask b d feed) (b .card .budget) 0 (demandStart b); substeps = λ h. omega arith }
+      let n = demand-run-count (demandTask (ledgerOf b) d feed) (b .card .budget) 0 (zoned (demandStart (ledgerOf b)) (b .zones)) in
+      record { above = demand-run-above (demandTask (ledgerOf b) d feed) (b .card .budget) 0 (zoned (demandStart (ledgerOf b)) (b .zones)); substeps = λ h. omega arith }
 
   electric-ended : (power target : Float) → EndedKept b (chargeElectric b power target)
   unfolding chargeElectric electricEnded
   electric-ended power target =
-      record { above = substep-above (b .card) (derived (b .card)) (electricDrive b power target) (b .zones); substeps = λ h. h }
+      record { above = substep-above (b .card) (derived (b .card)) (electricDrive (ledgerOf b) power target) (b .zones); substeps = λ h. h }
 
   hydronic-ended : (wet : Exchanger) (target : Float) → EndedKept b (chargeHydronic b wet target)
   unfolding chargeHydronic hydronicEnded hydronicTask hydronicStart
   hydronic-ended wet target =
-      let x = hydronicTask b wet target in
+      let x = hydronicTask (b .card) wet target in
       record {
-        above = hydronic-run-above x (wholeSubsteps x) 0 (hydronicStart b wet);
-        substeps = λ h. hydronic-run-count x (wholeSubsteps x) 0 (hydronicStart b wet) (omega arith);
+        above = hydronic-run-above x (wholeSubsteps x) 0 (zoned (hydronicStart (b .card) wet) (b .zones));
+        substeps = λ h. hydronic-run-count x (wholeSubsteps x) 0 (zoned (hydronicStart (b .card) wet) (b .zones)) (omega arith);
       }
 
   charge-ended : (source : Source) (target : Float) → EndedKept b (chargeBattery b source target)
@@ -68,7 +70,7 @@ module _ (b : Battery) where
 
   loss-ended : EndedKept b (batteryHeatLoss b)
   unfolding batteryHeatLoss lossEnded
-  loss-ended = record { above = substep-above (b .card) (derived (b .card)) (lossDrive b) (b .zones); substeps = λ h. h }
+  loss-ended = record { above = substep-above (b .card) (derived (b .card)) (lossDrive (b .card)) (b .zones); substeps = λ h. h }
 
 -- a demand keeps the battery where it is a trial
 same-of-not : {A : Type 0} (t : Bool) (x y : A) → not t ≡ true → cond t x y ≡ y
@@ -76,7 +78,7 @@ same-of-not true x y h = no-both (sym h)
 same-of-not false x y h = refl
 
 module _ (b : Battery) (d : Demand) where
-  demand-kept : (r : Ended) → EndedKept b r → Kept b false (not (d .commit)) (demandAnswer b d r)
+  demand-kept : (r : Zoned Stopped) → EndedKept b r → Kept b false (not (d .commit)) (demandAnswer b d r)
   unfolding demandAnswer demandKept served
   demand-kept r k =
       let s = served b (serviceClass (b .card) (d .service)) r in
@@ -95,10 +97,10 @@ module _ (b : Battery) (d : Demand) where
   demand-from : (feed : Float) → Demanded (demandFrom b d feed)
   unfolding demandFrom
   demand-from feed =
-      let r = demandEnded (demandRun (demandTask b d feed) (b .card .budget) 0 (demandStart b)) in
+      let r = demandRan b d feed in
       by-test Demanded (d .commit && unserved (serviceClass (b .card) (d .service))) _ _
       (λ h. refused-outcome b false (not (d .commit)) 21 (omega arith) (omega arith))
-      (λ h. run-outcome b false (not (d .commit)) (demandAnswer b d r) (demand-kept r (demand-ended b d feed)) r)
+      (λ h. run-outcome b false (not (d .commit)) (demandAnswer b d r) (demand-kept r (demand-ended b d feed)) (r .part .end))
 
   demand-given : (g : Given) → Demanded (demandGiven b d g)
   unfolding demandGiven
@@ -118,14 +120,14 @@ module _ (b : Battery) where
   charge-outcome source target =
       let r = chargeBattery b source target in
       let k = charge-ended b source target in
-      run-outcome b true false (runAnswer r (chargedBattery b r)) (charged-kept b r (k .above) (k .substeps)) r
+      run-outcome b true false (chargedAnswer b r) (charged-kept b r (k .above) (k .substeps)) (r .part .end)
 
   loss-outcome : Outcome b false false (heatLoss b)
   unfolding heatLoss
   loss-outcome =
       let r = batteryHeatLoss b in
       let k = loss-ended b in
-      run-outcome b false false (runAnswer r (cooledBattery b r)) (cooled-kept b r (k .above) (k .substeps)) r
+      run-outcome b false false (cooledAnswer b r) (cooled-kept b r (k .above) (k .substeps)) (r .part .end)
 
   level-outcome : (s : StateOfCharge) → Outcome b false true (readLevel b s)
   unfolding readLevel
@@ -136,7 +138,7 @@ module _ (b : Battery) where
   unfolding demandToLevel
   to-level-outcome most target Above = refused-outcome b false true 25 (omega arith) (omega arith)
   to-level-outcome most target (Level soc) =
-      let e = chargeEnergyDemand b most target soc .0 in
+      let e = chargeEnergyDemand (b .card) most target soc .0 in
       checked-outcome b false true (plainAnswer e b) (plain-kept b true e)
 
 pub step-outcome : (version : ℕ) (b : Battery) (call : Call) → Outcome b (isCharge call) (onlyAsks call) (stepOf version b call)

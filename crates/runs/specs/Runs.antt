@@ -4,9 +4,15 @@ use lib.Ieee.{Float}
 use Rattle.floats.specs.F64.{_⊖_, _⊗_, _⊘_}
 use Rattle.floats.specs.Constants.{one}
 use Rattle.water.specs.Water.{kinematicViscosity, reynoldNumber}
+use Rattle.substep.specs.Substep.{outcomeOf}
+use Rattle.substep.specs.declared.Outcome.{Outcome}
+use Rattle.substep.specs.declared.Substep.{Substep}
 use Rattle.substep.specs.declared.Fault.{Fault}
 use Rattle.substep.specs.declared.Fault.the-variants.{Nothing, Logarithm, NotFinite}
-use Rattle.battery.specs.declared.Battery.{Battery}
+use Rattle.battery.specs.declared.Ledger.{Ledger}
+use Rattle.runs.specs.Zoned.{Zoned, zoned}
+use Rattle.runs.specs.declared.Next.{Next}
+use Rattle.runs.specs.declared.Next.the-variants.{On, Stop}
 use Rattle.runs.specs.declared.End.{End}
 use Rattle.runs.specs.declared.End.the-variants.{Done, Negative, Met, NoStep, Level, Limit, Time, OverBudget, NoLogarithm, NotFiniteRun}
 
@@ -29,10 +35,19 @@ endRefusal OverBudget = 22
 endRefusal NotFiniteRun = 23
 endRefusal NoLogarithm = 24
 
+-- the refusal that a turn ends with, 0 for none
+abbrev pub nextRefusal : Next → ℕ
+nextRefusal On = 0
+nextRefusal (Stop e) = endRefusal e
+
+-- a substep without its energies
+abbrev pub outcome : Substep → Zoned Outcome
+outcome u = zoned (outcomeOf u) (u .zones)
+
 -- the Reynolds number of water between two temperatures
 unfoldable pub reynoldBetween : Float → Float → Float → Float → Float
 reynoldBetween inlet outlet velocity diameter = reynoldNumber (kinematicViscosity inlet outlet) velocity diameter
 
 -- `time_available`, in hours
-unfoldable pub timeAvailable : Battery → Float → Float
-timeAvailable b start = (b .card .timestep ⊖ b .total) ⊗ (one ⊖ start ⊘ b .card .timestep)
+unfoldable pub timeAvailable : Ledger → Float → Float
+timeAvailable l start = (l .card .timestep ⊖ l .totals .total) ⊗ (one ⊖ start ⊘ l .card .timestep)

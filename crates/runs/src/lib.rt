@@ -4,9 +4,6 @@ use card::HeatBatteryPcm;
 use zone::Kilojoules;
 use zone::KilowattHours;
 ghost use mathlib.Core.Path.{_≡_};
-ghost use mathlib.Core.List.{List};
-ghost use lib.Ieee.{Float};
-ghost use Rattle.battery.specs.Ledger.{whole};
 ghost use Rattle.runs.specs.Runs.{faultEnd, endRefusal, reynoldBetween, timeAvailable};
 
 // How a run of substeps ends. The last three are refusals 22, 24 and 23.
@@ -31,24 +28,13 @@ pub enum Next {
     Stop(End),
 }
 
-// What a run hands out.
-pub struct Ended {
-    pub zones: [f64; 64],
+// What a run hands out; its zones stay where they lie.
+pub struct Stopped {
     pub energy: KilowattHours,
     // the charged electric total behind the run
     pub electric: KilowattHours,
     pub outlet: f64,
     // seconds
-    pub time: f64,
-    pub end: End,
-    pub substeps: u32,
-}
-
-// The same but its zones, which stay where they lie. The functions take these; the definitions, which have the zones too, the others.
-pub struct Stopped {
-    pub energy: KilowattHours,
-    pub electric: KilowattHours,
-    pub outlet: f64,
     pub time: f64,
     pub end: End,
     pub substeps: u32,
@@ -84,36 +70,16 @@ pub struct HydronicTask {
 }
 
 // What the substeps of a hydronic charge change.
-pub struct HydronicRun {
-    pub zones: [f64; 64],
+pub struct WetPace {
     pub absorbed: Kilojoules,
     pub reynold: f64,
     // seconds
     pub time: f64,
 }
 
-// The same but its zones.
-pub struct WetPace {
-    pub absorbed: Kilojoules,
-    pub reynold: f64,
-    pub time: f64,
-}
-
-pub struct HydronicTurn {
-    pub run: HydronicRun,
-    pub next: Next,
-    pub substeps: u32,
-}
-
 pub struct WetTurn {
     pub pace: WetPace,
     pub next: Next,
-    pub substeps: u32,
-}
-
-pub struct HydronicEnd {
-    pub run: HydronicRun,
-    pub end: End,
     pub substeps: u32,
 }
 
@@ -160,7 +126,7 @@ pub fn reynold_between(inlet: f64, outlet: f64, velocity: f64, diameter: f64) ->
 
 // Hours.
 pub fn time_available(l: battery::Ledger, start: f64) -> f64
-    ensures { λ r. ⌜ ((zones : List Float) → r ≡ timeAvailable (whole l zones) start) ⌝ }
+    ensures { λ r. ⌜ r ≡ timeAvailable l start ⌝ }
 {
     let timestep = l.card.timestep;
     (timestep - l.totals.total) * (1.0 - start / timestep)

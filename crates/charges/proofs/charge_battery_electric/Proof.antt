@@ -1,8 +1,7 @@
 use mathlib.Core.Path.{ap}
-use mathlib.Core.List.{[]}
 use Rattle.substep.specs.declared.Drive.{Drive}
-use Rattle.runs.specs.Charge.{electricDrive}
-use Rattle.runs.proofs.InPlace.{electric-run, ended-lies}
+use Rattle.runs.specs.Charge.{electricEnded, electricDrive, chargeElectric}
+use Rattle.runs.proofs.InPlace.{one-substep}
 use borrow.Author.Needs.{needs}
 use Rattle.charges.proofs.charge_battery_electric.Statement.{statement}
 use Rattle.charges.proofs.charge_battery_electric.Tie as tie
@@ -15,13 +14,16 @@ electric-drive-requires c κs = search needs
 
 charge-in-place-requires : tie.Need-charge-in-place-requires
 unfolding electricDrive
-charge-in-place-requires c κs = (c .before .before .before .before .pre, ap (λ (d : Drive). d .mode) (c .before .electric-drive .ensures []))
+charge-in-place-requires c κs = (c .before .before .before .before .pre, ap (λ (d : Drive). d .mode) (c .before .electric-drive .ensures))
 
 electric-ended-requires : tie.Need-electric-ended-requires
 electric-ended-requires c κs = search needs
 
 returns : tie.Need-returns
-returns c = ended-lies _ _ _ (electric-run _ _ _ _ _ _ _ _ _ (c .before .before .before .before .derived .ensures) (c .before .before .before .electric-drive .ensures _) (c .before .charge-in-place .ensures) (λ energies. c .electric-ended .ensures _ _ energies))
+unfolding chargeElectric
+returns c =
+    let a = c .before .before .before .before .before .before .args in
+    rw (← (c .before .before .before .before .derived .ensures), ← (c .before .before .before .electric-drive .ensures)) (one-substep (electricEnded (a .l)) _ _ _ _ _ _ _ (c .before .charge-in-place .ensures) (c .electric-ended .ensures))
 
 pub charge-battery-electric-spec : {M : Type 1} → statement M
 charge-battery-electric-spec =
