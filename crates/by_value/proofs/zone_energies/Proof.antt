@@ -1,5 +1,5 @@
 use Rattle.substep.specs.Substep.{zonesAfter}
-use Rattle.substep.specs.declared.Pass.{Pass}
+use Rattle.substep.specs.Pass.{Pass}
 use Rattle.substep.proofs.Passes.{zones-more, energies-end}
 use mathlib.Core.Path.{_≡_, refl}
 use Prim.Native.Nat.{_≤_, _-_}
