@@ -6,7 +6,7 @@ use Prim.Native.Nat.{ℕ}
 use lib.Ieee.{Float, fits, ofBits}
 use Rattle.floats.specs.Constants.{zero}
 use Rattle.floats.specs.Standins.{finite64}
-use Rattle.card.proofs.Tests.{and-true, true-and}
+use Rattle.logic.proofs.Tests.{and-true, true-and}
 use Rattle.battery.specs.Battery.{zonesFinite, totalsFinite}
 use Rattle.battery.specs.Answer.{refusedWith, answerFinite}
 use Rattle.battery.specs.Ledger.{finiteTotals, numbersFinite, answerWith}

@@ -67,17 +67,17 @@ pub struct HeatBatteryPcm {
 fn counts_in_range(card: Card) -> bool
     ensures { λ r. ⌜ r ≡ countsInRange card ⌝ }
 {
-    floats::both(
+    logic::both(
         1 <= card.layers,
-        floats::both(
+        logic::both(
             card.layers <= 64,
-            floats::both(
+            logic::both(
                 1 <= card.units,
-                floats::both(
+                logic::both(
                     card.units <= 1000,
-                    floats::both(
+                    logic::both(
                         card.simultaneous <= 1,
-                        floats::both(1 <= card.budget, card.budget <= 65535),
+                        logic::both(1 <= card.budget, card.budget <= 65535),
                     ),
                 ),
             ),
@@ -88,7 +88,7 @@ fn counts_in_range(card: Card) -> bool
 fn times_in_range(card: Card) -> bool
     ensures { λ r. ⌜ r ≡ timesInRange card ⌝ }
 {
-    floats::both(
+    logic::both(
         ranges::is_substep(card.substep),
         ranges::is_timestep(card.timestep),
     )
@@ -97,20 +97,20 @@ fn times_in_range(card: Card) -> bool
 fn temperatures_in_range(card: Card) -> bool
     ensures { λ r. ⌜ r ≡ temperaturesInRange card ⌝ }
 {
-    let salt = floats::both(
+    let salt = logic::both(
         ranges::is_temperature(card.lower),
-        floats::both(
+        logic::both(
             ranges::is_temperature(card.upper),
             ranges::is_temperature(card.start),
         ),
     );
-    floats::both(
+    logic::both(
         ranges::is_temperature(card.inlet),
-        floats::both(
+        logic::both(
             ranges::is_temperature(card.outlet),
-            floats::both(
+            logic::both(
                 ranges::is_temperature(card.max),
-                floats::both(ranges::is_temperature(card.reference), salt),
+                logic::both(ranges::is_temperature(card.reference), salt),
             ),
         ),
     )
@@ -119,9 +119,9 @@ fn temperatures_in_range(card: Card) -> bool
 fn capacities_in_range(card: Card) -> bool
     ensures { λ r. ⌜ r ≡ capacitiesInRange card ⌝ }
 {
-    floats::both(
+    logic::both(
         ranges::is_capacity(card.below),
-        floats::both(
+        logic::both(
             ranges::is_capacity(card.during),
             ranges::is_capacity(card.above),
         ),
@@ -131,13 +131,13 @@ fn capacities_in_range(card: Card) -> bool
 fn exchanger_in_range(card: Card) -> bool
     ensures { λ r. ⌜ r ≡ exchangerInRange card ⌝ }
 {
-    floats::both(
+    logic::both(
         ranges::is_velocity(card.velocity),
-        floats::both(
+        logic::both(
             ranges::is_diameter(card.diameter),
-            floats::both(
+            logic::both(
                 ranges::is_coefficient(card.a),
-                floats::both(ranges::is_coefficient(card.b), ranges::is_flow(card.flow)),
+                logic::both(ranges::is_coefficient(card.b), ranges::is_flow(card.flow)),
             ),
         ),
     )
@@ -146,21 +146,21 @@ fn exchanger_in_range(card: Card) -> bool
 fn powers_in_range(card: Card) -> bool
     ensures { λ r. ⌜ r ≡ powersInRange card ⌝ }
 {
-    floats::both(ranges::is_power(card.losses), ranges::is_power(card.power))
+    logic::both(ranges::is_power(card.losses), ranges::is_power(card.power))
 }
 
 pub fn card_in_range(card: Card) -> bool
     ensures { λ r. ⌜ r ≡ cardInRange card ⌝ }
 {
-    floats::both(
+    logic::both(
         counts_in_range(card),
-        floats::both(
+        logic::both(
             times_in_range(card),
-            floats::both(
+            logic::both(
                 temperatures_in_range(card),
-                floats::both(
+                logic::both(
                     capacities_in_range(card),
-                    floats::both(exchanger_in_range(card), powers_in_range(card)),
+                    logic::both(exchanger_in_range(card), powers_in_range(card)),
                 ),
             ),
         ),
@@ -171,23 +171,23 @@ pub fn card_in_range(card: Card) -> bool
 pub fn is_accepted(version: u8, card: Card) -> bool
     ensures { λ r. ⌜ r ≡ eqb (cardRefusal version card) 0 ⌝ }
 {
-    let ranges = floats::both(
+    let ranges = logic::both(
         counts_in_range(card),
-        floats::both(
+        logic::both(
             times_in_range(card),
-            floats::both(
+            logic::both(
                 temperatures_in_range(card),
-                floats::both(
+                logic::both(
                     capacities_in_range(card),
-                    floats::both(exchanger_in_range(card), powers_in_range(card)),
+                    logic::both(exchanger_in_range(card), powers_in_range(card)),
                 ),
             ),
         ),
     );
     // Within the ranges of temperatures, above ref and not nearly equal to it is a difference above the tolerance.
-    let stores = floats::both(
+    let stores = logic::both(
         floats::TEMP_AMBIENT_RATED_LOSSES_C < card.max,
         floats::TOLERANCE < card.max - card.reference,
     );
-    floats::both(ranges, floats::both(card.lower <= card.upper, stores))
+    logic::both(ranges, logic::both(card.lower <= card.upper, stores))
 }

@@ -8,7 +8,7 @@ use lib.Dec.{eqb}
 use lib.Ieee.{Float, le}
 use Rattle.floats.specs.Constants as Constants
 use Rattle.floats.specs.Constants.{tolerance}
-use Rattle.floats.proofs.Cases.{by-test}
+use Rattle.logic.proofs.Branch.{by-test}
 use Rattle.zone.specs.declared.StateOfCharge.{StateOfCharge}
 use Rattle.zone.specs.declared.StateOfCharge.the-variants.{Level, Above}
 use Rattle.substep.specs.declared.Fault.{Fault}

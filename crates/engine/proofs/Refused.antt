@@ -8,7 +8,7 @@ use lib.Dec.{eqb, eqb→eq}
 use lib.Ieee.{Float, le}
 use lib.Ieee.Bits.{is-true}
 use Rattle.floats.specs.Constants.{zero, tolerance}
-use Rattle.floats.proofs.Cases.{by-test}
+use Rattle.logic.proofs.Branch.{by-test}
 use Rattle.zone.specs.declared.StateOfCharge.{StateOfCharge}
 use Rattle.zone.specs.declared.StateOfCharge.the-variants.{Level, Above}
 use Rattle.battery.specs.Answer.{refusedWith, plainAnswer, answerFinite}

@@ -8,7 +8,7 @@ use native.Mathlib.Decide.{decLe}
 use native.Mathlib.Omega.{arith}
 use lib.ListN.{length}
 use Rattle.card.specs.declared.Card.{Card}
-use Rattle.card.proofs.Tests.{no-both}
+use Rattle.logic.proofs.Tests.{no-both}
 use Rattle.battery.specs.declared.Battery.{Battery}
 use Rattle.battery.specs.declared.Call.{Call}
 use Rattle.battery.specs.declared.Answer.{Answer}

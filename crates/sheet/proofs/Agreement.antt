@@ -13,7 +13,7 @@ use lib.Ieee.Bits.{is-true}
 use Rattle.floats.specs.Standins.{finite64}
 use Rattle.floats.proofs.Standins.{finite64-finite}
 use Rattle.floats.proofs.Order.{eq-refl, finite-number}
-use Rattle.card.proofs.Tests.{and-true, true-and}
+use Rattle.logic.proofs.Tests.{and-true, true-and}
 use Rattle.battery.specs.declared.Answer.{Answer}
 use Rattle.battery.specs.Battery.{zonesFinite}
 use Rattle.sheet.specs.Answers.{sameNumber, sameZones, sameTotals, agrees, GoodAnswer}

@@ -1,6 +1,6 @@
 -- What a good battery and a good answer tell.
 use mathlib.Core.Path.{_≡_, refl}
-use mathlib.Core.Bool.{Bool, true, false, cond, _&&_}
+use mathlib.Core.Bool.{true, _&&_}
 use mathlib.Core.Logic.{_⊎_, inl, inr}
 use Prim.Native.Nat.{ℕ, zero, suc, _≤_, _<_}
 use native.Mathlib.Decide.{ℕ-discrete}
@@ -10,11 +10,12 @@ use lib.Dec.{T, eqb}
 use mathlib.Core.List.{List}
 use lib.ListN.{getD}
 use lib.Ieee.{Float, nan, binary64, fits, ofBits}
+use Rattle.logic.proofs.Branch.{three-tests}
 use Rattle.floats.specs.Constants as Constants
 use Rattle.floats.specs.Standins.{finite64}
 use Rattle.floats.proofs.Standins.{finite64-fits}
 use Rattle.card.specs.Card.{cardRefusal}
-use Rattle.card.proofs.Tests.{and-true}
+use Rattle.logic.proofs.Tests.{and-true}
 use Rattle.card.proofs.Accepted.{accepted-layers}
 use Rattle.battery.specs.declared.Battery.{Battery}
 use Rattle.sheet.specs.Answers.{GoodAnswer}
@@ -46,17 +47,11 @@ totals b h =
     let s = and-true (finite64 (b .charged)) (finite64 (b .electric)) (r .1) in
     (p .0, q .0, r .0, s .0, s .1)
 
--- nested tests that hold
-one-way : (a b c : Bool) → cond a (cond b c false) false ≡ true → (a ≡ true) × (b ≡ true) × (c ≡ true)
-one-way true true c h = (refl, refl, h)
-one-way true false c h = let z : _≡_ {A = ℕ} 0 1 = cc in absurd (omega arith)
-one-way false b c h = let z : _≡_ {A = ℕ} 0 1 = cc in absurd (omega arith)
-
 pub accepted-battery : (version : ℕ) (b : Battery) → batteryAccepted version b ≡ true → AcceptedBattery version b
 unfolding batteryAccepted
 accepted-battery version b h =
     let z = zonesFinite (b .zones) (b .card .layers) in
-    let w = one-way (eqb (cardRefusal version (b .card)) 0) (eqb (b .count) (b .card .layers)) (z && totalsFinite b) h in
+    let w = three-tests (eqb (cardRefusal version (b .card)) 0) (eqb (b .count) (b .card .layers)) (z && totalsFinite b) h in
     let f = and-true z (totalsFinite b) (w .2) in
     let t = totals b (f .1) in
     record {
