@@ -69,12 +69,11 @@ pub fn numbers_finite(a: Reply) -> bool
     ensures { λ r. ⌜ r ≡ numbersFinite a ⌝ }
 {
     let totals = a.totals;
-    logic::both(
+    logic::all_four(
         floats::is_finite(a.energy),
-        logic::both(
-            floats::is_finite(a.outlet),
-            logic::both(floats::is_finite(a.time), battery::totals_finite(totals)),
-        ),
+        floats::is_finite(a.outlet),
+        floats::is_finite(a.time),
+        battery::totals_finite(totals),
     )
 }
 

@@ -146,15 +146,12 @@ pub fn zones_finite(zones: &[f64; 64], n: usize) -> bool
 pub fn totals_finite(t: Totals) -> bool
     ensures { λ r. ⌜ r ≡ finiteTotals t ⌝ }
 {
-    logic::both(
+    logic::all_five(
         floats::is_finite(t.total),
-        logic::both(
-            floats::is_finite(t.pump),
-            logic::both(
-                floats::is_finite(t.direct),
-                logic::both(floats::is_finite(t.charged), floats::is_finite(t.electric)),
-            ),
-        ),
+        floats::is_finite(t.pump),
+        floats::is_finite(t.direct),
+        floats::is_finite(t.charged),
+        floats::is_finite(t.electric),
     )
 }
 

@@ -26,43 +26,30 @@ fn demand_in_range(card: Card, d: Demand) -> bool
     ensures { λ r. ⌜ r ≡ demandInRange card d ⌝ }
 {
     let feed = d.feed;
-    logic::both(
+    logic::all_four(
         d.service <= 3,
-        logic::both(
-            ranges::within(-1000000.0, 1000000.0, d.required),
-            logic::both(
-                ranges::within(0.0, card.timestep, d.start),
-                is_given_temperature(feed),
-            ),
-        ),
+        ranges::within(-1000000.0, 1000000.0, d.required),
+        ranges::within(0.0, card.timestep, d.start),
+        is_given_temperature(feed),
     )
 }
 
 fn hydronic_in_range(h: Hydronic) -> bool
     ensures { λ r. ⌜ r ≡ hydronicInRange h ⌝ }
 {
-    let exchanger = logic::both(
+    let exchanger = logic::all_four(
         ranges::is_coefficient(h.a),
-        logic::both(
-            ranges::is_coefficient(h.b),
-            logic::both(
-                ranges::is_velocity(h.velocity),
-                ranges::within(0.00001, 1.0, h.diameter),
-            ),
-        ),
+        ranges::is_coefficient(h.b),
+        ranges::is_velocity(h.velocity),
+        ranges::within(0.00001, 1.0, h.diameter),
     );
-    logic::both(
+    logic::all_six(
         ranges::is_temperature(h.inlet),
-        logic::both(
-            ranges::within(0.0, 24.0, h.hours),
-            logic::both(
-                ranges::is_flow(h.flow),
-                logic::both(
-                    is_level(h.target),
-                    logic::both(ranges::within(0.0, 1000000.0, h.limit), exchanger),
-                ),
-            ),
-        ),
+        ranges::within(0.0, 24.0, h.hours),
+        ranges::is_flow(h.flow),
+        is_level(h.target),
+        ranges::within(0.0, 1000000.0, h.limit),
+        exchanger,
     )
 }
 

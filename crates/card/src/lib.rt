@@ -67,21 +67,14 @@ pub struct HeatBatteryPcm {
 fn counts_in_range(card: Card) -> bool
     ensures { λ r. ⌜ r ≡ countsInRange card ⌝ }
 {
-    logic::both(
+    let budget = logic::both(1 <= card.budget, card.budget <= 65535);
+    logic::all_six(
         1 <= card.layers,
-        logic::both(
-            card.layers <= 64,
-            logic::both(
-                1 <= card.units,
-                logic::both(
-                    card.units <= 1000,
-                    logic::both(
-                        card.simultaneous <= 1,
-                        logic::both(1 <= card.budget, card.budget <= 65535),
-                    ),
-                ),
-            ),
-        ),
+        card.layers <= 64,
+        1 <= card.units,
+        card.units <= 1000,
+        card.simultaneous <= 1,
+        budget,
     )
 }
 
@@ -97,49 +90,39 @@ fn times_in_range(card: Card) -> bool
 fn temperatures_in_range(card: Card) -> bool
     ensures { λ r. ⌜ r ≡ temperaturesInRange card ⌝ }
 {
-    let salt = logic::both(
+    let salt = logic::all_three(
         ranges::is_temperature(card.lower),
-        logic::both(
-            ranges::is_temperature(card.upper),
-            ranges::is_temperature(card.start),
-        ),
+        ranges::is_temperature(card.upper),
+        ranges::is_temperature(card.start),
     );
-    logic::both(
+    logic::all_five(
         ranges::is_temperature(card.inlet),
-        logic::both(
-            ranges::is_temperature(card.outlet),
-            logic::both(
-                ranges::is_temperature(card.max),
-                logic::both(ranges::is_temperature(card.reference), salt),
-            ),
-        ),
+        ranges::is_temperature(card.outlet),
+        ranges::is_temperature(card.max),
+        ranges::is_temperature(card.reference),
+        salt,
     )
 }
 
 fn capacities_in_range(card: Card) -> bool
     ensures { λ r. ⌜ r ≡ capacitiesInRange card ⌝ }
 {
-    logic::both(
+    logic::all_three(
         ranges::is_capacity(card.below),
-        logic::both(
-            ranges::is_capacity(card.during),
-            ranges::is_capacity(card.above),
-        ),
+        ranges::is_capacity(card.during),
+        ranges::is_capacity(card.above),
     )
 }
 
 fn exchanger_in_range(card: Card) -> bool
     ensures { λ r. ⌜ r ≡ exchangerInRange card ⌝ }
 {
-    logic::both(
+    logic::all_five(
         ranges::is_velocity(card.velocity),
-        logic::both(
-            ranges::is_diameter(card.diameter),
-            logic::both(
-                ranges::is_coefficient(card.a),
-                logic::both(ranges::is_coefficient(card.b), ranges::is_flow(card.flow)),
-            ),
-        ),
+        ranges::is_diameter(card.diameter),
+        ranges::is_coefficient(card.a),
+        ranges::is_coefficient(card.b),
+        ranges::is_flow(card.flow),
     )
 }
 
@@ -152,18 +135,13 @@ fn powers_in_range(card: Card) -> bool
 pub fn card_in_range(card: Card) -> bool
     ensures { λ r. ⌜ r ≡ cardInRange card ⌝ }
 {
-    logic::both(
+    logic::all_six(
         counts_in_range(card),
-        logic::both(
-            times_in_range(card),
-            logic::both(
-                temperatures_in_range(card),
-                logic::both(
-                    capacities_in_range(card),
-                    logic::both(exchanger_in_range(card), powers_in_range(card)),
-                ),
-            ),
-        ),
+        times_in_range(card),
+        temperatures_in_range(card),
+        capacities_in_range(card),
+        exchanger_in_range(card),
+        powers_in_range(card),
     )
 }
 
@@ -171,23 +149,18 @@ pub fn card_in_range(card: Card) -> bool
 pub fn is_accepted(version: u8, card: Card) -> bool
     ensures { λ r. ⌜ r ≡ eqb (cardRefusal version card) 0 ⌝ }
 {
-    let ranges = logic::both(
+    let ranges = logic::all_six(
         counts_in_range(card),
-        logic::both(
-            times_in_range(card),
-            logic::both(
-                temperatures_in_range(card),
-                logic::both(
-                    capacities_in_range(card),
-                    logic::both(exchanger_in_range(card), powers_in_range(card)),
-                ),
-            ),
-        ),
+        times_in_range(card),
+        temperatures_in_range(card),
+        capacities_in_range(card),
+        exchanger_in_range(card),
+        powers_in_range(card),
     );
     // Within the ranges of temperatures, above ref and not nearly equal to it is a difference above the tolerance.
     let stores = logic::both(
         floats::TEMP_AMBIENT_RATED_LOSSES_C < card.max,
         floats::TOLERANCE < card.max - card.reference,
     );
-    logic::both(ranges, logic::both(card.lower <= card.upper, stores))
+    logic::all_three(ranges, card.lower <= card.upper, stores)
 }

@@ -2,10 +2,7 @@
 use Prim.Native.Nat.{ℕ, _≤_}
 use mathlib.Core.Path.{_≡_}
 use mathlib.Core.Bool.{Bool, true, false, _&&_}
-use lib.Dec.{eqb}
-use borrow.Author.Tests.{eqb-true}
 use lib.Ieee.{lt}
-use Rattle.logic.proofs.Branch.{first-test}
 use Rattle.floats.specs.Constants.{zero}
 use Rattle.substep.specs.Substep.{chargerHeat}
 use Rattle.runs.specs.Charge.{lossDrive}
@@ -18,8 +15,7 @@ use Rattle.battery.specs.declared.Battery.{Battery}
 use Rattle.battery.proofs.Accepted.{accepted-battery}
 
 pub accepted-card : (version : ℕ) (b : Battery) → batteryAccepted version b ≡ true → cardRefusal version (b .card) ≡ 0
-unfolding batteryAccepted
-accepted-card version b h = eqb-true _ _ (first-test (eqb (cardRefusal version (b .card)) 0) _ h)
+accepted-card version b h = accepted-battery version b h .card
 
 pub accepted-few : (version : ℕ) (b : Battery) (x : Bool) → (batteryAccepted version b && x) ≡ true → b .card .layers ≤ 64
 accepted-few version b x h =

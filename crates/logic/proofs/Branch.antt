@@ -21,10 +21,6 @@ by-test P true x y h k = h tt
 by-test P false x y h k = k refl
 
 -- nested tests that hold
-pub first-test : (a b : Bool) → cond a b false ≡ true → a ≡ true
-first-test true b h = refl
-first-test false b h = no-both (sym h)
-
 pub three-tests : (a b c : Bool) → cond a (cond b c false) false ≡ true → (a ≡ true) × (b ≡ true) × (c ≡ true)
 three-tests true true c h = (refl, refl, h)
 three-tests true false c h = no-both (sym h)
