@@ -19,6 +19,7 @@ use Rattle.battery.specs.declared.Demand.{Demand}
 use Rattle.battery.specs.declared.Answer.{Answer}
 use Rattle.battery.specs.declared.Call.{Call}
 use Rattle.battery.specs.declared.Call.the-variants.{DemandEnergy, ChargeElectric, ChargeHydronic, HeatLoss, CloseTimestep, ReadStateOfCharge, ChargeEnergyDemand}
+use Rattle.battery.proofs.Answers.{plain-answers}
 use Rattle.runs.specs.Runs.{endRefusal}
 use Rattle.runs.specs.Charge.{chargeBattery, batteryHeatLoss, chargeEnergyDemand}
 use Rattle.runs.specs.declared.Stopped.{Stopped}
@@ -26,6 +27,7 @@ use Rattle.runs.specs.declared.Source.{Source}
 use Rattle.runs.specs.declared.Source.the-variants.{Electric}
 use Rattle.totals.specs.Classes.{serviceClass, unserved}
 use Rattle.replies.specs.Replies.{checked, unlessRefused, demandAnswer, runAnswer, chargedBattery, cooledBattery, closedBattery}
+use Rattle.replies.proofs.Settled.{run-answers, demand-answers}
 use Rattle.runs.specs.Zoned.{Zoned}
 use Rattle.engine.specs.Steps.{demandRan, demandFrom, demandGiven, demandEnergy, charge, heatLoss, level, readLevel, demandToLevel, wetSource, stepOf}
 use Rattle.engine.specs.Faults.{AnswerNotFinite, NoDemandNotFinite, LevelNotFinite}
@@ -55,18 +57,6 @@ Why n b HeatLoss = RunWhy n (batteryHeatLoss b) (runAnswer (batteryHeatLoss b) (
 Why n b CloseTimestep = (n ≡ 23) × (answerFinite (plainAnswer zero (closedBattery b)) ≡ false)
 Why n b ReadStateOfCharge = LevelWhy n b (λ soc. soc)
 Why n b (ChargeEnergyDemand most target) = LevelWhy n b (λ soc. chargeEnergyDemand b most target soc .0)
-
-plain-answers : (energy : Float) (b : Battery) → plainAnswer energy b .refusal ≡ 0
-unfolding plainAnswer
-plain-answers energy b = refl
-
-run-answers : (r : Zoned Stopped) (b : Battery) → runAnswer r b .refusal ≡ 0
-unfolding runAnswer
-run-answers r b = refl
-
-demand-answers : (b : Battery) (d : Demand) (r : Zoned Stopped) → demandAnswer b d r .refusal ≡ 0
-unfolding demandAnswer
-demand-answers b d r = refl
 
 module _ (n : ℕ) (l : 22 ≤ n) (b : Battery) where
   checked-why : (a : Answer) → a .refusal ≡ 0 → checked b a .refusal ≡ n → (n ≡ 23) × (answerFinite a ≡ false)

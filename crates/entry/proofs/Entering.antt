@@ -1,5 +1,5 @@
 -- What the line of an answer leaves, way by way through its tests; a record's layout.
-use mathlib.Core.Path.{_≡_}
+use mathlib.Core.Path.{_≡_, sym, ap, _∙_}
 use mathlib.Core.List.{List}
 use mathlib.Core.Bool.{true}
 use Prim.Native.Nat.{ℕ, _≤_, _<_}
@@ -13,7 +13,17 @@ use Rattle.battery.specs.declared.Answer.{Answer}
 use Rattle.records.specs.Cards.{cardLength, cardAt}
 use Rattle.records.specs.Records.{recordLength, recordBytes}
 use Rattle.sheet.specs.Lines.{lineSize, lineBytes}
-use Rattle.entry.specs.Entry.{unchanged, renewed, entered, lineAfter, recordLaid}
+use Rattle.entry.specs.Entry.{After, unchanged, renewed, entered, lineAfter, recordLaid}
+
+-- ---- an entry's code
+
+pub code-of : {a : After} (b : After) → a ≡ b → a .code ≡ b .code
+code-of b e = ap (λ (x : After). x .code) e
+
+-- what an entry that changes nothing leaves, by its code
+pub unchanged-by : {a : After} {rec free : List ℕ} (n : ℕ) → a ≡ unchanged n rec free → a ≡ unchanged (a .code) rec free
+unfolding unchanged
+unchanged-by {a} {rec} {free} n e = e ∙ ap (λ (k : ℕ). unchanged k rec free) (sym (code-of (unchanged n rec free) e))
 
 -- ---- the line of an answer
 

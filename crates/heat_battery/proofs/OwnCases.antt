@@ -23,10 +23,11 @@ use Rattle.engine.proofs.StepCases.{step-20, step-21, step-22, step-23, step-24
 use Rattle.calls.specs.Calls.{callOf}
 use Rattle.calls.specs.declared.ReadCall.{ReadCall}
 use Rattle.calls.specs.declared.ReadCall.the-variants.{Good, Bad}
+use Rattle.calls.proofs.CallLaws.{same-call, no-call}
 use Rattle.calls.proofs.CallExact.{call-laid, laid-call}
 use Rattle.own_record.specs.Record.{shownOf, advancedBy, advancedRead, advancedOf}
 use Rattle.heat_battery.specs.Cases.{GoodCall, GoodOwn, OwnCase10, bad-own, bad-own-call, OwnCase}
-use Rattle.heat_battery.proofs.CallCases.{no-call, same-call, not-ten}
+use Rattle.heat_battery.proofs.CallCases.{not-ten}
 
 -- ---- a record that 10 lets through
 

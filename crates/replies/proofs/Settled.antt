@@ -53,6 +53,15 @@ module _ (l : Ledger) (before zones : List Float) (r : Reply) where
   unfolding plainReply plainAnswer closedBattery
   closed-with energy totals t e = rw (e, t)
 
+-- an answer to a run is no refusal
+pub run-answers : (r : Zoned Stopped) (b : Battery) → runAnswer r b .refusal ≡ 0
+unfolding runAnswer
+run-answers r b = refl
+
+pub demand-answers : (b : Battery) (d : Demand) (r : Zoned Stopped) → demandAnswer b d r .refusal ≡ 0
+unfolding demandAnswer
+demand-answers b d r = refl
+
 -- An answer to a run, where the run's zones lie apart: if the run is refused they are not shown.
 
 pub run-end : (zones : List Float) (s : Stopped) (e : Zoned Stopped) → AsDefined (endRefusal (s .end)) s zones e → e .part .end ≡ s .end
