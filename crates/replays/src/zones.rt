@@ -72,8 +72,11 @@ fn state_of_charge(s: &[u8]) -> bool {
     if card.layers <= 64 {
         let n = card.layers as usize;
         let r = level(s, card, n);
-        let shape = logic::both(words::has(s, n + 26), words::word_is(s, 23, n as u64));
-        return logic::both(shape, level_is(s, n + 24, r));
+        return logic::all_three(
+            words::has(s, n + 26),
+            words::word_is(s, 23, n as u64),
+            level_is(s, n + 24, r),
+        );
     }
     false
 }

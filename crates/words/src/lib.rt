@@ -97,8 +97,11 @@ pub fn log_is(s: &[u8], i: usize, log: Log) -> bool
 pub fn three_are(s: &[u8], i: usize, x: f64, y: f64, z: f64) -> bool
     requires { ⌜ i ≤ 512 ⌝ }
 {
-    let front = logic::both(number_is(s, i, x), number_is(s, i + 1, y));
-    logic::both(front, number_is(s, i + 2, z))
+    logic::all_three(
+        number_is(s, i, x),
+        number_is(s, i + 1, y),
+        number_is(s, i + 2, z),
+    )
 }
 
 // The record ends with word i, and that is x.
