@@ -7,6 +7,7 @@ use borrow.Author.Tests.{ne-eqb, eqb-true}
 use lib.Dec.{eqb}
 use lib.Ieee.{Float}
 use Rattle.logic.proofs.Branch.{via-false}
+use Rattle.battery.specs.declared.Battery.{Battery}
 use Rattle.battery.specs.declared.Demand.{Demand}
 use Rattle.battery.specs.declared.Totals.{Totals}
 use Rattle.battery.specs.declared.Ledger.{Ledger}
