@@ -68,12 +68,11 @@ pub fn numbers_finite(a: Reply) -> bool
     ensures { λ r. ⌜ r ≡ numbersFinite a ⌝ }
 {
     let totals = a.totals;
-    floats::both(
+    logic::all_four(
         floats::is_finite(a.energy),
-        floats::both(
-            floats::is_finite(a.outlet),
-            floats::both(floats::is_finite(a.time), battery::totals_finite(totals)),
-        ),
+        floats::is_finite(a.outlet),
+        floats::is_finite(a.time),
+        battery::totals_finite(totals),
     )
 }
 
@@ -83,5 +82,5 @@ pub fn reply_finite(l: Ledger, a: Reply, zones: &[f64; 64]) -> bool
     ensures { λ r. ⌜ r ≡ answerFinite (answerWith l a (now (zones .entry))) ⌝ }
 {
     let n = l.card.layers as usize;
-    floats::both(numbers_finite(a), battery::zones_finite(zones, n))
+    logic::both(numbers_finite(a), battery::zones_finite(zones, n))
 }

@@ -13,7 +13,7 @@ use Rattle.card.proofs.Accepted.{accepted-layers}
 use Rattle.records.specs.Cards.{cardLength, cardAt}
 use Rattle.sheet.specs.Lines.{openingLength}
 use Rattle.auditor.specs.Audit.{cardPart, cardLineOk}
-use Rattle.front.proofs.Fronts.{three-tests}
+use Rattle.logic.proofs.Branch.{three-tests}
 
 pub opening-is : (version : ℕ) → openingLength version ≡ 3 + cardLength version
 unfolding openingLength

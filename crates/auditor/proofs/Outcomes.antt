@@ -7,6 +7,7 @@ use native.Mathlib.Omega.{arith}
 use borrow.Author.Tests.{eqb-true}
 use lib.Dec.{eqb}
 use lib.ListN.{length, getD}
+use Rattle.logic.proofs.Tests.{no-both}
 use Rattle.card.specs.declared.Card.{Card}
 use Rattle.battery.specs.Battery.{fresh}
 use Rattle.battery.specs.declared.Call.{Call}
@@ -82,9 +83,6 @@ by-lines bs o v (differing ls calls l call r e s laid d w) =
     })
     (w ∙ ap (λ (n : ℕ). Refused 43 (n + 1)) (from-none (length ls)))
 
-never : {A : Type 0} → _≡_ {A = Bool} true false → A
-never h = let z : _≡_ {A = ℕ} 0 1 = cc in absurd (omega arith)
-
 lines-are : (c : Card) (t : List ℕ) → auditLines 1 c t ≡ auditFrom 1 c (length t) (fresh c) 0 t
 unfolding auditLines
 lines-are c t = refl
@@ -108,8 +106,8 @@ outcome bs = by-version (eqb (getD bs 0 0) 1) refl
         (rw (audit-opened bs o, lines-are c (o .rest)) (told 1 c (length (o .rest)) (fresh c) 0 (o .rest) (fresh-own (o .card) (o .accepted)) (omega arith)))
     by-card one false k =
         let r = starts-with-one bs one in
-        no-card (record { rest = r .0; version = r .1; unopened = λ o. never (sym (opened-ok bs o) ∙ k) }) (refused-card bs one k)
+        no-card (record { rest = r .0; version = r .1; unopened = λ o. no-both (sym (opened-ok bs o) ∙ k) }) (refused-card bs one k)
 
     by-version : (t : Bool) → eqb (getD bs 0 0) 1 ≡ t → Outcome bs (auditOf bs)
     by-version true e = by-card (eqb-true (getD bs 0 0) 1 e) (cardLineOk 1 bs) refl
-    by-version false e = no-version (λ rest b. never (sym (ap (λ (x : List ℕ). eqb (getD x 0 0) 1) b) ∙ e)) (refused-version bs e)
+    by-version false e = no-version (λ rest b. no-both (sym (ap (λ (x : List ℕ). eqb (getD x 0 0) 1) b) ∙ e)) (refused-version bs e)

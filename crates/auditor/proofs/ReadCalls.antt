@@ -18,7 +18,7 @@ use Rattle.records.specs.Cards.{cardAt}
 use Rattle.calls.specs.Calls.{callLength, commitPlace, controlPlace, returnPlace, markOk, demandAt, demandCall, callBy, callOf}
 use Rattle.calls.specs.declared.ReadCall.{ReadCall}
 use Rattle.calls.specs.declared.ReadCall.the-variants.{Good}
-use Rattle.calls.proofs.CallLaws.{test-good, call-kind}
+use Rattle.calls.proofs.CallLaws.{test-good, call-kind, same-call}
 
 -- ---- numbers
 
@@ -92,9 +92,6 @@ charge-kinds CloseTimestep = refl
 charge-kinds ReadStateOfCharge = refl
 charge-kinds (ChargeEnergyDemand most target) = refl
 
-same-call : (c d : Call) → _≡_ {A = ReadCall} (Good c) (Good d) → c ≡ d
-same-call c d h = cc
-
 -- ---- from the bytes
 module _ (bs : List ℕ) (call : Call) (h : callOf 1 bs ≡ Good call) where
   pub read-loss : getD bs 0 0 ≡ 4 → call ≡ HeatLoss
@@ -115,4 +112,4 @@ module _ (bs : List ℕ) (call : Call) (h : callOf 1 bs ≡ Good call) where
       let q : demandCall 1 bs ≡ Good call = ap (λ (n : ℕ). callBy 1 n bs) (sym k) ∙ r in
       let t = leb (getD bs commitPlace 0) 1 && (leb (getD bs controlPlace 0) 1 && markOk bs returnPlace) in
       let g : _≡_ {A = ReadCall} (Good (DemandEnergy d)) (Good call) = test-good t (Good (DemandEnergy d)) call q .1 in
-      (d, same-call call (DemandEnergy d) (sym g), ap (λ (n : ℕ). eqb n 1) c)
+      (d, same-call (Good (DemandEnergy d)) refl g, ap (λ (n : ℕ). eqb n 1) c)

@@ -6,6 +6,7 @@ use Prim.Native.Nat.{ℕ, zero, suc, _+_, _≤_}
 use native.Mathlib.Omega.{arith}
 use borrow.Author.Tests.{eq-eqb, ne-eqb}
 use lib.ListN.{length}
+use Rattle.logic.proofs.Tests.{no-both}
 use Rattle.card.specs.declared.Card.{Card}
 use Rattle.call_ranges.specs.Call.{callInRange}
 use Rattle.battery.specs.declared.Battery.{Battery}
@@ -15,6 +16,7 @@ use Rattle.engine.specs.Steps.{stepOf, advanceOf}
 use Rattle.sheet.specs.Answers.{answerAt, agrees}
 use Rattle.calls.specs.declared.ReadCall.{ReadCall}
 use Rattle.calls.specs.declared.ReadCall.the-variants.{Good, Bad}
+use Rattle.calls.proofs.CallLaws.{same-call, no-call}
 use Rattle.auditor.specs.declared.Verdict.{Verdict}
 use Rattle.auditor.specs.declared.Verdict.the-variants.{Accepted, Refused}
 use Rattle.front.specs.Front.{behind, lineCall, lineAnswer}
@@ -35,24 +37,17 @@ pub data Told (version : ℕ) (c : Card) (b : Battery) (k : ℕ) (bs : List ℕ)
       → Laid version c l call → agrees (answerAt version c (l .answer)) (stepOf version (stepsFrom version b calls) call) ≡ false
       → v ≡ Refused 43 (k + length ls + 1) → Told version c b k bs v
 
-same-call : (c d : Call) → _≡_ {A = ReadCall} (Good c) (Good d) → c ≡ d
-same-call c d h = cc
-
-bad-good : {A : Type 0} {c : Call} → _≡_ {A = ReadCall} Bad (Good c) → A
-bad-good h = let z : _≡_ {A = ℕ} 0 1 = cc in absurd (omega arith)
-
 -- a line is read wherever one is laid
 laid-read : (version : ℕ) (c : Card) (bs : List ℕ) (l : Line) (call : Call) (r : List ℕ) → bs ≡ bytesOf l ++ r → Laid version c l call → lineCall version c bs ≡ Good call
 laid-read version c bs l call r e h = ap (lineCall version c) e ∙ line-call version c l call h r
 
 pub no-line-bad : (version : ℕ) (c : Card) (bs : List ℕ) → lineCall version c bs ≡ Bad → NoLine version c bs
-no-line-bad version c bs n l call r e h = bad-good (sym n ∙ laid-read version c bs l call r e h)
+no-line-bad version c bs n l call r e h = no-call (lineCall version c bs) n (laid-read version c bs l call r e h)
 
 pub no-line-range : (version : ℕ) (c : Card) (bs : List ℕ) (d : Call) → lineCall version c bs ≡ Good d → callInRange version c d ≡ false → NoLine version c bs
 no-line-range version c bs d n o l call r e h =
-    let s : d ≡ call = same-call d call (sym n ∙ laid-read version c bs l call r e h) in
-    let z : _≡_ {A = Bool} true false = sym (h .in-range) ∙ ap (callInRange version c) (sym s) ∙ o in
-    let w : _≡_ {A = ℕ} 0 1 = cc in omega arith
+    let s : d ≡ call = same-call (lineCall version c bs) (laid-read version c bs l call r e h) n in
+    no-both (sym (h .in-range) ∙ ap (callInRange version c) (sym s) ∙ o)
 
 told-at : (version : ℕ) (c : Card) (b : Battery) (k : ℕ) (bs cs : List ℕ) (v w : Verdict) → bs ≡ cs → v ≡ w → Told version c b k cs w → Told version c b k bs v
 told-at version c b k bs cs v w e f t = rw (e, f) t

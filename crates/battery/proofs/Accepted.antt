@@ -1,12 +1,13 @@
 -- What refusal 10 tells of a battery that it accepts, taken apart and put together; and what makes the battery behind a call good.
-use mathlib.Core.Path.{_≡_, refl, sym, _∙_, ap}
-use mathlib.Core.Bool.{Bool, true, false, cond}
+use mathlib.Core.Path.{_≡_, sym, _∙_, ap}
+use mathlib.Core.Bool.{true}
 use Prim.Native.Nat.{ℕ}
 use native.Mathlib.Omega.{arith}
 use borrow.Author.Tests.{eqb-true, eq-eqb}
 use lib.Dec.{eqb}
+use Rattle.logic.proofs.Branch.{three-tests}
 use Rattle.card.specs.Card.{cardRefusal}
-use Rattle.card.proofs.Tests.{and-true, true-and, no-both}
+use Rattle.logic.proofs.Tests.{and-true, true-and}
 use Rattle.battery.specs.Battery.{zonesFinite, batteryAccepted, GoodBattery}
 use Rattle.battery.specs.Ledger.{totalsOf, totalsFinite}
 use Rattle.battery.specs.declared.Battery.{Battery}
@@ -18,16 +19,11 @@ pub record AcceptedBattery (version : ℕ) (b : Battery) : Type 0 where
   pub zones : zonesFinite (b .zones) (b .card .layers) ≡ true
   pub totals : totalsFinite (totalsOf b) ≡ true
 
-both-tests : (p q r : Bool) → cond p (cond q r false) false ≡ true → (p ≡ true) × (q ≡ true) × (r ≡ true)
-both-tests true true r h = (refl, refl, h)
-both-tests true false r h = no-both (sym h)
-both-tests false q r h = no-both (sym h)
-
 module _ (version : ℕ) (b : Battery) where
   pub accepted-battery : batteryAccepted version b ≡ true → AcceptedBattery version b
   unfolding batteryAccepted
   accepted-battery h =
-      let t = both-tests (eqb (cardRefusal version (b .card)) 0) (eqb (b .count) (b .card .layers)) _ h in
+      let t = three-tests (eqb (cardRefusal version (b .card)) 0) (eqb (b .count) (b .card .layers)) _ h in
       let f = and-true (zonesFinite (b .zones) (b .card .layers)) (totalsFinite (totalsOf b)) (t .2) in
       record { card = eqb-true _ _ (t .0); count = eqb-true _ _ (t .1); zones = f .0; totals = f .1 }
 

@@ -6,9 +6,9 @@ use Prim.Native.Nat.{ℕ}
 use lib.Ieee.{Float, fits, ofBits}
 use Rattle.floats.specs.Constants.{zero}
 use Rattle.floats.specs.Standins.{finite64}
-use Rattle.card.proofs.Tests.{and-true, true-and}
+use Rattle.logic.proofs.Tests.{and-true, true-and}
 use Rattle.battery.specs.Battery.{zonesFinite}
-use Rattle.battery.specs.Answer.{replyOf, refusedWith, numbersFinite, answerFinite, answerWith}
+use Rattle.battery.specs.Answer.{replyOf, refusedWith, plainAnswer, numbersFinite, answerFinite, answerWith}
 use Rattle.battery.specs.Ledger.{totalsOf, totalsFinite}
 use Rattle.battery.specs.declared.Battery.{Battery}
 use Rattle.battery.specs.declared.Ledger.{Ledger}
@@ -51,6 +51,11 @@ finite-answer a h =
 pub zero-finite : finite64 zero ≡ true
 unfolding finite64 fits ofBits
 zero-finite = refl
+
+-- an answer that ran no substep is no refusal
+pub plain-answers : (energy : Float) (b : Battery) → plainAnswer energy b .refusal ≡ 0
+unfolding plainAnswer
+plain-answers energy b = refl
 
 pub refused-finite : (version r : ℕ) (b : Battery) → AcceptedBattery version b → answerFinite (refusedWith r b) ≡ true
 unfolding answerFinite numbersFinite refusedWith

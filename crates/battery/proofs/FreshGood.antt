@@ -30,7 +30,7 @@ unfolding freshZones
 fresh-above zero t i h k = getD-replicate 64 i Constants.zero nan k
 fresh-above (suc n) t i h k = getD-set-other (freshZones n t) n i t nan (λ e. omega arith) ∙ fresh-above n t i (omega arith) k
 
-fresh-below : (n : ℕ) (t : Float) (i : ℕ) → n ≤ 64 → i < n → getD (freshZones n t) i nan ≡ t
+pub fresh-below : (n : ℕ) (t : Float) (i : ℕ) → n ≤ 64 → i < n → getD (freshZones n t) i nan ≡ t
 unfolding freshZones
 fresh-below zero t i h k = absurd (omega arith)
 fresh-below (suc n) t i h k = on (λ l. fresh-below n t i (omega arith) l) (ℕ-discrete i n)

@@ -10,7 +10,7 @@ use lib.Ieee.{nan}
 use Rattle.floats.specs.Standins.{finite64}
 use Rattle.card.specs.Card.{cardRefusal}
 use Rattle.card.specs.declared.Card.{Card}
-use Rattle.card.proofs.Accepted.{accepted-budget}
+use Rattle.card.proofs.Accepted.{accepted-budget, accepted-layers}
 use Rattle.battery.specs.Battery.{GoodBattery}
 use Rattle.battery.specs.Shape.{AnswerShape}
 use Rattle.battery.specs.declared.Battery.{Battery}
@@ -22,6 +22,9 @@ use Rattle.battery.proofs.Zones.{zones-finite-at}
 module _ (version : ℕ) (b : Battery) (g : GoodBattery version b) where
   pub good-card : cardRefusal version (b .card) ≡ 0
   good-card = accepted-battery version b (g .accepted) .card
+
+  pub good-layers : b .card .layers ≤ 64
+  good-layers = accepted-layers version (b .card) good-card .1
 
   pub good-count : b .count ≡ b .card .layers
   good-count = accepted-battery version b (g .accepted) .count

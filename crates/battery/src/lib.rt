@@ -138,7 +138,7 @@ pub fn zones_finite(zones: &[f64; 64], n: usize) -> bool
 {
     let mut ok = true;
     for k in 0..n {
-        ok = floats::both(ok, floats::is_finite(zones[k]));
+        ok = logic::both(ok, floats::is_finite(zones[k]));
     }
     ok
 }
@@ -146,15 +146,12 @@ pub fn zones_finite(zones: &[f64; 64], n: usize) -> bool
 pub fn totals_finite(t: Totals) -> bool
     ensures { λ r. ⌜ r ≡ totalsFinite t ⌝ }
 {
-    floats::both(
+    logic::all_five(
         floats::is_finite(t.total),
-        floats::both(
-            floats::is_finite(t.pump),
-            floats::both(
-                floats::is_finite(t.direct),
-                floats::both(floats::is_finite(t.charged), floats::is_finite(t.electric)),
-            ),
-        ),
+        floats::is_finite(t.pump),
+        floats::is_finite(t.direct),
+        floats::is_finite(t.charged),
+        floats::is_finite(t.electric),
     )
 }
 
@@ -210,7 +207,7 @@ pub fn is_accepted(version: u8, l: Ledger, zones: &[f64; 64]) -> bool
     if card::is_accepted(version, c) {
         if l.count == c.layers {
             let n = c.layers as usize;
-            return floats::both(zones_finite(zones, n), totals_finite(totals));
+            return logic::both(zones_finite(zones, n), totals_finite(totals));
         }
         return false;
     }

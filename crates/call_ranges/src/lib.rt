@@ -26,43 +26,30 @@ fn demand_in_range(card: Card, d: Demand) -> bool
     ensures { λ r. ⌜ r ≡ demandInRange card d ⌝ }
 {
     let feed = d.feed;
-    floats::both(
+    logic::all_four(
         d.service <= 3,
-        floats::both(
-            ranges::within(-1000000.0, 1000000.0, d.required),
-            floats::both(
-                ranges::within(0.0, card.timestep, d.start),
-                is_given_temperature(feed),
-            ),
-        ),
+        ranges::within(-1000000.0, 1000000.0, d.required),
+        ranges::within(0.0, card.timestep, d.start),
+        is_given_temperature(feed),
     )
 }
 
 fn hydronic_in_range(h: Hydronic) -> bool
     ensures { λ r. ⌜ r ≡ hydronicInRange h ⌝ }
 {
-    let exchanger = floats::both(
+    let exchanger = logic::all_four(
         ranges::is_coefficient(h.a),
-        floats::both(
-            ranges::is_coefficient(h.b),
-            floats::both(
-                ranges::is_velocity(h.velocity),
-                ranges::within(0.00001, 1.0, h.diameter),
-            ),
-        ),
+        ranges::is_coefficient(h.b),
+        ranges::is_velocity(h.velocity),
+        ranges::within(0.00001, 1.0, h.diameter),
     );
-    floats::both(
+    logic::all_six(
         ranges::is_temperature(h.inlet),
-        floats::both(
-            ranges::within(0.0, 24.0, h.hours),
-            floats::both(
-                ranges::is_flow(h.flow),
-                floats::both(
-                    is_level(h.target),
-                    floats::both(ranges::within(0.0, 1000000.0, h.limit), exchanger),
-                ),
-            ),
-        ),
+        ranges::within(0.0, 24.0, h.hours),
+        ranges::is_flow(h.flow),
+        is_level(h.target),
+        ranges::within(0.0, 1000000.0, h.limit),
+        exchanger,
     )
 }
 
@@ -73,14 +60,14 @@ pub fn call_in_range(version: u8, card: Card, call: Call) -> bool
     match call {
         Call::DemandEnergy(d) => demand_in_range(card, d),
         Call::ChargeElectric(power, target) => {
-            floats::both(ranges::is_power(power), is_level(target))
+            logic::both(ranges::is_power(power), is_level(target))
         }
         Call::ChargeHydronic(h) => hydronic_in_range(h),
         Call::HeatLoss => true,
         Call::CloseTimestep => true,
         Call::ReadStateOfCharge => true,
         Call::ChargeEnergyDemand(most, target) => {
-            floats::both(is_given_temperature(most), is_level(target))
+            logic::both(is_given_temperature(most), is_level(target))
         }
     }
 }

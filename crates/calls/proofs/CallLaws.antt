@@ -15,13 +15,17 @@ use Rattle.calls.specs.declared.ReadCall.{ReadCall}
 use Rattle.calls.specs.declared.ReadCall.the-variants.{Good, Bad}
 use Rattle.calls.specs.Calls.{callLength, markOk, givenAt, demandAt, demandCall, hydronicAt, chargeDemandCall, bareCall, callBy, callOf}
 
-bad-good : {A : Type 0} {c : Call} → _≡_ {A = ReadCall} Bad (Good c) → A
-bad-good h = let z : _≡_ {A = ℕ} 0 1 = cc in absurd (omega arith)
+-- a read call is one call, or bad
+pub same-call : {c d : Call} (r : ReadCall) → r ≡ Good c → r ≡ Good d → d ≡ c
+same-call r h k = cc
+
+pub no-call : {A : Type 0} {c : Call} (r : ReadCall) → r ≡ Bad → r ≡ Good c → A
+no-call r h k = let z : _≡_ {A = ℕ} 0 1 = cc in absurd (omega arith)
 
 -- a test before a good call holds
 pub test-good : (t : Bool) (r : ReadCall) (c : Call) → cond t r Bad ≡ Good c → (t ≡ true) × (r ≡ Good c)
 test-good true r c h = (refl, h)
-test-good false r c h = bad-good h
+test-good false r c h = no-call Bad refl h
 
 -- one of two, by a test
 either : (t : Bool) (x y : ReadCall) (c : Call) (P : Type 0) → (t ≡ true → x ≡ Good c → P) → (y ≡ Good c → P) → cond t x y ≡ Good c → P
@@ -52,7 +56,7 @@ module _ (version kind : ℕ) (bs : List ℕ) (c : Call) where
       let P : Type 0 = kindOf c ≡ kind in
       either (eqb kind 4) (Good HeatLoss) s₅ c P (is (Good HeatLoss) 4 refl)
       (either (eqb kind 5) (Good CloseTimestep) s₆ c P (is (Good CloseTimestep) 5 refl)
-      (either (eqb kind 6) (Good ReadStateOfCharge) Bad c P (is (Good ReadStateOfCharge) 6 refl) bad-good))
+      (either (eqb kind 6) (Good ReadStateOfCharge) Bad c P (is (Good ReadStateOfCharge) 6 refl) (no-call Bad refl)))
 
   kind-by : callBy version kind bs ≡ Good c → kindOf c ≡ kind
   unfolding callBy demandCall chargeDemandCall kindOf readKind

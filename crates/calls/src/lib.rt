@@ -91,9 +91,9 @@ fn demand_call(version: u8, bytes: &[u8]) -> ReadCall
     requires { ⌜ callLength version 1 ≤ length (now bytes) ⌝ }
     ensures { λ r. ⌜ r ≡ demandCall version (now (bytes .entry)) ⌝ }
 {
-    if floats::both(
+    if logic::both(
         bytes[COMMIT] <= 1,
-        floats::both(bytes[CONTROL] <= 1, mark_ok(bytes, RETURN)),
+        logic::both(bytes[CONTROL] <= 1, mark_ok(bytes, RETURN)),
     ) {
         return ReadCall::Good(Call::DemandEnergy(read_demand(version, bytes)));
     }

@@ -11,7 +11,8 @@ use Rattle.ranges.specs.Ranges.{isTemperature}
 use Rattle.card.specs.Card.{countsInRange, timesInRange, temperaturesInRange, capacitiesInRange, exchangerInRange, powersInRange, cardInRange, cardVerdict, verdictNumber, cardRefusal}
 use Rattle.card.specs.declared.Card.{Card}
 use Rattle.card.specs.declared.CardVerdict.the-variants.{Accepted, OutOfRange, LowerAboveUpper, MaxTooLow, NothingToStore}
-use Rattle.card.proofs.Tests.{and-true, leb-le}
+use Rattle.logic.proofs.Tests.{and-true}
+use borrow.Author.Tests.{leb-true}
 
 pub record AcceptedCard (c : Card) : Type 0 where
   pub counts : countsInRange c ≡ true
@@ -89,7 +90,7 @@ unfolding countsInRange
 accepted-layers version c h =
     let p = and-true (leb 1 (c .layers)) _ (accepted version c h .counts) in
     let q = and-true (leb (c .layers) 64) _ (p .1) in
-    (leb-le 1 (c .layers) (p .0), leb-le (c .layers) 64 (q .0))
+    (leb-true 1 (c .layers) (p .0), leb-true (c .layers) 64 (q .0))
 
 -- 'budget (u16, 1..65535)'
 pub accepted-budget : (version : ℕ) (c : Card) → cardRefusal version c ≡ 0 → (1 ≤ c .budget) × (c .budget ≤ 65535)
@@ -101,4 +102,4 @@ accepted-budget version c h =
     let s = and-true (leb (c .units) 1000) _ (r .1) in
     let t = and-true (leb (c .simultaneous) 1) _ (s .1) in
     let u = and-true (leb 1 (c .budget)) (leb (c .budget) 65535) (t .1) in
-    (leb-le 1 (c .budget) (u .0), leb-le (c .budget) 65535 (u .1))
+    (leb-true 1 (c .budget) (u .0), leb-true (c .budget) 65535 (u .1))

@@ -1,4 +1,3 @@
-pub mod Tests
 pub mod Accepted
 pub mod Salt
 pub mod Within

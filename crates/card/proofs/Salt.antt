@@ -22,9 +22,9 @@ use Rattle.card.specs.Card.{capacitiesInRange, cardRefusal}
 use Rattle.card.specs.Derived.{saltOf}
 use Rattle.card.specs.Fits.{CardFits}
 use Rattle.card.specs.declared.Card.{Card}
-use Rattle.card.proofs.Tests.{and-true}
+use Rattle.logic.proofs.Tests.{and-true, holds}
 use Rattle.card.proofs.Accepted.{each-temperature, accepted, accepted-layers}
-use Rattle.card.proofs.Within.{holds, within-low, within-high, temperature-finite}
+use Rattle.card.proofs.Within.{within-low, within-high, temperature-finite}
 
 -- 0.001 / 64 is above 0, 1e6 / 1 is finite
 smallest-share : T (lt zero (thousandth ⊘ ofInt binary64 (pos 64)))

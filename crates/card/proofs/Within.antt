@@ -1,21 +1,18 @@
 -- A float of a range is finite, and what its ends tell of it.
 use mathlib.Core.Path.{_≡_}
-use mathlib.Core.Bool.{Bool, true}
+use mathlib.Core.Bool.{true}
 use lib.Dec.{T}
 use lib.Ieee.{Float, binary64, fits, ofBits, neg, lt, le}
 use lib.Ieee.Fits.{and-i}
 use lib.Ieee.Scale.{finite}
 use Rattle.floats.specs.Constants.{zero}
 use Rattle.floats.specs.Standins.{finite64, magnitude}
-use Rattle.floats.proofs.Cases.{by-test}
+use Rattle.logic.proofs.Branch.{by-test}
 use Rattle.floats.proofs.Finite.{between-finite}
 use Rattle.floats.proofs.Order.{le-trans}
 use Rattle.floats.proofs.Sign.{neg-anti}
 use Rattle.ranges.specs.Ranges.{within, coldest, hottest, isTemperature, isPower}
-use Rattle.card.proofs.Tests.{and-true}
-
-pub holds : {b : Bool} → b ≡ true → T b
-holds {b} h = rw h tt
+use Rattle.logic.proofs.Tests.{and-true, holds}
 
 module _ (low high x : Float) (h : within low high x ≡ true) where
   pub within-low : T (le low x)

@@ -67,28 +67,21 @@ pub struct HeatBatteryPcm {
 fn counts_in_range(card: Card) -> bool
     ensures { λ r. ⌜ r ≡ countsInRange card ⌝ }
 {
-    floats::both(
+    let budget = logic::both(1 <= card.budget, card.budget <= 65535);
+    logic::all_six(
         1 <= card.layers,
-        floats::both(
-            card.layers <= 64,
-            floats::both(
-                1 <= card.units,
-                floats::both(
-                    card.units <= 1000,
-                    floats::both(
-                        card.simultaneous <= 1,
-                        floats::both(1 <= card.budget, card.budget <= 65535),
-                    ),
-                ),
-            ),
-        ),
+        card.layers <= 64,
+        1 <= card.units,
+        card.units <= 1000,
+        card.simultaneous <= 1,
+        budget,
     )
 }
 
 fn times_in_range(card: Card) -> bool
     ensures { λ r. ⌜ r ≡ timesInRange card ⌝ }
 {
-    floats::both(
+    logic::both(
         ranges::is_substep(card.substep),
         ranges::is_timestep(card.timestep),
     )
@@ -97,73 +90,58 @@ fn times_in_range(card: Card) -> bool
 fn temperatures_in_range(card: Card) -> bool
     ensures { λ r. ⌜ r ≡ temperaturesInRange card ⌝ }
 {
-    let salt = floats::both(
+    let salt = logic::all_three(
         ranges::is_temperature(card.lower),
-        floats::both(
-            ranges::is_temperature(card.upper),
-            ranges::is_temperature(card.start),
-        ),
+        ranges::is_temperature(card.upper),
+        ranges::is_temperature(card.start),
     );
-    floats::both(
+    logic::all_five(
         ranges::is_temperature(card.inlet),
-        floats::both(
-            ranges::is_temperature(card.outlet),
-            floats::both(
-                ranges::is_temperature(card.max),
-                floats::both(ranges::is_temperature(card.reference), salt),
-            ),
-        ),
+        ranges::is_temperature(card.outlet),
+        ranges::is_temperature(card.max),
+        ranges::is_temperature(card.reference),
+        salt,
     )
 }
 
 fn capacities_in_range(card: Card) -> bool
     ensures { λ r. ⌜ r ≡ capacitiesInRange card ⌝ }
 {
-    floats::both(
+    logic::all_three(
         ranges::is_capacity(card.below),
-        floats::both(
-            ranges::is_capacity(card.during),
-            ranges::is_capacity(card.above),
-        ),
+        ranges::is_capacity(card.during),
+        ranges::is_capacity(card.above),
     )
 }
 
 fn exchanger_in_range(card: Card) -> bool
     ensures { λ r. ⌜ r ≡ exchangerInRange card ⌝ }
 {
-    floats::both(
+    logic::all_five(
         ranges::is_velocity(card.velocity),
-        floats::both(
-            ranges::is_diameter(card.diameter),
-            floats::both(
-                ranges::is_coefficient(card.a),
-                floats::both(ranges::is_coefficient(card.b), ranges::is_flow(card.flow)),
-            ),
-        ),
+        ranges::is_diameter(card.diameter),
+        ranges::is_coefficient(card.a),
+        ranges::is_coefficient(card.b),
+        ranges::is_flow(card.flow),
     )
 }
 
 fn powers_in_range(card: Card) -> bool
     ensures { λ r. ⌜ r ≡ powersInRange card ⌝ }
 {
-    floats::both(ranges::is_power(card.losses), ranges::is_power(card.power))
+    logic::both(ranges::is_power(card.losses), ranges::is_power(card.power))
 }
 
 pub fn card_in_range(card: Card) -> bool
     ensures { λ r. ⌜ r ≡ cardInRange card ⌝ }
 {
-    floats::both(
+    logic::all_six(
         counts_in_range(card),
-        floats::both(
-            times_in_range(card),
-            floats::both(
-                temperatures_in_range(card),
-                floats::both(
-                    capacities_in_range(card),
-                    floats::both(exchanger_in_range(card), powers_in_range(card)),
-                ),
-            ),
-        ),
+        times_in_range(card),
+        temperatures_in_range(card),
+        capacities_in_range(card),
+        exchanger_in_range(card),
+        powers_in_range(card),
     )
 }
 
@@ -171,23 +149,18 @@ pub fn card_in_range(card: Card) -> bool
 pub fn is_accepted(version: u8, card: Card) -> bool
     ensures { λ r. ⌜ r ≡ eqb (cardRefusal version card) 0 ⌝ }
 {
-    let ranges = floats::both(
+    let ranges = logic::all_six(
         counts_in_range(card),
-        floats::both(
-            times_in_range(card),
-            floats::both(
-                temperatures_in_range(card),
-                floats::both(
-                    capacities_in_range(card),
-                    floats::both(exchanger_in_range(card), powers_in_range(card)),
-                ),
-            ),
-        ),
+        times_in_range(card),
+        temperatures_in_range(card),
+        capacities_in_range(card),
+        exchanger_in_range(card),
+        powers_in_range(card),
     );
     // Within the ranges of temperatures, above ref and not nearly equal to it is a difference above the tolerance.
-    let stores = floats::both(
+    let stores = logic::both(
         floats::TEMP_AMBIENT_RATED_LOSSES_C < card.max,
         floats::TOLERANCE < card.max - card.reference,
     );
-    floats::both(ranges, floats::both(card.lower <= card.upper, stores))
+    logic::all_three(ranges, card.lower <= card.upper, stores)
 }

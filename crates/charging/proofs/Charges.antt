@@ -5,7 +5,8 @@ use lib.Ieee.{Float, ofBits, neg, lt, le}
 use Rattle.floats.specs.F64.{_⊕_}
 use Rattle.floats.specs.Constants.{zero}
 use Rattle.floats.specs.Standins.{finite64}
-use Rattle.floats.proofs.Cases.{by-test, by-le, by-lt}
+use Rattle.floats.proofs.Cases.{by-le, by-lt}
+use Rattle.logic.proofs.Branch.{by-test}
 use Rattle.floats.proofs.Order.{lt-irrefl}
 use Rattle.floats.proofs.Parts.{number}
 use Rattle.charging.specs.Charging.{chargingWithdrawn, chargingFull, zoneSimultaneousCharging}

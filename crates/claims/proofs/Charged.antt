@@ -13,7 +13,7 @@ use Rattle.floats.proofs.Parts.{number}
 use Rattle.floats.proofs.Order.{eq-sym, eq-trans}
 use Rattle.floats.proofs.SumLaws.{add-respects}
 use Rattle.card.specs.declared.Card.{Card}
-use Rattle.card.proofs.Tests.{and-true, no-both}
+use Rattle.logic.proofs.Tests.{and-true, no-both}
 use Rattle.battery.specs.Battery.{fresh}
 use Rattle.battery.specs.Kinds.{isCharge}
 use Rattle.battery.specs.declared.Battery.{Battery}

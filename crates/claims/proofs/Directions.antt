@@ -1,14 +1,11 @@
 -- Demand 3: 'In each accepted sheet no zone is warmer after a standing loss, none cooler after an electric charge, and none altered by a refused
 -- or trial line.'
-use mathlib.Core.Path.{_≡_, refl, ap, _∙_}
+use mathlib.Core.Path.{_≡_, ap, _∙_}
 use mathlib.Core.List.{List, [], _∷_}
 use mathlib.Core.Bool.{true}
-use Prim.Native.Nat.{ℕ, zero, suc, _≤_, _<_}
-use native.Mathlib.Decide.{ℕ-discrete}
-use native.Mathlib.Omega.{arith}
+use Prim.Native.Nat.{ℕ, _<_}
 use lib.Dec.{T}
-use lib.ListN.{length, getD, set, length-set}
-use lib.Seq.{getD-set-same, getD-set-other}
+use lib.ListN.{getD}
 use lib.Ieee.{Float, nan, le, eq}
 use lib.Ieee.Bits.{is-true}
 use Rattle.floats.proofs.Order.{le-respects, eq-refl, eq-sym, eq-trans}
@@ -22,6 +19,7 @@ use Rattle.battery.specs.declared.Call.{Call}
 use Rattle.battery.specs.declared.Call.the-variants.{ChargeElectric, HeatLoss}
 use Rattle.battery.specs.declared.Answer.{Answer}
 use Rattle.battery.proofs.Accepted.{accepted-battery}
+use Rattle.battery.proofs.FreshGood.{fresh-below}
 use Rattle.battery.proofs.Zones.{zones-finite-at}
 use Rattle.engine.specs.Steps.{stepOf}
 use Rattle.engine.proofs.StepKeeps.{refused-keeps-state, trial-keeps-state}
@@ -95,25 +93,11 @@ all-directed c f (l ∷ ls) (call ∷ calls) b o before was s = (
 
 -- ---- the zones before the first line
 
-fresh-long : (n : ℕ) (t : Float) → length (freshZones n t) ≡ 64
-unfolding freshZones
-fresh-long zero t = refl
-fresh-long (suc n) t = simp (length-set) (fresh-long n t)
-
-fresh-zone : (n : ℕ) (t : Float) (i : ℕ) → n ≤ 64 → i < n → getD (freshZones n t) i nan ≡ t
-unfolding freshZones
-fresh-zone zero t i h k = absurd (omega arith)
-fresh-zone (suc n) t i h k = on (λ l. fresh-zone n t i (omega arith) l) (ℕ-discrete i n)
-  where
-    on : (i < n → getD (freshZones n t) i nan ≡ t) → Dec (i ≡ n) → getD (set (freshZones n t) n t) i nan ≡ t
-    on below (yes e) = rw e (getD-set-same (freshZones n t) n t nan (simp (fresh-long n t) (omega arith)))
-    on below (no ne) = getD-set-other (freshZones n t) n i t nan ne ∙ below (omega arith)
-
 start-zones : (c : Card) → Own 1 c (fresh c) → SameZones c (λ i. c .start) (fresh c)
 unfolding fresh
 start-zones c o i k =
     let g = accepted-battery 1 (fresh c) (o .good .accepted) in
-    let e : getD (freshZones (c .layers) (c .start)) i nan ≡ c .start = fresh-zone (c .layers) (c .start) i (accepted-layers 1 c (g .card) .1) k in
+    let e : getD (freshZones (c .layers) (c .start)) i nan ≡ c .start = fresh-below (c .layers) (c .start) i (accepted-layers 1 c (g .card) .1) k in
     let z = zones-finite-at (freshZones (c .layers) (c .start)) (c .layers) (g .zones) i k in
     rw e (eq-refl (c .start) (number-of (c .start) (rw e at z)))
 

@@ -10,7 +10,7 @@ use Rattle.floats.proofs.Standins.{finite64-finite}
 use Rattle.floats.proofs.Parts.{number}
 use Rattle.floats.proofs.Order.{finite-number}
 use Rattle.card.specs.declared.Card.{Card}
-use Rattle.card.proofs.Within.{holds}
+use Rattle.logic.proofs.Tests.{holds}
 use Rattle.battery.specs.Battery.{GoodBattery}
 use Rattle.battery.specs.declared.Battery.{Battery}
 use Rattle.battery.specs.declared.Call.{Call}

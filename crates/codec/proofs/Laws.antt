@@ -7,7 +7,6 @@ use native.Mathlib.Omega.{arith}
 use lib.ListN.{length, set, length-append}
 use lib.Seq.{sets, set-comm}
 use lib.Dec.{T}
-use mathlib.Core.Bool.{Bool, true, false}
 use lib.Ieee.{Float, binary64, ofBits, toBits, fits}
 use lib.Ieee.Bits.{ofBits-toBits, toBits-lt}
 use Rattle.codec.specs.Bytes.{be, beFrom, beBytes, f64Bytes, f64Of}
@@ -51,10 +50,3 @@ f64-back x h = ap (ofBits binary64) (be-beBytes 8 (toBits binary64 x) (toBits-lt
 pub length-f64Bytes : (x : Float) → length (f64Bytes x) ≡ 8
 unfolding f64Bytes
 length-f64Bytes x = length-beBytes 8 (toBits binary64 x)
-
--- no Bool is both
-pub ft : {A : Type 0} → _≡_ {A = Bool} false true → A
-ft h = let z : _≡_ {A = ℕ} 0 1 = cc in absurd (omega arith)
-
-pub tf : {A : Type 0} → _≡_ {A = Bool} true false → A
-tf h = let z : _≡_ {A = ℕ} 0 1 = cc in absurd (omega arith)

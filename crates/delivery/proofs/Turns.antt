@@ -7,7 +7,7 @@ use native.Mathlib.Omega.{arith}
 use borrow.Author.Tests.{not-true, not-false}
 use lib.Ieee.{Float, lt}
 use Rattle.floats.specs.Constants as Constants
-use Rattle.floats.proofs.Branch.{via-true, via-false}
+use Rattle.logic.proofs.Branch.{via-true, via-false}
 use Rattle.delivery.specs.declared.DemandTask.{DemandTask}
 use Rattle.delivery.specs.declared.Pace.{Pace}
 use Rattle.delivery.specs.declared.PaceTurn.{PaceTurn}

@@ -22,7 +22,7 @@ use Rattle.calls.specs.declared.ReadCall.the-variants.{Good}
 use Rattle.sheet.proofs.Lengths.{length-answerBytes}
 use Rattle.sheet.proofs.AnswerBack.{answer-back, marks-written}
 use Rattle.sheet.proofs.Agreement.{agrees-self}
-use Rattle.sheet.proofs.Good.{good-layers}
+use Rattle.battery.proofs.GoodParts.{good-layers}
 use Rattle.calls.proofs.CallLaws.{call-length, call-short}
 use Rattle.sheet.proofs.LineLaws.{line-fits}
 use Rattle.heat_battery.specs.Lists.{answerRead, answerTo, stepLines}

@@ -7,8 +7,8 @@ use native.Mathlib.Omega.{arith}
 use lib.Ieee.Bits.{is-true}
 use Rattle.floats.specs.F64.{_⊕_}
 use Rattle.floats.specs.Constants.{zero}
-use Rattle.floats.proofs.Cases.{by-test}
-use Rattle.card.proofs.Tests.{and-true, true-and}
+use Rattle.logic.proofs.Branch.{by-test}
+use Rattle.logic.proofs.Tests.{and-true, true-and}
 use Rattle.battery.specs.Answer.{refusedWith, answerFinite}
 use Rattle.battery.specs.Battery.{batteryAccepted, GoodBattery}
 use Rattle.call_ranges.specs.Call.{callInRange}

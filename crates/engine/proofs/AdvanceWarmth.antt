@@ -7,9 +7,9 @@ use lib.Dec.{T}
 use lib.ListN.{getD}
 use lib.Ieee.{Float, nan, le}
 use lib.Ieee.Bits.{is-true}
-use Rattle.floats.proofs.Cases.{by-test}
+use Rattle.logic.proofs.Branch.{by-test}
 use Rattle.card.specs.Fits.{CardFits}
-use Rattle.card.proofs.Tests.{and-true}
+use Rattle.logic.proofs.Tests.{and-true}
 use Rattle.battery.specs.Answer.{refusedWith}
 use Rattle.battery.specs.Battery.{batteryAccepted, GoodBattery}
 use Rattle.call_ranges.specs.Call.{callInRange}

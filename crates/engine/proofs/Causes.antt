@@ -8,7 +8,7 @@ use borrow.Author.Tests.{eq-eqb, ne-eqb}
 use lib.Ieee.{Float, le}
 use Rattle.floats.specs.Constants.{zero, tolerance}
 use Rattle.card.specs.Derived.{derived}
-use Rattle.card.proofs.Tests.{and-true}
+use Rattle.logic.proofs.Tests.{and-true}
 use Rattle.battery.specs.Answer.{plainAnswer, answerFinite}
 use Rattle.battery.specs.Ledger.{ledgerOf}
 use Rattle.battery.specs.declared.Battery.{Battery}

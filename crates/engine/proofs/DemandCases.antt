@@ -14,7 +14,7 @@ use Rattle.floats.proofs.Compare.{le-number-r}
 use Rattle.floats.proofs.Order.{le-is-not-lt, lt-is-not-le}
 use Rattle.ranges.specs.Ranges.{within, million}
 use Rattle.card.specs.declared.Card.{Card}
-use Rattle.card.proofs.Tests.{and-true, true-and}
+use Rattle.logic.proofs.Tests.{and-true, true-and}
 use Rattle.battery.specs.Answer.{refusedWith, plainAnswer, answerFinite}
 use Rattle.call_ranges.specs.Call.{demandInRange}
 use Rattle.battery.specs.declared.Battery.{Battery}

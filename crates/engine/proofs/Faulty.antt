@@ -13,7 +13,7 @@ use Rattle.floats.specs.Ln.{ln, lnNormal}
 use Rattle.floats.specs.Sum2.{sum2}
 use Rattle.floats.specs.declared.Log.{Log}
 use Rattle.floats.specs.declared.Log.the-variants.{Value, Refused}
-use Rattle.floats.proofs.Cases.{by-test}
+use Rattle.logic.proofs.Branch.{by-test}
 use Rattle.zone.specs.Heat.{kj, kwh, kilowattHours}
 use Rattle.zone.specs.declared.Kilojoules.{Kilojoules}
 use Rattle.water.specs.Water.{transferOf, heatTransfer}

@@ -11,13 +11,13 @@ use Rattle.floats.specs.F64.{_⊕_}
 use Rattle.floats.specs.Constants as Constants
 use Rattle.floats.specs.declared.Log.{Log}
 use Rattle.floats.specs.declared.Log.the-variants.{Value, Refused}
-use Rattle.floats.proofs.Cases.{by-test}
+use Rattle.logic.proofs.Branch.{by-test}
 use Rattle.zone.specs.Heat.{kj}
 use Rattle.zone.specs.declared.Kilojoules.{Kilojoules}
 use Rattle.card.specs.Derived.{derived}
 use Rattle.card.specs.declared.Card.{Card}
 use Rattle.card.specs.declared.HeatBatteryPcm.{HeatBatteryPcm}
-use Rattle.card.proofs.Tests.{and-true}
+use Rattle.logic.proofs.Tests.{and-true}
 use Rattle.battery.specs.Battery.{zonesFinite}
 use Rattle.battery.specs.Ledger.{ledgerOf}
 use Rattle.battery.specs.declared.Battery.{Battery}

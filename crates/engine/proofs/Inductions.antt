@@ -5,7 +5,7 @@ use borrow.Author.Tests.{eqb-false}
 use lib.Dec.{T, eqb, eqb→eq}
 use lib.Ieee.{lt}
 use Rattle.floats.specs.Constants as Constants
-use Rattle.floats.proofs.Cases.{by-test}
+use Rattle.logic.proofs.Branch.{by-test}
 use Rattle.delivery.specs.declared.DemandTask.{DemandTask}
 use Rattle.delivery.specs.declared.PaceEnd.{PaceEnd}
 use Rattle.delivery.specs.declared.Pace.{Pace}

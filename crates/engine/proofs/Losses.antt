@@ -15,7 +15,7 @@ use Rattle.ranges.specs.Ranges.{hundredth, day, isSubstep, isTimestep, isPower}
 use Rattle.card.specs.Card.{timesInRange, powersInRange, cardRefusal}
 use Rattle.card.specs.declared.Card.{Card}
 use Rattle.card.proofs.Accepted.{accepted}
-use Rattle.card.proofs.Tests.{and-true}
+use Rattle.logic.proofs.Tests.{and-true}
 use Rattle.card.proofs.Within.{within-low, power-nonneg}
 use Rattle.battery.specs.declared.Battery.{Battery}
 use Rattle.substep.specs.Substep.{chargerHeat}

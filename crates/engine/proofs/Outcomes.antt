@@ -10,8 +10,8 @@ use lib.Ieee.{Float}
 use lib.Ieee.Bits.{is-true}
 use Rattle.floats.specs.F64.{_⊕_}
 use Rattle.floats.specs.Constants.{zero}
-use Rattle.floats.proofs.Cases.{by-test}
-use Rattle.card.proofs.Tests.{no-both}
+use Rattle.logic.proofs.Branch.{by-test}
+use Rattle.logic.proofs.Tests.{no-both}
 use Rattle.battery.specs.Answer.{refusedWith, plainAnswer, answerFinite}
 use Rattle.battery.specs.declared.Battery.{Battery}
 use Rattle.battery.specs.declared.Answer.{Answer}

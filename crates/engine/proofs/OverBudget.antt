@@ -8,7 +8,7 @@ use lib.Dec.{eqb}
 use lib.Ieee.{Float, le}
 use Rattle.floats.specs.Constants as Constants
 use Rattle.floats.specs.Constants.{tolerance}
-use Rattle.floats.proofs.Cases.{by-test}
+use Rattle.logic.proofs.Branch.{by-test}
 use Rattle.zone.specs.declared.StateOfCharge.{StateOfCharge}
 use Rattle.zone.specs.declared.StateOfCharge.the-variants.{Level, Above}
 use Rattle.substep.specs.declared.Fault.{Fault}
@@ -24,12 +24,14 @@ use Rattle.battery.specs.declared.Answer.{Answer}
 use Rattle.battery.specs.declared.Call.{Call}
 use Rattle.battery.specs.declared.Call.the-variants.{DemandEnergy, ChargeElectric, ChargeHydronic, HeatLoss, CloseTimestep, ReadStateOfCharge, ChargeEnergyDemand}
 use Rattle.runs.specs.declared.End.{End}
+use Rattle.battery.proofs.Answers.{plain-answers}
 use Rattle.runs.specs.Runs.{faultEnd, endRefusal}
 use Rattle.delivery.specs.Demand.{demandEnded}
 use Rattle.runs.specs.Hydronic.{hydronicEnded, wholeSubsteps}
 use Rattle.runs.specs.Charge.{electricEnded, chargeElectric, hydronicTask, hydronicStart, chargeHydronic, chargeBattery, lossEnded, batteryHeatLoss, chargeEnergyDemand}
 use Rattle.totals.specs.Classes.{serviceClass, unserved}
 use Rattle.replies.specs.Replies.{checked, unlessRefused, demandStart, demandAnswer, runAnswer, chargedBattery, cooledBattery, closedBattery, chargedAnswer, cooledAnswer}
+use Rattle.replies.proofs.Settled.{run-answers, demand-answers}
 use Rattle.engine.specs.Steps.{demandRan, demandTask, demandFrom, demandGiven, demandEnergy, charge, heatLoss, level, readLevel, demandToLevel, wetSource, stepOf, wetOf}
 use Rattle.runs.specs.declared.Stopped.{Stopped}
 use Rattle.runs.specs.declared.Source.the-variants.{Electric}
@@ -68,10 +70,6 @@ module _ (b : Battery) (d : Demand) (asked : le (d .required) tolerance ≡ fals
       let o = demand-run-over (demandTask (ledgerOf b) d feed) (b .card .budget) 0 (zoned (demandStart (ledgerOf b)) (b .zones)) h in
       record { asked = asked; feed = feed; given = e; over = record { ended = o .ended; used = o .used ∙ zero-add (b .card .budget); due = o .due } }
 
-  answers : (r : Zoned Stopped) → demandAnswer b d r .refusal ≡ 0
-  unfolding demandAnswer
-  answers r = refl
-
   demand-from : (feed : Float) → d .feed ≡ Value feed → demandFrom b d feed .refusal ≡ 22 → DemandUsed b d
   unfolding demandFrom
   demand-from feed e =
@@ -79,20 +77,12 @@ module _ (b : Battery) (d : Demand) (asked : le (d .required) tolerance ≡ fals
       let n = refused-number 21 b in
       by-test (λ (c : Answer). c .refusal ≡ 22 → DemandUsed b d) (d .commit && unserved (serviceClass (b .card) (d .service))) (refusedWith 21 b) (unlessRefused b (r .part .end) (demandAnswer b d r))
       (λ t h. absurd (omega arith))
-      (λ t h. ran feed e (run-over b (r .part .end) (demandAnswer b d r) (answers r) h))
+      (λ t h. ran feed e (run-over b (r .part .end) (demandAnswer b d r) (demand-answers b d r) h))
 
   demand-given : (g : Given) → d .feed ≡ g → demandGiven b d g .refusal ≡ 22 → DemandUsed b d
   unfolding demandGiven
   demand-given Absent e h = let n = refused-number 20 b in absurd (omega arith)
   demand-given (Value feed) e h = demand-from feed e h
-
-plain-answers : (energy : Float) (b : Battery) → plainAnswer energy b .refusal ≡ 0
-unfolding plainAnswer
-plain-answers energy b = refl
-
-run-answers : (s : Stopped) (b : Battery) → runAnswer s b .refusal ≡ 0
-unfolding runAnswer
-run-answers s b = refl
 
 module _ (b : Battery) where
   demand-over : (d : Demand) → demandEnergy b d .refusal ≡ 22 → DemandUsed b d

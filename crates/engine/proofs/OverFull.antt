@@ -9,7 +9,7 @@ use lib.Ieee.Bits.{is-true}
 use Rattle.floats.specs.F64.{_⊕_, _⊘_}
 use Rattle.floats.specs.Constants.{one, tolerance}
 use Rattle.floats.specs.Standins.{min}
-use Rattle.floats.proofs.Cases.{by-test}
+use Rattle.logic.proofs.Branch.{by-test}
 use Rattle.zone.specs.Layer.{storedEnergy, levelOf, stateOfCharge}
 use Rattle.zone.specs.declared.StateOfCharge.{StateOfCharge}
 use Rattle.zone.specs.declared.StateOfCharge.the-variants.{Level, Above}

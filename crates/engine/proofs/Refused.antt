@@ -8,7 +8,7 @@ use lib.Dec.{eqb, eqb→eq}
 use lib.Ieee.{Float, le}
 use lib.Ieee.Bits.{is-true}
 use Rattle.floats.specs.Constants.{zero, tolerance}
-use Rattle.floats.proofs.Cases.{by-test}
+use Rattle.logic.proofs.Branch.{by-test}
 use Rattle.zone.specs.declared.StateOfCharge.{StateOfCharge}
 use Rattle.zone.specs.declared.StateOfCharge.the-variants.{Level, Above}
 use Rattle.battery.specs.Answer.{refusedWith, plainAnswer, answerFinite}
@@ -20,6 +20,7 @@ use Rattle.battery.specs.declared.Answer.{Answer}
 use Rattle.battery.specs.declared.Call.{Call}
 use Rattle.battery.specs.declared.Call.the-variants.{DemandEnergy, ChargeElectric, ChargeHydronic, HeatLoss, CloseTimestep, ReadStateOfCharge, ChargeEnergyDemand}
 use Rattle.runs.specs.declared.End.{End}
+use Rattle.battery.proofs.Answers.{plain-answers}
 use Rattle.runs.specs.Runs.{endRefusal}
 use Rattle.runs.specs.Charge.{chargeBattery, batteryHeatLoss, chargeEnergyDemand}
 use Rattle.runs.specs.declared.Stopped.{Stopped}
@@ -27,6 +28,7 @@ use Rattle.runs.specs.declared.Source.{Source}
 use Rattle.runs.specs.declared.Source.the-variants.{Electric}
 use Rattle.totals.specs.Classes.{serviceClass, unserved}
 use Rattle.replies.specs.Replies.{checked, unlessRefused, demandAnswer, runAnswer, chargedBattery, cooledBattery, closedBattery, chargedAnswer, cooledAnswer}
+use Rattle.replies.proofs.Settled.{run-answers, demand-answers}
 use Rattle.runs.specs.Zoned.{Zoned}
 use Rattle.engine.specs.Steps.{demandRan, demandFrom, demandGiven, demandEnergy, charge, heatLoss, level, readLevel, demandToLevel, wetSource, stepOf}
 use Rattle.engine.specs.Faults.{AnswerNotFinite, NoDemandNotFinite, LevelNotFinite}
@@ -56,18 +58,6 @@ Why n b HeatLoss = RunWhy n (batteryHeatLoss b .part .end) (cooledAnswer b (batt
 Why n b CloseTimestep = (n ≡ 23) × (answerFinite (plainAnswer zero (closedBattery b)) ≡ false)
 Why n b ReadStateOfCharge = LevelWhy n b (λ soc. soc)
 Why n b (ChargeEnergyDemand most target) = LevelWhy n b (λ soc. chargeEnergyDemand (b .card) most target soc .0)
-
-plain-answers : (energy : Float) (b : Battery) → plainAnswer energy b .refusal ≡ 0
-unfolding plainAnswer
-plain-answers energy b = refl
-
-run-answers : (s : Stopped) (b : Battery) → runAnswer s b .refusal ≡ 0
-unfolding runAnswer
-run-answers s b = refl
-
-demand-answers : (b : Battery) (d : Demand) (r : Zoned Stopped) → demandAnswer b d r .refusal ≡ 0
-unfolding demandAnswer
-demand-answers b d r = refl
 
 module _ (n : ℕ) (l : 22 ≤ n) (b : Battery) where
   checked-why : (a : Answer) → a .refusal ≡ 0 → checked b a .refusal ≡ n → (n ≡ 23) × (answerFinite a ≡ false)

@@ -1,16 +1,15 @@
 -- The outcome of each of the seven kinds.
-use mathlib.Core.Path.{_≡_, refl, sym}
-use mathlib.Core.Bool.{Bool, true, false, cond, not, _&&_}
+use mathlib.Core.Path.{_≡_, refl}
+use mathlib.Core.Bool.{true, false, not, _&&_}
 use mathlib.Core.Logic.{inr}
 use Prim.Native.Nat.{ℕ, _≤_}
 use native.Mathlib.Omega.{arith}
 use lib.Ieee.{Float, le}
 use Rattle.floats.specs.Constants.{zero, tolerance}
-use Rattle.floats.proofs.Cases.{by-test}
+use Rattle.logic.proofs.Branch.{by-test, at-not}
 use Rattle.zone.specs.declared.StateOfCharge.{StateOfCharge}
 use Rattle.zone.specs.declared.StateOfCharge.the-variants.{Level, Above}
 use Rattle.card.specs.Derived.{derived}
-use Rattle.card.proofs.Tests.{no-both}
 use Rattle.battery.specs.Answer.{plainAnswer}
 use Rattle.battery.specs.Kinds.{isCharge, onlyAsks}
 use Rattle.battery.specs.Ledger.{ledgerOf}
@@ -72,11 +71,6 @@ module _ (b : Battery) where
   unfolding batteryHeatLoss lossEnded
   loss-ended = record { above = substep-above (b .card) (derived (b .card)) (lossDrive (b .card)) (b .zones); substeps = λ h. h }
 
--- a demand keeps the battery where it is a trial
-same-of-not : {A : Type 0} (t : Bool) (x y : A) → not t ≡ true → cond t x y ≡ y
-same-of-not true x y h = no-both (sym h)
-same-of-not false x y h = refl
-
 module _ (b : Battery) (d : Demand) where
   demand-kept : (r : Zoned Stopped) → EndedKept b r → Kept b false (not (d .commit)) (demandAnswer b d r)
   unfolding demandAnswer demandKept served
@@ -88,7 +82,7 @@ module _ (b : Battery) (d : Demand) where
         state = by-test (StateKept b) (d .commit) s b (λ h. record { card = refl; count = refl; above = k .above }) (λ h. state-kept b);
         charged = by-test (λ (c : Battery). c .charged ≡ b .charged) (d .commit) s b (λ h. refl) (λ h. refl);
         substeps = k .substeps;
-        same = same-of-not (d .commit) s b;
+        same = at-not (d .commit) s b;
       }
 
   abbrev Demanded : Answer → Type 0

@@ -7,7 +7,7 @@ use lib.Dec.{eqb, eqb→eq}
 use lib.Ieee.{Float, lt, neg}
 use Rattle.floats.specs.F64.{_⊕_}
 use Rattle.floats.specs.Constants as Constants
-use Rattle.floats.proofs.Cases.{by-test}
+use Rattle.logic.proofs.Branch.{by-test}
 use Rattle.zone.specs.Heat.{kj, kwh, kilowattHours}
 use Rattle.battery.specs.Places.{SameAbove}
 use Rattle.battery.proofs.Zones.{same-above}

@@ -8,7 +8,7 @@ use lib.ListN.{length, getD}
 use lib.Ieee.{Float, nan, ofBits, le}
 use Rattle.floats.specs.Constants.{zero}
 use Rattle.floats.specs.Standins.{finite64, maxZero}
-use Rattle.floats.proofs.Cases.{by-test}
+use Rattle.logic.proofs.Branch.{by-test}
 use Rattle.floats.proofs.Difference.{neg-nonpos}
 use Rattle.floats.proofs.Order.{le-refl, finite-number}
 use Rattle.floats.proofs.Standins.{finite64-finite, max-zero-nonneg}
@@ -18,8 +18,8 @@ use Rattle.card.specs.Fits.{CardFits}
 use Rattle.ranges.specs.Ranges.{isPower}
 use Rattle.card.proofs.Accepted.{accepted, accepted-layers}
 use Rattle.card.proofs.Salt.{salt-good}
-use Rattle.card.proofs.Tests.{and-true}
-use Rattle.card.proofs.Within.{holds, power-nonneg}
+use Rattle.logic.proofs.Tests.{and-true, holds}
+use Rattle.card.proofs.Within.{power-nonneg}
 use Rattle.battery.specs.Answer.{refusedWith, answerFinite}
 use Rattle.battery.specs.Battery.{GoodBattery}
 use Rattle.call_ranges.specs.Call.{isLevel, callInRange}

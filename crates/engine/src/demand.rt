@@ -21,7 +21,7 @@ ghost use Rattle.engine.specs.Steps.{demandPower, demandTask, demandRan,
 fn demand_power(card: Card, control: bool) -> f64
     ensures { λ r. ⌜ r ≡ demandPower card control ⌝ }
 {
-    if floats::both(card.simultaneous == 1, control) {
+    if logic::both(card.simultaneous == 1, control) {
         return card.power;
     }
     0.0
@@ -90,7 +90,7 @@ fn demand_from(l: Ledger, d: Demand, feed: f64, zones: &mut [f64; 64]) -> Reply
 {
     let card = l.card;
     let class = totals::service_class(card, d.service);
-    if floats::both(d.commit, totals::unserved(class)) {
+    if logic::both(d.commit, totals::unserved(class)) {
         return answers::refused_reply(21);
     }
     if d.commit {

@@ -174,7 +174,7 @@ pub fn advance_in_place(version: u8, l: Ledger, call: Call, zones: &mut [f64; 64
     ensures { λ r. ⌜ settled l (now (zones .entry)) r (now (zones .exit)) ≡ advanceOf version (whole l (now (zones .entry))) call ⌝ }
 {
     let card = l.card;
-    if floats::both(
+    if logic::both(
         battery::is_accepted(version, l, zones),
         call_ranges::call_in_range(version, card, call),
     ) {

@@ -1,19 +1,29 @@
 -- What the line of an answer leaves, way by way through its tests; a record's layout.
-use mathlib.Core.Path.{_≡_, refl}
+use mathlib.Core.Path.{_≡_, sym, ap, _∙_}
 use mathlib.Core.List.{List}
-use mathlib.Core.Bool.{Bool, true, false, cond}
+use mathlib.Core.Bool.{true}
 use Prim.Native.Nat.{ℕ, _≤_, _<_}
-use native.Mathlib.Omega.{arith}
 use borrow.Author.Tests.{eq-eqb, ne-eqb, le-leb, lt-leb, eqb-true, leb-true}
 use lib.ListN.{length, take}
 use lib.Dec.{leb, eqb}
+use Rattle.logic.proofs.Branch.{three-tests}
 use Rattle.codec.specs.Bytes.{over}
 use Rattle.card.specs.Card.{cardRefusal}
 use Rattle.battery.specs.declared.Answer.{Answer}
 use Rattle.records.specs.Cards.{cardLength, cardAt}
 use Rattle.records.specs.Records.{recordLength, recordBytes}
 use Rattle.sheet.specs.Lines.{lineSize, lineBytes}
-use Rattle.entry.specs.Entry.{unchanged, renewed, entered, lineAfter, recordLaid}
+use Rattle.entry.specs.Entry.{After, unchanged, renewed, entered, lineAfter, recordLaid}
+
+-- ---- an entry's code
+
+pub code-of : {a : After} (b : After) → a ≡ b → a .code ≡ b .code
+code-of b e = ap (λ (x : After). x .code) e
+
+-- what an entry that changes nothing leaves, by its code
+pub unchanged-by : {a : After} {rec free : List ℕ} (n : ℕ) → a ≡ unchanged n rec free → a ≡ unchanged (a .code) rec free
+unfolding unchanged
+unchanged-by {a} {rec} {free} n e = e ∙ ap (λ (k : ℕ). unchanged k rec free) (sym (code-of (unchanged n rec free) e))
 
 -- ---- the line of an answer
 
@@ -51,17 +61,12 @@ pub record LaidRecord (version : ℕ) (rec : List ℕ) : Type 0 where
   pub card-accepted : cardRefusal version (cardAt version rec) ≡ 0
   pub long : length rec ≡ recordLength version (cardAt version rec)
 
-laid-by : (a b c : Bool) → cond a (cond b c false) false ≡ true → (a ≡ true) × (b ≡ true) × (c ≡ true)
-laid-by true true c h = (refl, refl, h)
-laid-by true false c h = let z : _≡_ {A = ℕ} 0 1 = cc in absurd (omega arith)
-laid-by false b c h = let z : _≡_ {A = ℕ} 0 1 = cc in absurd (omega arith)
-
 module _ (version : ℕ) (rec : List ℕ) where
   pub record-laid : recordLaid version rec ≡ true → LaidRecord version rec
   unfolding recordLaid
   record-laid h =
       let w =
-      laid-by (leb (cardLength version) (length rec)) (eqb (cardRefusal version (cardAt version rec)) 0) (eqb (length rec) (recordLength version (cardAt version rec))) h in
+      three-tests (leb (cardLength version) (length rec)) (eqb (cardRefusal version (cardAt version rec)) 0) (eqb (length rec) (recordLength version (cardAt version rec))) h in
       record { card-there = leb-true _ _ (w .0); card-accepted = eqb-true _ _ (w .1); long = eqb-true _ _ (w .2) }
 
   pub laid-record : LaidRecord version rec → recordLaid version rec ≡ true

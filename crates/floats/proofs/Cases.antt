@@ -1,14 +1,10 @@
 -- A definition's value at a test: what holds of each arm, under the order that its test tells of two numbers, holds of the value. Assumes nothing.
-use mathlib.Core.Path.{_≡_, refl}
-use mathlib.Core.Bool.{Bool, true, false, cond}
+use mathlib.Core.Bool.{cond}
 use lib.Dec.{T}
 use lib.Ieee.{Float, lt, le}
+use Rattle.logic.proofs.Branch.{by-test}
 use Rattle.floats.proofs.Parts.{number}
 use Rattle.floats.proofs.Order.{le-false→lt, lt-false→le}
-
-pub by-test : {A : Type 0} (P : A → Type 0) (b : Bool) (x y : A) → (T b → P x) → (b ≡ false → P y) → P (cond b x y)
-by-test P true x y h k = h tt
-by-test P false x y h k = k refl
 
 -- x ≤ y, or y < x
 pub by-le :

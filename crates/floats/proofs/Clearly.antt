@@ -1,6 +1,6 @@
 -- p not below q and not nearly equal to it is a difference above epsilon, where p and q are finite and so small that the larger magnitude times max_relative is at most epsilon. Assumes nothing.
-use mathlib.Core.Path.{_≡_, refl, sym}
-use mathlib.Core.Bool.{Bool, true, false, _&&_, not}
+use mathlib.Core.Path.{_≡_, sym}
+use mathlib.Core.Bool.{_&&_, not}
 use lib.Dec.{T}
 use lib.Ieee.{Float, binary64, lt, le, eq}
 use lib.Ieee.Bits.{is-true}
@@ -11,14 +11,10 @@ use Rattle.floats.proofs.Compare.{le-of-lt, le-of-eq, le-number-l, le-n
 use Rattle.floats.proofs.Order.{le-trans, lt→not-le, lt-false→le, lt-is-not-le, ge-of-eq, finite-number}
 use Rattle.floats.proofs.SumLaws.{sub-number, sub-nonneg, sub-nonpos}
 use Rattle.floats.proofs.ProductOrder.{mul-mono-l}
-use Rattle.floats.proofs.Cases.{by-test}
+use Rattle.logic.proofs.Branch.{by-test, one-decides}
 use Rattle.floats.proofs.Standins.{finite64-finite}
-use Rattle.floats.proofs.Negligible.{fails, first-holds, magnitude-of-others}
-
--- a test that the first of two rules out, and that is else the opposite of the second, is that neither holds
-neither-is : (below near c : Bool) → (T below → c ≡ false) → (below ≡ false → not near ≡ c) → (not below && not near) ≡ c
-neither-is true near c h k = sym (h tt)
-neither-is false near c h k = k refl
+use Rattle.floats.proofs.Negligible.{magnitude-of-others}
+use Rattle.logic.proofs.Tests.{fails, neither-is}
 
 module _ (p q bound epsilon relative : Float) (P : T (finite64 p)) (Q : T (finite64 q)) (pb : T (le (magnitude p) bound)) (qb : T (le (magnitude q) bound)) (r : T (le zero relative)) (e : T (le zero epsilon)) (small : T (le (bound ⊗ relative) epsilon)) where
   difference-number : T (number (p ⊖ q))
@@ -52,7 +48,7 @@ module _ (p q bound epsilon relative : Float) (P : T (finite64 p)) (Q : T (finit
   unfolding nearlyEqual
   nearly-equal-is =
       rw (is-true (finite64 p) P, is-true (finite64 q) Q)
-      (first-holds (eq p q) (le (magnitude (p ⊖ q)) epsilon) (le (magnitude (p ⊖ q)) (larger (magnitude p) (magnitude q) ⊗ relative)) at-equal at-relative)
+      (one-decides (eq p q) (le (magnitude (p ⊖ q)) epsilon) (le (magnitude (p ⊖ q)) (larger (magnitude p) (magnitude q) ⊗ relative)) at-equal at-relative)
 
   -- clearly above is a difference above epsilon
   pub clearly-above-is : (not (lt p q) && not (nearlyEqual p q epsilon relative)) ≡ lt epsilon (p ⊖ q)

@@ -3,10 +3,11 @@ use mathlib.Core.Path.{_≡_, refl}
 use mathlib.Core.Logic.{_⊎_, inl, inr}
 use Prim.Native.Nat.{ℕ, _*_}
 use native.Mathlib.Omega.{arith}
-use mathlib.Core.Bool.{Bool, true, false, _&&_, _||_}
+use mathlib.Core.Bool.{true, false, _&&_}
 use lib.Dec.{T, eqb, ltb→lt, lt→ltb, eqb→eq}
 use lib.Ieee.{Float, nan, inf, fin, up, down, lt, eq, le}
 use lib.Ieee.Fits.{and-i, and-l, and-r, eq→eqb}
+use Rattle.logic.proofs.Tests.{or-l, or-r, or-split}
 use Rattle.floats.proofs.Parts.{number, Less, Same}
 
 -- ---- `lt` and `eq` as facts on numbers
@@ -98,18 +99,6 @@ Same→eq (fin true m e) (fin false n d) p q h = both-zero (m * up e * down d) (
 Same→eq (fin true m e) (fin true n d) p q h = and-i (eqb (m * up e * down d) (n * up d * down e)) true (equal (m * up e * down d) (n * up d * down e) (omega arith)) tt
 
 -- ---- `le` is `lt` or `eq`, and `lt` is where `le` the other way fails
-
-pub or-l : (a b : Bool) → T a → T (a || b)
-or-l true b t = tt
-or-l false b t = absurd t
-
-pub or-r : (a b : Bool) → T b → T (a || b)
-or-r true b t = tt
-or-r false b t = t
-
-pub or-split : (a b : Bool) → T (a || b) → T a ⊎ T b
-or-split true b t = inl tt
-or-split false b t = inr t
 
 -- x < y gives x ≤ y
 pub le-of-lt : (x y : Float) → T (lt x y) → T (le x y)

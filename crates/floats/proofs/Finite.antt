@@ -7,7 +7,8 @@ use lib.Ieee.Scale.{finite}
 use lib.Ieee.Bits.{is-true}
 use Rattle.floats.proofs.Parts.{number, zero}
 use Rattle.floats.proofs.Compare.{eq-numbers, le-numbers}
-use Rattle.floats.proofs.Order.{le-refl, le-antisym, eq-refl, same-test}
+use Rattle.floats.proofs.Order.{le-refl, le-antisym, eq-refl}
+use Rattle.logic.proofs.Tests.{same-test}
 use Rattle.floats.proofs.Difference.{no-le, no-ge}
 use Rattle.floats.proofs.SumLaws.{sub-number, sub-nonneg, sub-nonpos}
 

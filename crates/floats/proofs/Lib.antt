@@ -27,7 +27,6 @@ pub mod Apart
 pub mod Cases
 pub mod Standins
 pub mod Rulesets
-pub mod Branch
 pub mod Negligible
 pub mod Clearly
 pub mod Doubling

@@ -5,11 +5,12 @@ use native.Mathlib.Omega.{arith}
 use mathlib.Core.Logic.{inl, inr}
 use mathlib.Core.Bool.{Bool, true, false, cond, _&&_}
 use lib.IntN.{pos}
-use lib.Dec.{T, eqb, leb, ltb, ltb→lt, not-T}
+use lib.Dec.{T, eqb, leb, ltb, ltb→lt}
 use lib.Ieee.{Float, nan, inf, fin, binary64, up, down, ofBits, neg, mul, lt, le, eq, fits}
-use lib.Ieee.Bits.{is-true, is-false}
+use lib.Ieee.Bits.{is-true}
 use lib.Ieee.Fits.{and-l, and-r, neg-fits}
 use lib.Ieee.Scale.{finite}
+use Rattle.logic.proofs.Tests.{fails}
 use Rattle.floats.specs.F64.{_⊖_, _⊗_}
 use Rattle.floats.specs.Constants as Constants
 use Rattle.floats.specs.Constants.{negligibleEnergy, maxRelative}
@@ -26,11 +27,7 @@ use Rattle.floats.proofs.ProductOrder.{mul-mono-l}
 use Rattle.floats.proofs.QuotientSame.{neg-neg}
 use Rattle.floats.proofs.Identity.{sub-zero-r}
 use Rattle.floats.proofs.Strict.{neg-finite}
-use Rattle.floats.proofs.Cases.{by-test}
-use Rattle.floats.proofs.Branch.{via-true, via-false}
-
-pub fails : (b : Bool) → (T b → ⊥) → b ≡ false
-fails b h = is-false b (not-T b h)
+use Rattle.logic.proofs.Branch.{by-test, via-true, via-false, one-decides}
 
 -- the definition's test
 abbrev negligible : Float → Bool
@@ -116,14 +113,6 @@ zero-finite : finite64 Constants.zero ≡ true
 unfolding finite64 fits ofBits
 zero-finite = refl
 
--- a test that holds wherever one of two others does decides all three
-pub first-holds : (e a b : Bool) → (T e → T a) → (T b → T a) → cond e true (cond a true b) ≡ a
-first-holds true true b h k = refl
-first-holds true false b h k = absurd (h tt)
-first-holds false true b h k = refl
-first-holds false false true h k = absurd (k tt)
-first-holds false false false h k = refl
-
 -- ---- a finite x that binary64 holds
 
 module _ (x : Float) (F : T (fits binary64 x)) (p : T (finite x)) where
@@ -178,7 +167,7 @@ module _ (x : Float) (F : T (fits binary64 x)) (p : T (finite x)) where
         less-zero negligibleEnergy (unfold ofBits in tt),
         less-zero (magnitude x ⊗ maxRelative) (mul-number binary64 (magnitude x) maxRelative magnitude-finite (unfold ofBits in tt)),
       )
-      (first-holds (eq x Constants.zero) (le (magnitude x) negligibleEnergy) (le (magnitude x) (magnitude x ⊗ maxRelative)) at-zero not-relative)
+      (one-decides (eq x Constants.zero) (le (magnitude x) negligibleEnergy) (le (magnitude x) (magnitude x ⊗ maxRelative)) at-zero not-relative)
 
   -- the three answers
   above-is : T (lt negligibleEnergy x) → T (lt Constants.zero x) × (negligible x ≡ false)

@@ -10,6 +10,7 @@ use lib.Ieee.{Float, nan, inf, fin, lt, eq, le}
 use lib.Ieee.Scale.{finite}
 use lib.Ieee.Fits.{and-i, and-l, and-r}
 use lib.Ieee.Positive.{den, den-pos}
+use Rattle.logic.proofs.Tests.{same-test}
 use Rattle.floats.proofs.Parts.{number, plus, minus, rank, here, Less, AtMost}
 use Rattle.floats.proofs.Compare.{lt→Less, Less→lt, eq→Same, Same→eq, le-of-lt, le-of-eq, lt-or-eq, lt-numbers, le-numbers, eq-numbers}
 
@@ -118,13 +119,6 @@ lt-false→le x y p q h = not-lt→le x y p q (subst (λ (b : Bool). T (not b)) 
 
 pub le-false→lt : (x y : Float) → T (number x) → T (number y) → le x y ≡ false → T (lt y x)
 le-false→lt x y p q h = not-le→lt x y p q (subst (λ (b : Bool). T (not b)) (sym h) tt)
-
--- two tests that imply each other are equal
-pub same-test : (a b : Bool) → (T a → T b) → (T b → T a) → a ≡ b
-same-test true true p q = refl
-same-test true false p q = absurd (p tt)
-same-test false true p q = absurd (q tt)
-same-test false false p q = refl
 
 -- off NaN, `<` is `≤` the other way, negated
 pub lt-is-not-le : (x y : Float) → T (number x) → T (number y) → lt x y ≡ not (le y x)

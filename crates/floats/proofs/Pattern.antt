@@ -7,7 +7,7 @@ use lib.Dec.{T, leb, ltb, leb→le, le→leb, ltb→lt, nltb→le, not-T}
 use lib.Ieee.{Float, binary64, fits, isNan, ofBits, toBits, nanBits}
 use lib.Ieee.Bits.{ofBits-toBits, toBits-lt, toBits-ofBits, nanBits-is, nanBits-above}
 use Rattle.floats.proofs.Parts.{number}
-use Rattle.floats.proofs.Order.{same-test}
+use Rattle.logic.proofs.Tests.{same-test}
 use Rattle.floats.proofs.Finite.{number-is}
 
 -- a number is no NaN, as `f64::to_bits` asks it

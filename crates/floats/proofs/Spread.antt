@@ -8,7 +8,8 @@ use lib.Ieee.Scale.{finite}
 use Rattle.floats.specs.Constants as Constants
 use Rattle.floats.proofs.Parts.{number, zero}
 use Rattle.floats.proofs.Compare.{eq-numbers}
-use Rattle.floats.proofs.Order.{eq-refl, eq-sym, eq-trans, same-test}
+use Rattle.floats.proofs.Order.{eq-refl, eq-sym, eq-trans}
+use Rattle.logic.proofs.Tests.{same-test}
 use Rattle.floats.proofs.Sum.{add-nan-l, add-nan-r}
 use Rattle.floats.proofs.SumLaws.{add-respects}
 use Rattle.floats.proofs.Identity.{add-zero-r}

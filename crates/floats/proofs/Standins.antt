@@ -5,7 +5,7 @@ use lib.Ieee.Fits.{and-l, and-r}
 use lib.Ieee.Scale.{finite}
 use Rattle.floats.specs.Constants.{zero}
 use Rattle.floats.specs.Standins.{finite64, maxZero}
-use Rattle.floats.proofs.Cases.{by-test}
+use Rattle.logic.proofs.Branch.{by-test}
 use Rattle.floats.proofs.Compare.{le-of-lt}
 use Rattle.floats.proofs.Order.{le-refl}
 

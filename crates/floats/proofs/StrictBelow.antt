@@ -13,7 +13,8 @@ use lib.Ieee.Scale.{finite}
 use lib.Ieee.Positive.{den, den-pos}
 use Rattle.floats.proofs.Parts.{zero, plus, minus}
 use Rattle.floats.proofs.Compare.{le-of-eq, lt-or-eq, lt-numbers}
-use Rattle.floats.proofs.Order.{le-trans, le-total, lt-of-le-of-lt, lt→not-le, not-le→lt, same-test, ge-of-eq, eq-sym, eq-trans, finite-number}
+use Rattle.floats.proofs.Order.{le-trans, le-total, lt-of-le-of-lt, lt→not-le, not-le→lt, ge-of-eq, eq-sym, eq-trans, finite-number}
+use Rattle.logic.proofs.Tests.{same-test}
 use Rattle.floats.proofs.Sign.{neg-number, neg-plus, neg-minus, neg-den, round-neg}
 use Rattle.floats.proofs.Rounding.{signed, signed-mono, signed-neg, signed-pos}
 use Rattle.floats.proofs.Sum.{plus-sum, minus-sum, add-is}

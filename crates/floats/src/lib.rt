@@ -32,13 +32,6 @@ pub const SECONDS_PER_HOUR: f64 = 3600.0;
 
 pub const KILOJOULES_PER_KILOWATT_HOUR: f64 = 3600.0;
 
-// Both tests hold.
-pub fn both(a: bool, b: bool) -> bool
-    ensures { λ r. ⌜ r ≡ (a && b) ⌝ }
-{
-    if a { b } else { false }
-}
-
 pub fn is_finite(x: f64) -> bool
     ensures { λ r. ⌜ r ≡ finite64 x ⌝ }
 {
@@ -71,7 +64,7 @@ pub fn nearly_equal(p: f64, q: f64, epsilon: f64, relative: f64) -> bool
     if p == q {
         return true;
     }
-    if both(is_finite(p), is_finite(q)) {
+    if logic::both(is_finite(p), is_finite(q)) {
         let difference = magnitude(p - q);
         if difference <= epsilon {
             return true;

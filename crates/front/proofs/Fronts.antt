@@ -1,6 +1,6 @@
 -- The parts of the line at the front of a slice: where they lie, and what its first tests tell of them.
-use mathlib.Core.Path.{_≡_, refl, sym, ap}
-use mathlib.Core.Bool.{Bool, true, false, cond}
+use mathlib.Core.Path.{_≡_, ap}
+use mathlib.Core.Bool.{true}
 use mathlib.Core.List.{List}
 use Prim.Native.Nat.{ℕ, _+_, _-_, _≤_}
 use native.Mathlib.Omega.{arith}
@@ -8,18 +8,12 @@ use borrow.Author.Tests.{eqb-true, leb-true}
 use lib.Dec.{leb, eqb}
 use lib.ListN.{length, take, drop, length-drop}
 use lib.Seq.{length-take-le}
+use Rattle.logic.proofs.Branch.{three-tests}
 use Rattle.codec.specs.Bytes.{beAt}
 use Rattle.card.specs.declared.Card.{Card}
-use Rattle.card.proofs.Tests.{no-both}
 use Rattle.sheet.specs.Answers.{headLength, answerLength}
 use Rattle.sheet.specs.Lines.{lineLength, lineSize}
 use Rattle.front.specs.Front.{lineCallLength, callPart, answerPart, headOk}
-
--- nested tests that hold
-pub three-tests : (a b c : Bool) → cond a (cond b c false) false ≡ true → (a ≡ true) × (b ≡ true) × (c ≡ true)
-three-tests true true c h = (refl, refl, h)
-three-tests true false c h = no-both (sym h)
-three-tests false b c h = no-both (sym h)
 
 pub size-is : (version : ℕ) (c : Card) (n : ℕ) → lineSize version c n ≡ 2 + n + answerLength version c
 unfolding lineSize lineLength

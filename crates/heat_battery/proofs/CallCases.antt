@@ -8,7 +8,7 @@ use native.Mathlib.Decide.{decLe}
 use native.Mathlib.Omega.{arith}
 use lib.ListN.{length}
 use Rattle.card.specs.declared.Card.{Card}
-use Rattle.card.proofs.Tests.{no-both}
+use Rattle.logic.proofs.Tests.{no-both}
 use Rattle.battery.specs.declared.Battery.{Battery}
 use Rattle.battery.specs.declared.Call.{Call}
 use Rattle.battery.specs.declared.Answer.{Answer}
@@ -24,11 +24,12 @@ use Rattle.codec.specs.Bytes.{over}
 use borrow.Author.Tests.{ne-eqb}
 use Rattle.calls.specs.declared.ReadCall.{ReadCall}
 use Rattle.calls.specs.declared.ReadCall.the-variants.{Good, Bad}
+use Rattle.calls.proofs.CallLaws.{same-call, no-call}
 use Rattle.calls.proofs.CallExact.{call-laid, laid-call}
 use Rattle.entry.specs.Entry.{After, unchanged, renewed, entered, lineAfter, recordLaid}
 use Rattle.heat_battery.specs.Entries.{entryOf}
 use Rattle.heat_battery.specs.Cases.{GoodRecord, GoodCall, CallCase10, bad-record, bad-call, CallCase11, GetsLine}
-use Rattle.entry.proofs.Entering.{LaidRecord, record-laid, laid-record, line-ten, line-room, line-entered}
+use Rattle.entry.proofs.Entering.{LaidRecord, record-laid, laid-record, line-ten, line-room, line-entered, code-of, unchanged-by}
 use Rattle.heat_battery.proofs.Calling.{entry-unlaid, entry-bad, entry-read}
 use Rattle.heat_battery.proofs.Finite.{record-card, accepted-good, good-accepted}
 use Rattle.engine.proofs.StepKeeps.{step-refusals, step-keeps-card, refused-line}
@@ -40,12 +41,6 @@ pub data CallWay (version : ℕ) (rec call free : List ℕ) (a : After) : Type 0
   eleven : CallCase11 version rec call free → a ≡ unchanged 11 rec free → CallWay version rec call free a
   line : GetsLine version rec call free → (c : Call) → callOf version call ≡ Good c → a ≡ entered version rec call free (stepOf version (recordOf version rec) c)
       → CallWay version rec call free a
-
-pub no-call : {A : Type 0} {c : Call} (r : ReadCall) → r ≡ Bad → r ≡ Good c → A
-no-call r h k = let z : _≡_ {A = ℕ} 0 1 = cc in absurd (omega arith)
-
-pub same-call : {c d : Call} (r : ReadCall) → r ≡ Good c → r ≡ Good d → d ≡ c
-same-call r h k = cc
 
 good-laid : (version : ℕ) (rec : List ℕ) → GoodRecord version rec → LaidRecord version rec
 good-laid version rec g = record { card-there = g .card-there; card-accepted = g .card-accepted; long = g .long }
@@ -124,9 +119,6 @@ module _ (version : ℕ) (rec call free : List ℕ) where
   pub call-way : CallWay version rec call free (entryOf version rec call free)
   call-way = any-way (recordLaid version rec) refl
 
-  code-of : (a : After) → o ≡ a → o .code ≡ a .code
-  code-of a e = ap (λ (x : After). x .code) e
-
   -- a line's number
   pub line-code : (c : Call) → o ≡ entered version rec call free (stepOf version b c) → (o .code ≡ 10 → ⊥) × (o .code ≡ 11 → ⊥)
   line-code c e =
@@ -169,12 +161,9 @@ module _ (version : ℕ) (rec call free : List ℕ) where
       → entryOf version rec call free ≡ unchanged (entryOf version rec call free .code) rec free
   refused-call-keeps h = on h call-way
     where
-      kept : (n : ℕ) → o ≡ unchanged n rec free → o ≡ unchanged (o .code) rec free
-      kept n e = e ∙ ap (λ (k : ℕ). unchanged k rec free) (sym (code-of (unchanged n rec free) e))
-
       on : (o .code ≡ 10) ⊎ (o .code ≡ 11) → CallWay version rec call free o → o ≡ unchanged (o .code) rec free
-      on h (ten x e) = kept 10 e
-      on h (eleven x e) = kept 11 e
+      on h (ten x e) = unchanged-by 10 e
+      on h (eleven x e) = unchanged-by 11 e
       on (inl h) (line x c k e) = absurd (line-code c e .0 h)
       on (inr h) (line x c k e) = absurd (line-code c e .1 h)
 

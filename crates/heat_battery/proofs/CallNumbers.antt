@@ -16,6 +16,7 @@ use Rattle.records.specs.Records.{recordOf}
 use Rattle.calls.specs.Calls.{callOf}
 use Rattle.calls.specs.declared.ReadCall.the-variants.{Good}
 use Rattle.entry.specs.Entry.{After, unchanged, entered}
+use Rattle.entry.proofs.Entering.{code-of}
 use Rattle.heat_battery.specs.Entries.{entryOf}
 use Rattle.heat_battery.specs.Cases.{GetsLine, LineCase}
 use Rattle.heat_battery.proofs.Finite.{record-card}
@@ -27,9 +28,6 @@ module _ (version : ℕ) (rec call free : List ℕ) where
 
   abbrev o : After
   o = entryOf version rec call free
-
-  code-of : (a : After) → o ≡ a → o .code ≡ a .code
-  code-of a e = ap (λ (x : After). x .code) e
 
   -- a call that gets a line is in range
   in-range : GetsLine version rec call free → (c : Call) → callOf version call ≡ Good c → callInRange version (b .card) c ≡ true

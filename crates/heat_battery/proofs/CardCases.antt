@@ -14,7 +14,7 @@ use Rattle.ranges.specs.Ranges.{within, coldest, hottest, isTemperature}
 use Rattle.card.specs.Card.{countsInRange, timesInRange, temperaturesInRange, cardInRange, cardVerdict, verdictNumber, cardRefusal}
 use Rattle.card.specs.declared.Card.{Card}
 use Rattle.card.specs.declared.CardVerdict.the-variants.{Accepted, OutOfRange, LowerAboveUpper, MaxTooLow, NothingToStore}
-use Rattle.card.proofs.Tests.{and-true}
+use Rattle.logic.proofs.Tests.{and-true}
 
 abbrev NothingStored : Card → Type 0
 NothingStored c = (lt (c .max) (c .reference) ≡ true) ⊎ (nearlyEqual (c .max) (c .reference) tolerance maxRelative ≡ true)

@@ -22,7 +22,7 @@ use Rattle.calls.specs.Calls.{callOf}
 use Rattle.sheet.specs.Lines.{lineLength, lineSize, lineBytes}
 use Rattle.calls.specs.declared.ReadCall.the-variants.{Good}
 use Rattle.sheet.proofs.Lengths.{length-lineBytes}
-use Rattle.sheet.proofs.Good.{good-layers}
+use Rattle.battery.proofs.GoodParts.{good-layers}
 use Rattle.sheet.proofs.AnswerBack.{record-back, card-front}
 use Rattle.calls.proofs.CallLaws.{call-length, call-short}
 use Rattle.sheet.proofs.LineLaws.{line-fits, line-says, line-behind}

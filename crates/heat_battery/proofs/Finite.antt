@@ -12,10 +12,11 @@ use Rattle.card.specs.Card.{cardRefusal}
 use Rattle.card.proofs.Accepted.{accepted-layers}
 use Rattle.battery.specs.Battery.{zonesFinite, batteryAccepted}
 use Rattle.battery.specs.Ledger.{totalsFinite}
-use Rattle.battery.proofs.Zones.{zones-finite-of}
+use Rattle.battery.proofs.Zones.{zones-finite-of, zones-finite-at}
+use Rattle.battery.proofs.Answers.{finite-totals}
+use Rattle.battery.proofs.Accepted.{accepted-battery}
 use Rattle.records.specs.Cards.{cardLength, cardAt}
 use Rattle.records.specs.Records.{zonesAt, stateAt, recordOf}
-use Rattle.sheet.proofs.Good.{zone-finite, accepted-battery}
 use Rattle.sheet.proofs.Back.{zonesAt-below}
 use Rattle.heat_battery.specs.Cases.{GoodRecord}
 use Rattle.entry.proofs.Entering.{LaidRecord}
@@ -46,13 +47,14 @@ module _ (version : ℕ) (rec : List ℕ) (l : LaidRecord version rec) where
   unfolding recordOf stateAt
   accepted-good h =
       let a = accepted-battery version (recordOf version rec) h in
+      let t = finite-totals (recordOf version rec) (a .totals) in
       record {
         card-there = l .card-there;
         card-accepted = l .card-accepted;
         long = l .long;
-        zones = λ i k. ap finite64 (sym (zonesAt-below rec (cardLength version) n i few k)) ∙ zone-finite (zonesAt rec (cardLength version) n) n (a .zones) i k;
+        zones = λ i k. ap finite64 (sym (zonesAt-below rec (cardLength version) n i few k)) ∙ zones-finite-at (zonesAt rec (cardLength version) n) n (a .zones) i k;
         totals =
-            five (λ (i : ℕ). finite64 (nthF64 rec (cardLength version + 8 * n) i) ≡ true) (a .total) (a .pump) (a .direct) (a .charged) (a .electric);
+            five (λ (i : ℕ). finite64 (nthF64 rec (cardLength version + 8 * n) i) ≡ true) (t .total) (t .pump) (t .direct) (t .charged) (t .electric);
       }
 
   pub good-accepted : GoodRecord version rec → batteryAccepted version (recordOf version rec) ≡ true

@@ -1,5 +1,5 @@
 -- Opening: each refusal is given exactly in its case, and leaves every byte.
-use mathlib.Core.Path.{_≡_, sym, ap, _∙_}
+use mathlib.Core.Path.{_≡_, sym, _∙_}
 use mathlib.Core.Logic.{_⊎_, _↔_, inl, inr}
 use mathlib.Core.List.{List}
 use mathlib.Core.Bool.{false}
@@ -13,6 +13,7 @@ use Rattle.records.specs.Cards.{cardLength, cardAt}
 use Rattle.records.specs.Records.{recordLength}
 use Rattle.sheet.specs.Lines.{openingLength}
 use Rattle.entry.specs.Entry.{After, unchanged, openedWith, openOf}
+use Rattle.entry.proofs.Entering.{code-of, unchanged-by}
 use Rattle.heat_battery.specs.Cases.{OpenCase1, OpenCase2, OpenCase3, OpenCase4, OpenCase10, OpenCase11, Opens}
 use Rattle.entry.proofs.Opening.{open-length, open-card, open-record, open-room, opened}
 use Rattle.heat_battery.proofs.CardCases.{CardWay, out-of-range, lower-above, max-low, nothing, accepted, card-way, card-1, card-2, card-3, card-4, lower-above-is, max-above-is}
@@ -47,9 +48,6 @@ open-way version card rec free =
     on (yes l) (yes a) (yes k) (yes r) =
         opens (record { card-good = record { long = l; accepted = a }; long = k; room = r }) (opened version card rec free l a k r)
 
-code-of : (a b : After) → a ≡ b → a .code ≡ b .code
-code-of a b e = ap (λ (x : After). x .code) e
-
 module _ (version : ℕ) (card rec free : List ℕ) where
   abbrev c : Card
   c = cardAt version card
@@ -62,14 +60,14 @@ module _ (version : ℕ) (card rec free : List ℕ) where
   by-card h z = on (open-way version card rec free)
     where
       on : OpenWay version card rec free o → ((length card ≡ cardLength version → ⊥) × (o .code ≡ 1)) ⊎ ((length card ≡ cardLength version) × (cardRefusal version c ≡ o .code))
-      on (other-card l e) = inl (l, code-of o (unchanged 1 rec free) e)
-      on (refused l a e) = inr (l, sym (code-of o (unchanged (cardRefusal version c) rec free) e))
-      on (other-record x e) = let n = code-of o (unchanged 10 rec free) e in absurd (omega arith)
-      on (no-room x e) = let n = code-of o (unchanged 11 rec free) e in absurd (omega arith)
-      on (opens x e) = absurd (z (code-of o (openedWith version card free) e))
+      on (other-card l e) = inl (l, code-of (unchanged 1 rec free) e)
+      on (refused l a e) = inr (l, sym (code-of (unchanged (cardRefusal version c) rec free) e))
+      on (other-record x e) = let n = code-of (unchanged 10 rec free) e in absurd (omega arith)
+      on (no-room x e) = let n = code-of (unchanged 11 rec free) e in absurd (omega arith)
+      on (opens x e) = absurd (z (code-of (openedWith version card free) e))
 
   card-code : length card ≡ cardLength version → (cardRefusal version c ≡ 0 → ⊥) → o .code ≡ cardRefusal version c
-  card-code l h = code-of o (unchanged (cardRefusal version c) rec free) (open-card version card rec free l h)
+  card-code l h = code-of (unchanged (cardRefusal version c) rec free) (open-card version card rec free l h)
 
   pub open-1 : (openOf version card rec free .code ≡ 1) ↔ OpenCase1 version card
   open-1 = (λ h. on h (by-card (omega arith) (λ z. omega arith)), back)
@@ -87,10 +85,10 @@ module _ (version : ℕ) (card rec free : List ℕ) where
 
       long : cardInRange c ≡ false → Dec (length card ≡ cardLength version) → o .code ≡ 1
       long k (yes l) = let r = card-1 version c k in card-code l (λ z. omega arith) ∙ r
-      long k (no l) = code-of o (unchanged 1 rec free) (open-length version card rec free l)
+      long k (no l) = code-of (unchanged 1 rec free) (open-length version card rec free l)
 
       back : OpenCase1 version card → o .code ≡ 1
-      back (inl l) = code-of o (unchanged 1 rec free) (open-length version card rec free l)
+      back (inl l) = code-of (unchanged 1 rec free) (open-length version card rec free l)
       back (inr k) = long k (ℕ-discrete (length card) (cardLength version))
 
   pub open-2 : (openOf version card rec free .code ≡ 2) ↔ OpenCase2 version card
@@ -161,57 +159,54 @@ module _ (version : ℕ) (card rec free : List ℕ) where
   card-small (accepted e) = omega arith
 
   pub open-10 : (openOf version card rec free .code ≡ 10) ↔ OpenCase10 version card rec
-  open-10 = (on (open-way version card rec free), λ x. code-of o (unchanged 10 rec free) (open-record version card rec free (x .card-good .long) (x .card-good .accepted) (x .other-length)))
+  open-10 = (on (open-way version card rec free), λ x. code-of (unchanged 10 rec free) (open-record version card rec free (x .card-good .long) (x .card-good .accepted) (x .other-length)))
     where
       on : OpenWay version card rec free o → o .code ≡ 10 → OpenCase10 version card rec
-      on (other-card l e) h = let n = code-of o (unchanged 1 rec free) e in absurd (omega arith)
-      on (refused l a e) h = let n = code-of o (unchanged (cardRefusal version c) rec free) e in let s = card-small (card-way version c) in absurd (omega arith)
+      on (other-card l e) h = let n = code-of (unchanged 1 rec free) e in absurd (omega arith)
+      on (refused l a e) h = let n = code-of (unchanged (cardRefusal version c) rec free) e in let s = card-small (card-way version c) in absurd (omega arith)
       on (other-record x e) h = x
-      on (no-room x e) h = let n = code-of o (unchanged 11 rec free) e in absurd (omega arith)
-      on (opens x e) h = let n = code-of o (openedWith version card free) e in absurd (omega arith)
+      on (no-room x e) h = let n = code-of (unchanged 11 rec free) e in absurd (omega arith)
+      on (opens x e) h = let n = code-of (openedWith version card free) e in absurd (omega arith)
 
   pub open-11 : (openOf version card rec free .code ≡ 11) ↔ OpenCase11 version card rec free
-  open-11 = (on (open-way version card rec free), λ x. code-of o (unchanged 11 rec free) (open-room version card rec free (x .card-good .long) (x .card-good .accepted) (x .long) (x .no-room)))
+  open-11 = (on (open-way version card rec free), λ x. code-of (unchanged 11 rec free) (open-room version card rec free (x .card-good .long) (x .card-good .accepted) (x .long) (x .no-room)))
     where
       on : OpenWay version card rec free o → o .code ≡ 11 → OpenCase11 version card rec free
-      on (other-card l e) h = let n = code-of o (unchanged 1 rec free) e in absurd (omega arith)
-      on (refused l a e) h = let n = code-of o (unchanged (cardRefusal version c) rec free) e in let s = card-small (card-way version c) in absurd (omega arith)
-      on (other-record x e) h = let n = code-of o (unchanged 10 rec free) e in absurd (omega arith)
+      on (other-card l e) h = let n = code-of (unchanged 1 rec free) e in absurd (omega arith)
+      on (refused l a e) h = let n = code-of (unchanged (cardRefusal version c) rec free) e in let s = card-small (card-way version c) in absurd (omega arith)
+      on (other-record x e) h = let n = code-of (unchanged 10 rec free) e in absurd (omega arith)
       on (no-room x e) h = x
-      on (opens x e) h = let n = code-of o (openedWith version card free) e in absurd (omega arith)
+      on (opens x e) h = let n = code-of (openedWith version card free) e in absurd (omega arith)
 
   -- 0 exactly when the card has 158 bytes, 1 to 4 don't apply, the record has its length and 161 bytes are free
   pub open-0 : (openOf version card rec free .code ≡ 0) ↔ Opens version card rec free
-  open-0 = (on (open-way version card rec free), λ x. code-of o (openedWith version card free) (opened version card rec free (x .card-good .long) (x .card-good .accepted) (x .long) (x .room)))
+  open-0 = (on (open-way version card rec free), λ x. code-of (openedWith version card free) (opened version card rec free (x .card-good .long) (x .card-good .accepted) (x .long) (x .room)))
     where
       on : OpenWay version card rec free o → o .code ≡ 0 → Opens version card rec free
-      on (other-card l e) h = let n = code-of o (unchanged 1 rec free) e in absurd (omega arith)
-      on (refused l a e) h = absurd (a (sym (code-of o (unchanged (cardRefusal version c) rec free) e) ∙ h))
-      on (other-record x e) h = let n = code-of o (unchanged 10 rec free) e in absurd (omega arith)
-      on (no-room x e) h = let n = code-of o (unchanged 11 rec free) e in absurd (omega arith)
+      on (other-card l e) h = let n = code-of (unchanged 1 rec free) e in absurd (omega arith)
+      on (refused l a e) h = absurd (a (sym (code-of (unchanged (cardRefusal version c) rec free) e) ∙ h))
+      on (other-record x e) h = let n = code-of (unchanged 10 rec free) e in absurd (omega arith)
+      on (no-room x e) h = let n = code-of (unchanged 11 rec free) e in absurd (omega arith)
       on (opens x e) h = x
 
   -- a refused opening changes no byte
   pub refused-opening-keeps : (openOf version card rec free .code ≡ 0 → ⊥) → openOf version card rec free ≡ unchanged (openOf version card rec free .code) rec free
   refused-opening-keeps h = on (open-way version card rec free)
     where
-      kept : (n : ℕ) → o ≡ unchanged n rec free → o ≡ unchanged (o .code) rec free
-      kept n e = e ∙ ap (λ (k : ℕ). unchanged k rec free) (sym (code-of o (unchanged n rec free) e))
-
       on : OpenWay version card rec free o → o ≡ unchanged (o .code) rec free
-      on (other-card l e) = kept 1 e
-      on (refused l a e) = kept (cardRefusal version c) e
-      on (other-record x e) = kept 10 e
-      on (no-room x e) = kept 11 e
-      on (opens x e) = absurd (h (code-of o (openedWith version card free) e))
+      on (other-card l e) = unchanged-by 1 e
+      on (refused l a e) = unchanged-by (cardRefusal version c) e
+      on (other-record x e) = unchanged-by 10 e
+      on (no-room x e) = unchanged-by 11 e
+      on (opens x e) = absurd (h (code-of (openedWith version card free) e))
 
   -- opening gives no other number
   pub open-codes : (openOf version card rec free .code ≤ 4) ⊎ ((openOf version card rec free .code ≡ 10) ⊎ (openOf version card rec free .code ≡ 11))
   open-codes = on (open-way version card rec free)
     where
       on : OpenWay version card rec free o → (o .code ≤ 4) ⊎ ((o .code ≡ 10) ⊎ (o .code ≡ 11))
-      on (other-card l e) = let n = code-of o (unchanged 1 rec free) e in inl (omega arith)
-      on (refused l a e) = let n = code-of o (unchanged (cardRefusal version c) rec free) e in let s = card-small (card-way version c) in inl (omega arith)
-      on (other-record x e) = inr (inl (code-of o (unchanged 10 rec free) e))
-      on (no-room x e) = inr (inr (code-of o (unchanged 11 rec free) e))
-      on (opens x e) = let n = code-of o (openedWith version card free) e in inl (omega arith)
+      on (other-card l e) = let n = code-of (unchanged 1 rec free) e in inl (omega arith)
+      on (refused l a e) = let n = code-of (unchanged (cardRefusal version c) rec free) e in let s = card-small (card-way version c) in inl (omega arith)
+      on (other-record x e) = inr (inl (code-of (unchanged 10 rec free) e))
+      on (no-room x e) = inr (inr (code-of (unchanged 11 rec free) e))
+      on (opens x e) = let n = code-of (openedWith version card free) e in inl (omega arith)

@@ -5,7 +5,7 @@ use mathlib.Core.List.{List}
 use mathlib.Core.Bool.{Bool, true, false, _&&_}
 use Prim.Native.Nat.{ℕ, _≤_}
 use native.Mathlib.Omega.{arith}
-use Rattle.card.proofs.Tests.{no-both, true-and}
+use Rattle.logic.proofs.Tests.{no-both, true-and}
 use Rattle.battery.specs.declared.Battery.{Battery}
 use Rattle.battery.specs.declared.Call.{Call}
 use Rattle.battery.specs.declared.Answer.{Answer}
@@ -24,10 +24,11 @@ use Rattle.engine.proofs.StepCases.{step-20, step-21, step-22, step-23, step-24
 use Rattle.calls.specs.Calls.{callOf}
 use Rattle.calls.specs.declared.ReadCall.{ReadCall}
 use Rattle.calls.specs.declared.ReadCall.the-variants.{Good, Bad}
+use Rattle.calls.proofs.CallLaws.{same-call, no-call}
 use Rattle.calls.proofs.CallExact.{call-laid, laid-call}
 use Rattle.own_record.specs.Record.{shownOf, advancedBy, advancedRead, advancedOf}
 use Rattle.heat_battery.specs.Cases.{GoodCall, GoodOwn, OwnCase10, bad-own, bad-own-call, OwnCase}
-use Rattle.heat_battery.proofs.CallCases.{no-call, same-call, not-ten}
+use Rattle.heat_battery.proofs.CallCases.{not-ten}
 
 -- ---- a record that 10 lets through
 

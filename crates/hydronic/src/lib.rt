@@ -44,7 +44,7 @@ fn clearly_below(outlet: f64, inlet: f64) -> bool
     ensures { λ r. ⌜ r ≡ clearlyBelow outlet inlet ⌝ }
 {
     let near = floats::nearly_equal(outlet, inlet, floats::TOLERANCE, floats::MAX_RELATIVE);
-    floats::both(outlet < inlet, !near)
+    logic::both(outlet < inlet, !near)
 }
 
 fn limit_reached(absorbed: Kilojoules, limit: Kilojoules) -> bool

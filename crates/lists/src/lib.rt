@@ -12,8 +12,11 @@ const ZONES: usize = 24;
 // Id 50.
 pub fn start(s: &[u8], held: &mut [u8]) {
     let n = words::count(s, 23);
-    let shape = floats::both(words::has(s, n + 29), words::word_is(s, 0, n as u64));
-    if floats::both(shape, n <= 64) {
+    if logic::all_three(
+        words::has(s, n + 29),
+        words::word_is(s, 0, n as u64),
+        n <= 64,
+    ) {
         words::set(held, s);
     } else {
         words::set_number(held, 0, 0.0);
@@ -62,15 +65,12 @@ fn totals_of(b: Battery) -> [f64; 64] {
 fn numbers_are(s: &[u8], at: usize, a: Answer) -> bool
     requires { ⌜ at ≤ 512 ⌝ }
 {
-    let run = floats::both(
-        words::number_is(s, at + 4, a.time),
-        words::word_is(s, at + 5, a.substeps as u64),
-    );
-    let energy = floats::both(
+    logic::all_four(
         words::marked_is(s, at, a.refusal as u64, a.energy),
         words::marked_is(s, at + 2, a.mark as u64, a.outlet),
-    );
-    floats::both(energy, run)
+        words::number_is(s, at + 4, a.time),
+        words::word_is(s, at + 5, a.substeps as u64),
+    )
 }
 
 // The record ends with the zones and the totals, from word `at` on.
@@ -79,11 +79,11 @@ fn battery_is(s: &[u8], at: usize, b: Battery) -> bool
 {
     let zones = b.zones;
     let n = zones_of(b.count);
-    let state = floats::both(
+    logic::all_three(
+        words::has(s, at + n + 5),
         words::numbers_are(s, at, zones, n),
         words::numbers_are(s, at + n, totals_of(b), 5),
-    );
-    floats::both(words::has(s, at + n + 5), state)
+    )
 }
 
 // Holds the battery after a call.
@@ -99,5 +99,5 @@ pub fn answer_is(s: &[u8], at: usize, a: Answer) -> bool
     requires { ⌜ at ≤ 16 ⌝ }
 {
     let b = a.battery;
-    floats::both(numbers_are(s, at, a), battery_is(s, at + 6, b))
+    logic::both(numbers_are(s, at, a), battery_is(s, at + 6, b))
 }

@@ -6,7 +6,7 @@ ghost use Rattle.ranges.specs.Ranges.{within as withinOf, isSubstep, isT
 pub fn within(low: f64, high: f64, x: f64) -> bool
     ensures { λ r. ⌜ r ≡ withinOf low high x ⌝ }
 {
-    floats::both(low <= x, x <= high)
+    logic::both(low <= x, x <= high)
 }
 
 // Seconds.

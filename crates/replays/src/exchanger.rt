@@ -43,7 +43,7 @@ fn transfer(s: &[u8], a: usize, b: usize, flow: usize, reynolds: usize) -> Log {
 
 fn heat_transfer(s: &[u8]) -> bool {
     let r = transfer(s, 0, 1, 2, 3);
-    floats::both(words::has(s, 6), words::log_is(s, 4, r))
+    logic::both(words::has(s, 6), words::log_is(s, 4, r))
 }
 
 fn outlet(s: &[u8]) -> bool {
@@ -55,7 +55,7 @@ fn outlet(s: &[u8]) -> bool {
 }
 
 fn properties_are(s: &[u8], mark: u64, p: ZoneProperties) -> bool {
-    floats::both(
+    logic::both(
         words::marked_is(s, 33, mark, p.energy.0),
         words::ends_with(s, 35, p.outlet),
     )

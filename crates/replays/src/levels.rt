@@ -42,8 +42,11 @@ pub fn charge_energy_demand(s: &[u8]) -> bool {
     if card.layers <= 64 {
         let n = card.layers as usize;
         let level = crate::zones::level(s, card, n);
-        let shape = floats::both(words::has(s, n + 29), words::word_is(s, 23, n as u64));
-        return floats::both(shape, energy_is(s, card, n, level));
+        return logic::all_three(
+            words::has(s, n + 29),
+            words::word_is(s, 23, n as u64),
+            energy_is(s, card, n, level),
+        );
     }
     false
 }

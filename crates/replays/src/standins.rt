@@ -16,14 +16,14 @@ pub fn replay(id: u64, s: &[u8]) -> bool {
 
 fn finite(s: &[u8]) -> bool {
     let r = floats::is_finite(words::number(s, 0));
-    floats::both(words::has(s, 2), words::flag_is(s, 1, r))
+    logic::both(words::has(s, 2), words::flag_is(s, 1, r))
 }
 
 fn nearly_equal(s: &[u8]) -> bool {
     let p = words::number(s, 0);
     let q = words::number(s, 1);
     let r = floats::nearly_equal(p, q, words::number(s, 2), words::number(s, 3));
-    floats::both(words::has(s, 5), words::flag_is(s, 4, r))
+    logic::both(words::has(s, 5), words::flag_is(s, 4, r))
 }
 
 fn max_zero(s: &[u8]) -> bool {
@@ -52,10 +52,10 @@ fn sum2(s: &[u8]) -> bool {
 
 fn ln(s: &[u8]) -> bool {
     let r = bits::ln(words::number(s, 0));
-    floats::both(words::has(s, 3), words::log_is(s, 1, r))
+    logic::both(words::has(s, 3), words::log_is(s, 1, r))
 }
 
 fn truncate(s: &[u8]) -> bool {
     let r = bits::truncate(words::number(s, 0));
-    floats::both(words::has(s, 2), words::word_is(s, 1, r))
+    logic::both(words::has(s, 2), words::word_is(s, 1, r))
 }

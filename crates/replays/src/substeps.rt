@@ -31,24 +31,24 @@ fn answer_is(s: &[u8], at: usize, n: usize, r: Substep) -> bool
 {
     let zones = r.zones;
     let energies = r.energies;
-    let heat = words::three_are(s, at + 1, r.outlet, r.delivered.0, r.charged.0);
-    let each = floats::both(
+    logic::all_four(
+        words::word_is(s, at, 0),
+        words::three_are(s, at + 1, r.outlet, r.delivered.0, r.charged.0),
         words::numbers_are(s, at + 4, zones, n),
         words::numbers_are(s, at + 4 + n, energies, n),
-    );
-    floats::both(words::word_is(s, at, 0), floats::both(heat, each))
+    )
 }
 
 // A refusal, and zeros behind it.
 fn refusal_is(s: &[u8], at: usize, n: usize, refusal: u64) -> bool
     requires { ⌜ (at ≤ 256) × (n ≤ 64) ⌝ }
 {
-    let each = floats::both(
+    logic::all_four(
+        words::word_is(s, at, refusal),
+        words::numbers_are(s, at + 1, [0.0; 64], 3),
         words::numbers_are(s, at + 4, [0.0; 64], n),
         words::numbers_are(s, at + 4 + n, [0.0; 64], n),
-    );
-    let zeros = floats::both(words::numbers_are(s, at + 1, [0.0; 64], 3), each);
-    floats::both(words::word_is(s, at, refusal), zeros)
+    )
 }
 
 fn outputs_are(s: &[u8], at: usize, n: usize, r: Substep) -> bool
@@ -69,8 +69,11 @@ pub fn substep(s: &[u8]) -> bool {
         let zones = words::numbers(s, FIRST_ZONE, n);
         let d = drive(s, n);
         let r = by_value::process_heat_battery_zones(card, pcm::derived(card), d, zones);
-        let shape = floats::both(words::has(s, 37 + 3 * n), words::word_is(s, 23, n as u64));
-        return floats::both(shape, outputs_are(s, n + 33, n, r));
+        return logic::all_three(
+            words::has(s, 37 + 3 * n),
+            words::word_is(s, 23, n as u64),
+            outputs_are(s, n + 33, n, r),
+        );
     }
     false
 }

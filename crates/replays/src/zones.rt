@@ -72,8 +72,11 @@ fn state_of_charge(s: &[u8]) -> bool {
     if card.layers <= 64 {
         let n = card.layers as usize;
         let r = level(s, card, n);
-        let shape = floats::both(words::has(s, n + 26), words::word_is(s, 23, n as u64));
-        return floats::both(shape, level_is(s, n + 24, r));
+        return logic::all_three(
+            words::has(s, n + 26),
+            words::word_is(s, 23, n as u64),
+            level_is(s, n + 24, r),
+        );
     }
     false
 }
@@ -100,5 +103,5 @@ fn simultaneous(s: &[u8]) -> bool {
     let own = salt(s, 0);
     let r = charging::process_zone_simultaneous_charging(own, zone, target, left, heat, charged);
     let outputs = words::three_are(s, 10, r.left.0, r.charged.0, r.heat.0);
-    floats::both(words::has(s, 13), outputs)
+    logic::both(words::has(s, 13), outputs)
 }

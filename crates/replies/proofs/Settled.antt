@@ -6,7 +6,8 @@ use Prim.Native.Nat.{ℕ}
 use borrow.Author.Tests.{ne-eqb, eqb-true}
 use lib.Dec.{eqb}
 use lib.Ieee.{Float}
-use Rattle.floats.proofs.Branch.{via-false}
+use Rattle.logic.proofs.Branch.{via-false}
+use Rattle.battery.specs.declared.Battery.{Battery}
 use Rattle.battery.specs.declared.Demand.{Demand}
 use Rattle.battery.specs.declared.Totals.{Totals}
 use Rattle.battery.specs.declared.Ledger.{Ledger}
@@ -51,6 +52,15 @@ module _ (l : Ledger) (before zones : List Float) (r : Reply) where
       answerWith l r zones ≡ plainAnswer energy (closedBattery (whole l zones))
   unfolding plainAnswer closedBattery
   closed-with energy totals t e = rw (e, t)
+
+-- an answer to a run is no refusal
+pub run-answers : (s : Stopped) (b : Battery) → runAnswer s b .refusal ≡ 0
+unfolding runAnswer
+run-answers s b = refl
+
+pub demand-answers : (b : Battery) (d : Demand) (r : Zoned Stopped) → demandAnswer b d r .refusal ≡ 0
+unfolding demandAnswer
+demand-answers b d r = refl
 
 -- An answer to a run, where the run's zones lie apart: if the run is refused they are not shown.
 

@@ -9,7 +9,7 @@ use lib.Dec.{eqb}
 use lib.Ieee.{Float, lt, neg}
 use Rattle.floats.specs.F64.{_⊕_}
 use Rattle.floats.specs.Constants as Constants
-use Rattle.floats.proofs.Branch.{via-true}
+use Rattle.logic.proofs.Branch.{via-true}
 use Rattle.zone.specs.Heat.{kj}
 use Rattle.substep.specs.Substep.{processHeatBatteryZones}
 use Rattle.substep.specs.declared.Outcome.{Outcome}

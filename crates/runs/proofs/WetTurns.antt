@@ -7,7 +7,7 @@ use borrow.Author.Tests.{ne-eqb}
 use lib.Ieee.{Float, lt, neg}
 use Rattle.floats.specs.F64.{_⊕_}
 use Rattle.floats.specs.Constants as Constants
-use Rattle.floats.proofs.Branch.{via-true, via-false}
+use Rattle.logic.proofs.Branch.{via-true, via-false}
 use Rattle.zone.specs.Heat.{kj}
 use Rattle.zone.specs.declared.Kilojoules.{Kilojoules}
 use Rattle.zone.specs.declared.KilowattHours.{KilowattHours}

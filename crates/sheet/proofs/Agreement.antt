@@ -13,11 +13,12 @@ use lib.Ieee.Bits.{is-true}
 use Rattle.floats.specs.Standins.{finite64}
 use Rattle.floats.proofs.Standins.{finite64-finite}
 use Rattle.floats.proofs.Order.{eq-refl, finite-number}
-use Rattle.card.proofs.Tests.{and-true, true-and}
+use Rattle.logic.proofs.Tests.{and-true, true-and}
 use Rattle.battery.specs.declared.Answer.{Answer}
 use Rattle.battery.specs.Battery.{zonesFinite}
+use Rattle.battery.proofs.GoodParts.{good-totals}
+use Rattle.battery.proofs.Accepted.{accepted-battery}
 use Rattle.sheet.specs.Answers.{sameNumber, sameZones, sameTotals, agrees, GoodAnswer}
-use Rattle.sheet.proofs.Good.{accepted-battery}
 
 same-self : (x : Float) → finite64 x ≡ true → sameNumber x x ≡ true
 unfolding sameNumber
@@ -34,7 +35,7 @@ pub agrees-self : (version : ℕ) (a : Answer) → GoodAnswer version a → agre
 unfolding agrees sameTotals
 agrees-self version a g =
     let b = a .battery in
-    let ok = accepted-battery version b (g .battery-good .accepted) in
+    let ok = good-totals version b (g .battery-good) in
     let t = true-and (same-self (b .total) (ok .total)) (true-and (same-self (b .pump) (ok .pump)) (true-and (same-self (b .direct) (ok .direct)) (true-and (same-self (b .charged) (ok .charged)) (same-self (b .electric) (ok .electric))))) in
     true-and (eq-eqb (a .refusal) (a .refusal) refl)
     (true-and (same-self (a .energy) (g .energy-finite))
@@ -42,7 +43,7 @@ agrees-self version a g =
     (true-and (same-self (a .outlet) (g .outlet-finite))
     (true-and (same-self (a .time) (g .time-finite))
     (true-and (eq-eqb (a .substeps) (a .substeps) refl)
-    (true-and (zones-self (b .zones) (b .card .layers) (ok .zones)) t))))))
+    (true-and (zones-self (b .zones) (b .card .layers) (accepted-battery version b (g .battery-good .accepted) .zones)) t))))))
 
 -- ---- the parts of two answers that agree
 

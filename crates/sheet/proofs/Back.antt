@@ -15,9 +15,10 @@ use Rattle.codec.proofs.Laws.{length-f64Bytes}
 use Rattle.codec.proofs.Places.{f64-here}
 use Rattle.battery.specs.declared.Battery.{Battery}
 use Rattle.battery.specs.Battery.{GoodBattery}
+use Rattle.battery.proofs.GoodParts.{good-layers, good-count, good-zone, good-totals}
 use Rattle.records.specs.Records.{zonesAt, zonesBytes, totalsBytes, stateAt, stateBytes}
 use Rattle.records.proofs.Lengths.{length-zonesBytes}
-use Rattle.sheet.proofs.Good.{held, accepted-battery, good-layers, zone-finite}
+use Rattle.sheet.proofs.Good.{held}
 
 -- ---- zones
 
@@ -71,7 +72,7 @@ zones-back version b p r at g e =
     on : (i : ℕ) → i < 64 → Dec (i < n) → getD (zonesAt bs at n) i nan ≡ getD (b .zones) i nan
     on i l (yes m) =
         zonesAt-below bs at n i (good-layers version b g) m
-        ∙ zone-here (b .zones) n p r at i e m (zone-finite (b .zones) n (accepted-battery version b (g .accepted) .zones))
+        ∙ zone-here (b .zones) n p r at i e m (good-zone version b g)
     on i l (no m) =
         let a : n ≤ i = omega arith in
         zonesAt-above bs at n i a l ∙ sym (g .above i a l)
@@ -83,7 +84,7 @@ pub state-back : (version : ℕ) (b : Battery) (p r : List ℕ) (at : ℕ) → G
     → stateAt version (b .card) (p ++ (stateBytes version b ++ r)) at ≡ b
 unfolding stateAt stateBytes totalsBytes
 state-back version b p r at g e =
-    let ok = accepted-battery version b (g .accepted) in
+    let ok = good-totals version b g in
     let n = b .card .layers in
     let z : List ℕ = p ++ zonesBytes (b .zones) n in
     let t₁ = f64Bytes (b .total) in
@@ -104,5 +105,5 @@ state-back version b p r at g e =
     let e₃ : nthF64 bs (at + 8 * n) 2 ≡ b .direct = f64-here bs (z ++ t₁ ++ t₂) (t₄ ++ t₅ ++ r) (at + 8 * n + 16) (b .direct) (simp append-assoc) q₃ (held (b .direct) (ok .direct)) in
     let e₄ : nthF64 bs (at + 8 * n) 3 ≡ b .charged = f64-here bs (z ++ t₁ ++ t₂ ++ t₃) (t₅ ++ r) (at + 8 * n + 24) (b .charged) (simp append-assoc) q₄ (held (b .charged) (ok .charged)) in
     let e₅ : nthF64 bs (at + 8 * n) 4 ≡ b .electric = f64-here bs (z ++ t₁ ++ t₂ ++ t₃ ++ t₄) r (at + 8 * n + 32) (b .electric) (simp append-assoc) q₅ (held (b .electric) (ok .electric)) in
-    let e₆ : n ≡ b .count = sym (ok .count) in
+    let e₆ : n ≡ b .count = sym (good-count version b g) in
     λ i. record { card = b .card; zones = e₀ i; count = e₆ i; total = e₁ i; pump = e₂ i; direct = e₃ i; charged = e₄ i; electric = e₅ i }

@@ -83,7 +83,7 @@ fn same_zones(x: [f64; 64], y: [f64; 64], n: usize) -> bool
 {
     let mut ok = true;
     for k in 0..n {
-        ok = floats::both(ok, same_number(x[k], y[k]));
+        ok = logic::both(ok, same_number(x[k], y[k]));
     }
     ok
 }
@@ -91,13 +91,13 @@ fn same_zones(x: [f64; 64], y: [f64; 64], n: usize) -> bool
 fn same_totals(x: Battery, y: Battery) -> bool
     ensures { λ r. ⌜ r ≡ sameTotals x y ⌝ }
 {
-    floats::both(
+    logic::both(
         same_number(x.total, y.total),
-        floats::both(
+        logic::both(
             same_number(x.pump, y.pump),
-            floats::both(
+            logic::both(
                 same_number(x.direct, y.direct),
-                floats::both(
+                logic::both(
                     same_number(x.charged, y.charged),
                     same_number(x.electric, y.electric),
                 ),
@@ -116,18 +116,18 @@ pub fn answers_agree(x: Answer, y: Answer) -> bool
     let n = b.card.layers as usize;
     let own = b.zones;
     let other = c.zones;
-    let state = floats::both(same_zones(own, other, n), same_totals(b, c));
-    let run = floats::both(
+    let state = logic::both(same_zones(own, other, n), same_totals(b, c));
+    let run = logic::both(
         same_number(x.time, y.time),
-        floats::both(x.substeps == y.substeps, state),
+        logic::both(x.substeps == y.substeps, state),
     );
-    floats::both(
+    logic::both(
         x.refusal == y.refusal,
-        floats::both(
+        logic::both(
             same_number(x.energy, y.energy),
-            floats::both(
+            logic::both(
                 x.mark == y.mark,
-                floats::both(same_number(x.outlet, y.outlet), run),
+                logic::both(same_number(x.outlet, y.outlet), run),
             ),
         ),
     )

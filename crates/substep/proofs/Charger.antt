@@ -7,7 +7,8 @@ use Rattle.floats.specs.F64.{_⊗_, _⊘_}
 use Rattle.floats.specs.Constants.{zero, hour}
 use Rattle.floats.proofs.Parts.{number}
 use Rattle.floats.proofs.Compare.{lt-number-l}
-use Rattle.floats.proofs.Order.{lt→not-le, same-test}
+use Rattle.floats.proofs.Order.{lt→not-le}
+use Rattle.logic.proofs.Tests.{same-test}
 use Rattle.floats.proofs.Product.{mul-number-left}
 use Rattle.floats.proofs.ProductLaws.{mul-nonneg, mul-nonpos-nonneg}
 use Rattle.floats.proofs.Quotient.{div-number-left, div-nonneg, div-nonpos}

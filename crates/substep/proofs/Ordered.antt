@@ -13,11 +13,10 @@ use lib.Ieee.Bits.{is-true}
 use Rattle.floats.specs.Constants as Constants
 use Rattle.floats.specs.Standins.{finite64}
 use Rattle.floats.specs.Sum2.{sum2Step, sum2After}
-use Rattle.floats.proofs.Order.{same-test}
+use Rattle.logic.proofs.Tests.{same-test, and-true, true-and}
 use Rattle.floats.proofs.Sum2Laws.{noSum, no-sum-more}
 use Rattle.water.specs.declared.Mode.{Mode}
 use Rattle.water.specs.declared.Mode.the-variants.{OnlyCharging, Losses, Normal}
-use Rattle.card.proofs.Tests.{and-true, true-and}
 use Rattle.battery.specs.Battery.{zonesFinite}
 use Rattle.battery.proofs.Zones.{zones-finite-of, zones-finite-at}
 use Rattle.substep.specs.Substep.{zoneIndex}

@@ -9,7 +9,7 @@ use lib.Ieee.{Float, nan, ofBits, lt, le}
 use Rattle.floats.specs.Constants.{zero}
 use Rattle.floats.specs.Standins.{finite64}
 use Rattle.floats.specs.declared.Log.the-variants.{Value}
-use Rattle.floats.proofs.Cases.{by-test}
+use Rattle.logic.proofs.Branch.{by-test}
 use Rattle.floats.proofs.Compare.{le-of-lt}
 use Rattle.floats.proofs.Order.{le-refl, finite-number}
 use Rattle.floats.proofs.Parts.{number}

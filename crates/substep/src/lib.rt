@@ -218,11 +218,11 @@ pub fn charger_heat(d: Drive) -> Kilojoules
 pub fn pass_fault(zones: bool, outlet: f64, sum: Kilojoules, charged: KilowattHours) -> Fault
     ensures { λ r. ⌜ r ≡ cond (zones && (finite64 outlet && (finite64 (sum .0) && finite64 (charged .0)))) Fault.Nothing Fault.NotFinite ⌝ }
 {
-    let finite = floats::both(
+    let finite = logic::both(
         zones,
-        floats::both(
+        logic::both(
             floats::is_finite(outlet),
-            floats::both(floats::is_finite(sum.0), floats::is_finite(charged.0)),
+            logic::both(floats::is_finite(sum.0), floats::is_finite(charged.0)),
         ),
     );
     if finite {

@@ -5,7 +5,7 @@ use lib.Dec.{T}
 use lib.Ieee.{Float, nan, fits, ofBits, eq, lt, le}
 use Rattle.floats.specs.Constants.{zero, negligibleEnergy, maxRelative}
 use Rattle.floats.specs.Standins.{finite64, nearlyEqual}
-use Rattle.floats.proofs.Cases.{by-test}
+use Rattle.logic.proofs.Branch.{by-test}
 use Rattle.floats.proofs.Order.{lt→not-le}
 use Rattle.floats.proofs.Rulesets.{directions, signs, numbers, tests, finites}
 use Rattle.zone.specs.Good.{GoodSalt}

@@ -81,7 +81,7 @@ pub fn number_is(s: &[u8], i: usize, x: f64) -> bool {
 pub fn marked_is(s: &[u8], i: usize, mark: u64, x: f64) -> bool
     requires { ⌜ i ≤ 1024 ⌝ }
 {
-    floats::both(word_is(s, i, mark), number_is(s, i + 1, x))
+    logic::both(word_is(s, i, mark), number_is(s, i + 1, x))
 }
 
 // A mark and a value; both 0 where the logarithm is refused.
@@ -97,15 +97,18 @@ pub fn log_is(s: &[u8], i: usize, log: Log) -> bool
 pub fn three_are(s: &[u8], i: usize, x: f64, y: f64, z: f64) -> bool
     requires { ⌜ i ≤ 512 ⌝ }
 {
-    let front = floats::both(number_is(s, i, x), number_is(s, i + 1, y));
-    floats::both(front, number_is(s, i + 2, z))
+    logic::all_three(
+        number_is(s, i, x),
+        number_is(s, i + 1, y),
+        number_is(s, i + 2, z),
+    )
 }
 
 // The record ends with word i, and that is x.
 pub fn ends_with(s: &[u8], i: usize, x: f64) -> bool
     requires { ⌜ i ≤ 512 ⌝ }
 {
-    floats::both(has(s, i + 1), number_is(s, i, x))
+    logic::both(has(s, i + 1), number_is(s, i, x))
 }
 
 // The n words from `at` on are the first n of xs.
@@ -114,7 +117,7 @@ pub fn numbers_are(s: &[u8], at: usize, xs: [f64; 64], n: usize) -> bool
 {
     let mut same = true;
     for k in 0..n {
-        same = floats::both(same, number_is(s, at + k, xs[k]));
+        same = logic::both(same, number_is(s, at + k, xs[k]));
     }
     same
 }

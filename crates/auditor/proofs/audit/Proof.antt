@@ -2,7 +2,7 @@ use mathlib.Core.Path.{refl, sym, _∙_}
 use native.Mathlib.Omega.{arith}
 use borrow.Author.Needs.{needs}
 use borrow.Author.Tests.{eq-eqb, ne-eqb}
-use Rattle.floats.proofs.Branch.{via-true, via-false}
+use Rattle.logic.proofs.Branch.{via-true, via-false}
 use Rattle.auditor.specs.Audit.{auditOf}
 use Rattle.auditor.proofs.Opening.{opening-is, card-slice, card-fits, card-line, few-layers}
 use Rattle.auditor.proofs.Turns.{rest-of}

@@ -1,7 +1,7 @@
 use mathlib.Core.Path.{refl, _∙_}
 use borrow.Author.Needs.{needs}
 use borrow.Author.Tests.{lt-ltb, le-ltb}
-use Rattle.floats.proofs.Branch.{via-true, via-false}
+use Rattle.logic.proofs.Branch.{via-true, via-false}
 use Rattle.auditor.specs.Audit.{limitedAuditOf}
 use Rattle.auditor.proofs.audit_limited.Statement.{statement}
 use Rattle.auditor.proofs.audit_limited.Tie as tie

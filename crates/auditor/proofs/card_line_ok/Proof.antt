@@ -2,7 +2,7 @@ use mathlib.Core.Path.{refl}
 use native.Mathlib.Omega.{arith}
 use borrow.Author.Needs.{needs}
 use borrow.Author.Tests.{le-leb, lt-leb, eq-eqb, ne-eqb}
-use Rattle.floats.proofs.Branch.{via-true, via-false}
+use Rattle.logic.proofs.Branch.{via-true, via-false}
 use Rattle.auditor.specs.Audit.{cardLineOk}
 use Rattle.auditor.proofs.Opening.{opening-is, card-slice, card-fits}
 use Rattle.auditor.proofs.card_line_ok.Statement.{statement}

@@ -1,6 +1,6 @@
 use mathlib.Core.Path.{refl, sym, _∙_}
 use Rattle.card.proofs.Accepted.{accepted-layers}
-use Rattle.floats.proofs.Branch.{via-true, via-false}
+use Rattle.logic.proofs.Branch.{via-true, via-false}
 use borrow.Author.Tests.{eq-eqb, ne-eqb, eqb-true}
 use Rattle.battery.specs.Battery.{batteryAccepted}
 use borrow.Author.Needs.{needs}

@@ -18,21 +18,12 @@ is-finite-requires-4 c κs = search needs
 is-finite-requires-5 : tie.Need-is-finite-requires-5
 is-finite-requires-5 c κs = search needs
 
-both-requires : tie.Need-both-requires
-both-requires c κs = search needs
-
-both-requires-2 : tie.Need-both-requires-2
-both-requires-2 c κs = search needs
-
-both-requires-3 : tie.Need-both-requires-3
-both-requires-3 c κs = search needs
-
-both-requires-4 : tie.Need-both-requires-4
-both-requires-4 c κs = search needs
+all-five-requires : tie.Need-all-five-requires
+all-five-requires c κs = search needs
 
 returns : tie.Need-returns
 unfolding totalsFinite
-returns c = rw (← (c .before .before .before .before .before .before .before .before .is-finite .ensures), ← (c .before .before .before .before .before .before .before .is-finite2 .ensures), ← (c .before .before .before .before .before .before .is-finite3 .ensures), ← (c .before .before .before .before .before .is-finite4 .ensures), ← (c .before .before .before .before .is-finite5 .ensures), ← (c .before .before .before .both .ensures), ← (c .before .before .both2 .ensures), ← (c .before .both3 .ensures), ← (c .both4 .ensures))
+returns c = rw (← (c .before .before .before .before .before .is-finite .ensures), ← (c .before .before .before .before .is-finite2 .ensures), ← (c .before .before .before .is-finite3 .ensures), ← (c .before .before .is-finite4 .ensures), ← (c .before .is-finite5 .ensures), ← (c .all-five .ensures))
 
 pub totals-finite-spec : {M : Type 1} → statement M
 totals-finite-spec =
@@ -43,8 +34,5 @@ totals-finite-spec =
     is-finite-requires-3
     is-finite-requires-4
     is-finite-requires-5
-    both-requires
-    both-requires-2
-    both-requires-3
-    both-requires-4
+    all-five-requires
     returns)

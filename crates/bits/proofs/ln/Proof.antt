@@ -1,6 +1,6 @@
 use mathlib.Core.Path.{refl}
 use Rattle.floats.proofs.LnLaws.{ordered}
-use Rattle.floats.proofs.Branch.{via-true, via-false}
+use Rattle.logic.proofs.Branch.{via-true, via-false}
 use Rattle.floats.specs.Ln.{ln}
 use Rattle.bits.proofs.ln.Statement.{statement}
 use Rattle.bits.proofs.ln.Tie as tie

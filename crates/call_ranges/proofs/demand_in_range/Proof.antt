@@ -12,18 +12,12 @@ within-requires-2 c κs = search needs
 is-given-temperature-requires : tie.Need-is-given-temperature-requires
 is-given-temperature-requires c κs = search needs
 
-both-requires : tie.Need-both-requires
-both-requires c κs = search needs
-
-both-requires-2 : tie.Need-both-requires-2
-both-requires-2 c κs = search needs
-
-both-requires-3 : tie.Need-both-requires-3
-both-requires-3 c κs = search needs
+all-four-requires : tie.Need-all-four-requires
+all-four-requires c κs = search needs
 
 returns : tie.Need-returns
 unfolding demandInRange
-returns c = rw (← (c .before .before .before .before .before .within .ensures), ← (c .before .before .before .before .within2 .ensures), ← (c .before .before .before .is-given-temperature .ensures), ← (c .before .before .both .ensures), ← (c .before .both2 .ensures), ← (c .both3 .ensures))
+returns c = rw (← (c .before .before .before .within .ensures), ← (c .before .before .within2 .ensures), ← (c .before .is-given-temperature .ensures), ← (c .all-four .ensures))
 
 pub demand-in-range-spec : {M : Type 1} → statement M
 demand-in-range-spec =
@@ -32,7 +26,5 @@ demand-in-range-spec =
     within-requires
     within-requires-2
     is-given-temperature-requires
-    both-requires
-    both-requires-2
-    both-requires-3
+    all-four-requires
     returns)

@@ -15,14 +15,8 @@ is-velocity-requires c κs = search needs
 within-requires : tie.Need-within-requires
 within-requires c κs = search needs
 
-both-requires : tie.Need-both-requires
-both-requires c κs = search needs
-
-both-requires-2 : tie.Need-both-requires-2
-both-requires-2 c κs = search needs
-
-both-requires-3 : tie.Need-both-requires-3
-both-requires-3 c κs = search needs
+all-four-requires : tie.Need-all-four-requires
+all-four-requires c κs = search needs
 
 is-temperature-requires : tie.Need-is-temperature-requires
 is-temperature-requires c κs = search needs
@@ -39,24 +33,12 @@ is-level-requires c κs = search needs
 within-requires-3 : tie.Need-within-requires-3
 within-requires-3 c κs = search needs
 
-both-requires-4 : tie.Need-both-requires-4
-both-requires-4 c κs = search needs
-
-both-requires-5 : tie.Need-both-requires-5
-both-requires-5 c κs = search needs
-
-both-requires-6 : tie.Need-both-requires-6
-both-requires-6 c κs = search needs
-
-both-requires-7 : tie.Need-both-requires-7
-both-requires-7 c κs = search needs
-
-both-requires-8 : tie.Need-both-requires-8
-both-requires-8 c κs = search needs
+all-six-requires : tie.Need-all-six-requires
+all-six-requires c κs = search needs
 
 returns : tie.Need-returns
 unfolding hydronicInRange
-returns c = rw (← (c .before .before .before .before .before .before .before .before .before .before .before .before .before .before .before .before .is-coefficient .ensures), ← (c .before .before .before .before .before .before .before .before .before .before .before .before .before .before .before .is-coefficient2 .ensures), ← (c .before .before .before .before .before .before .before .before .before .before .before .before .before .before .is-velocity .ensures), ← (c .before .before .before .before .before .before .before .before .before .before .before .before .before .within .ensures), ← (c .before .before .before .before .before .before .before .before .before .before .before .before .both .ensures), ← (c .before .before .before .before .before .before .before .before .before .before .before .both2 .ensures), ← (c .before .before .before .before .before .before .before .before .before .before .both3 .ensures), ← (c .before .before .before .before .before .before .before .before .before .is-temperature .ensures), ← (c .before .before .before .before .before .before .before .before .within2 .ensures), ← (c .before .before .before .before .before .before .before .is-flow .ensures), ← (c .before .before .before .before .before .before .is-level .ensures), ← (c .before .before .before .before .before .within3 .ensures), ← (c .before .before .before .before .both4 .ensures), ← (c .before .before .before .both5 .ensures), ← (c .before .before .both6 .ensures), ← (c .before .both7 .ensures), ← (c .both8 .ensures))
+returns c = rw (← (c .before .before .before .before .before .before .before .before .before .before .is-coefficient .ensures), ← (c .before .before .before .before .before .before .before .before .before .is-coefficient2 .ensures), ← (c .before .before .before .before .before .before .before .before .is-velocity .ensures), ← (c .before .before .before .before .before .before .before .within .ensures), ← (c .before .before .before .before .before .before .all-four .ensures), ← (c .before .before .before .before .before .is-temperature .ensures), ← (c .before .before .before .before .within2 .ensures), ← (c .before .before .before .is-flow .ensures), ← (c .before .before .is-level .ensures), ← (c .before .within3 .ensures), ← (c .all-six .ensures))
 
 pub hydronic-in-range-spec : {M : Type 1} → statement M
 hydronic-in-range-spec =
@@ -66,17 +48,11 @@ hydronic-in-range-spec =
     is-coefficient-requires-2
     is-velocity-requires
     within-requires
-    both-requires
-    both-requires-2
-    both-requires-3
+    all-four-requires
     is-temperature-requires
     within-requires-2
     is-flow-requires
     is-level-requires
     within-requires-3
-    both-requires-4
-    both-requires-5
-    both-requires-6
-    both-requires-7
-    both-requires-8
+    all-six-requires
     returns)

@@ -1,7 +1,7 @@
 use native.Mathlib.Omega.{arith}
 use Rattle.calls.specs.Calls.{callLength, callBy}
 use mathlib.Core.Path.{ap, refl}
-use Rattle.floats.proofs.Branch.{via-true, via-false}
+use Rattle.logic.proofs.Branch.{via-true, via-false}
 use borrow.Author.Tests.{eq-eqb, ne-eqb}
 use borrow.Author.Needs.{needs}
 use Rattle.calls.proofs.call_by.Statement.{statement}

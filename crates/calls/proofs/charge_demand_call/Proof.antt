@@ -1,7 +1,7 @@
 use borrow.Author.Needs.{needs}
 use Rattle.calls.specs.Calls.{callLength, chargeDemandCall}
 use mathlib.Core.Path.{refl}
-use Rattle.floats.proofs.Branch.{via-true, via-false}
+use Rattle.logic.proofs.Branch.{via-true, via-false}
 use Rattle.calls.proofs.charge_demand_call.Statement.{statement}
 use Rattle.calls.proofs.charge_demand_call.Tie as tie
 

@@ -1,6 +1,6 @@
 use Rattle.calls.specs.Calls.{callLength, demandCall}
 use mathlib.Core.Path.{refl}
-use Rattle.floats.proofs.Branch.{via-true, via-false}
+use Rattle.logic.proofs.Branch.{via-true, via-false}
 use borrow.Author.Needs.{needs}
 use Rattle.calls.proofs.demand_call.Statement.{statement}
 use Rattle.calls.proofs.demand_call.Tie as tie

@@ -12,15 +12,12 @@ is-capacity-requires-2 c κs = search needs
 is-capacity-requires-3 : tie.Need-is-capacity-requires-3
 is-capacity-requires-3 c κs = search needs
 
-both-requires : tie.Need-both-requires
-both-requires c κs = search needs
-
-both-requires-2 : tie.Need-both-requires-2
-both-requires-2 c κs = search needs
+all-three-requires : tie.Need-all-three-requires
+all-three-requires c κs = search needs
 
 returns : tie.Need-returns
 unfolding capacitiesInRange
-returns c = rw (← (c .before .before .before .before .is-capacity .ensures), ← (c .before .before .before .is-capacity2 .ensures), ← (c .before .before .is-capacity3 .ensures), ← (c .before .both .ensures), ← (c .both2 .ensures))
+returns c = rw (← (c .before .before .before .is-capacity .ensures), ← (c .before .before .is-capacity2 .ensures), ← (c .before .is-capacity3 .ensures), ← (c .all-three .ensures))
 
 pub capacities-in-range-spec : {M : Type 1} → statement M
 capacities-in-range-spec =
@@ -29,6 +26,5 @@ capacities-in-range-spec =
     is-capacity-requires
     is-capacity-requires-2
     is-capacity-requires-3
-    both-requires
-    both-requires-2
+    all-three-requires
     returns)

@@ -21,24 +21,12 @@ exchanger-in-range-requires c κs = search needs
 powers-in-range-requires : tie.Need-powers-in-range-requires
 powers-in-range-requires c κs = search needs
 
-both-requires : tie.Need-both-requires
-both-requires c κs = search needs
-
-both-requires-2 : tie.Need-both-requires-2
-both-requires-2 c κs = search needs
-
-both-requires-3 : tie.Need-both-requires-3
-both-requires-3 c κs = search needs
-
-both-requires-4 : tie.Need-both-requires-4
-both-requires-4 c κs = search needs
-
-both-requires-5 : tie.Need-both-requires-5
-both-requires-5 c κs = search needs
+all-six-requires : tie.Need-all-six-requires
+all-six-requires c κs = search needs
 
 returns : tie.Need-returns
 unfolding cardInRange
-returns c = rw (← (c .before .before .before .before .before .before .before .before .before .before .counts-in-range .ensures), ← (c .before .before .before .before .before .before .before .before .before .times-in-range .ensures), ← (c .before .before .before .before .before .before .before .before .temperatures-in-range .ensures), ← (c .before .before .before .before .before .before .before .capacities-in-range .ensures), ← (c .before .before .before .before .before .before .exchanger-in-range .ensures), ← (c .before .before .before .before .before .powers-in-range .ensures), ← (c .before .before .before .before .both .ensures), ← (c .before .before .before .both2 .ensures), ← (c .before .before .both3 .ensures), ← (c .before .both4 .ensures), ← (c .both5 .ensures))
+returns c = rw (← (c .before .before .before .before .before .before .counts-in-range .ensures), ← (c .before .before .before .before .before .times-in-range .ensures), ← (c .before .before .before .before .temperatures-in-range .ensures), ← (c .before .before .before .capacities-in-range .ensures), ← (c .before .before .exchanger-in-range .ensures), ← (c .before .powers-in-range .ensures), ← (c .all-six .ensures))
 
 pub card-in-range-spec : {M : Type 1} → statement M
 card-in-range-spec =
@@ -50,9 +38,5 @@ card-in-range-spec =
     capacities-in-range-requires
     exchanger-in-range-requires
     powers-in-range-requires
-    both-requires
-    both-requires-2
-    both-requires-3
-    both-requires-4
-    both-requires-5
+    all-six-requires
     returns)

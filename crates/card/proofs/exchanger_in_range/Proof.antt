@@ -18,21 +18,12 @@ is-coefficient-requires-2 c κs = search needs
 is-flow-requires : tie.Need-is-flow-requires
 is-flow-requires c κs = search needs
 
-both-requires : tie.Need-both-requires
-both-requires c κs = search needs
-
-both-requires-2 : tie.Need-both-requires-2
-both-requires-2 c κs = search needs
-
-both-requires-3 : tie.Need-both-requires-3
-both-requires-3 c κs = search needs
-
-both-requires-4 : tie.Need-both-requires-4
-both-requires-4 c κs = search needs
+all-five-requires : tie.Need-all-five-requires
+all-five-requires c κs = search needs
 
 returns : tie.Need-returns
 unfolding exchangerInRange
-returns c = rw (← (c .before .before .before .before .before .before .before .before .is-velocity .ensures), ← (c .before .before .before .before .before .before .before .is-diameter .ensures), ← (c .before .before .before .before .before .before .is-coefficient .ensures), ← (c .before .before .before .before .before .is-coefficient2 .ensures), ← (c .before .before .before .before .is-flow .ensures), ← (c .before .before .before .both .ensures), ← (c .before .before .both2 .ensures), ← (c .before .both3 .ensures), ← (c .both4 .ensures))
+returns c = rw (← (c .before .before .before .before .before .is-velocity .ensures), ← (c .before .before .before .before .is-diameter .ensures), ← (c .before .before .before .is-coefficient .ensures), ← (c .before .before .is-coefficient2 .ensures), ← (c .before .is-flow .ensures), ← (c .all-five .ensures))
 
 pub exchanger-in-range-spec : {M : Type 1} → statement M
 exchanger-in-range-spec =
@@ -43,8 +34,5 @@ exchanger-in-range-spec =
     is-coefficient-requires
     is-coefficient-requires-2
     is-flow-requires
-    both-requires
-    both-requires-2
-    both-requires-3
-    both-requires-4
+    all-five-requires
     returns)

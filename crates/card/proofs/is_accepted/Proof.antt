@@ -23,36 +23,21 @@ exchanger-in-range-requires c κs = search needs
 powers-in-range-requires : tie.Need-powers-in-range-requires
 powers-in-range-requires c κs = search needs
 
+all-six-requires : tie.Need-all-six-requires
+all-six-requires c κs = search needs
+
 both-requires : tie.Need-both-requires
 both-requires c κs = search needs
 
-both-requires-2 : tie.Need-both-requires-2
-both-requires-2 c κs = search needs
-
-both-requires-3 : tie.Need-both-requires-3
-both-requires-3 c κs = search needs
-
-both-requires-4 : tie.Need-both-requires-4
-both-requires-4 c κs = search needs
-
-both-requires-5 : tie.Need-both-requires-5
-both-requires-5 c κs = search needs
-
-both-requires-6 : tie.Need-both-requires-6
-both-requires-6 c κs = search needs
-
-both-requires-7 : tie.Need-both-requires-7
-both-requires-7 c κs = search needs
-
-both-requires-8 : tie.Need-both-requires-8
-both-requires-8 c κs = search needs
+all-three-requires : tie.Need-all-three-requires
+all-three-requires c κs = search needs
 
 -- k: max, ref and the fields after them fit their formats
 returns : tie.Need-returns
 unfolding cardInRange
 returns c =
-    let k = c .before .before .before .before .before .struct-known .given .1 .1 .1 .1 .1 .1 .1 .1 in
-    rw (c .both8 .ensures, c .before .both7 .ensures, c .before .before .before .both6 .ensures, c .before .before .before .before .before .before .both5 .ensures, c .before .before .before .before .before .before .before .both4 .ensures, c .before .before .before .before .before .before .before .before .both3 .ensures, c .before .before .before .before .before .before .before .before .before .both2 .ensures, c .before .before .before .before .before .before .before .before .before .before .both .ensures, c .before .before .before .before .before .before .before .before .before .before .before .powers-in-range .ensures, c .before .before .before .before .before .before .before .before .before .before .before .before .exchanger-in-range .ensures, c .before .before .before .before .before .before .before .before .before .before .before .before .before .capacities-in-range .ensures, c .before .before .before .before .before .before .before .before .before .before .before .before .before .before .temperatures-in-range .ensures, c .before .before .before .before .before .before .before .before .before .before .before .before .before .before .before .times-in-range .ensures, c .before .before .before .before .before .before .before .before .before .before .before .before .before .before .before .before .counts-in-range .ensures) (sym (accepted-is _ (k .0) (k .1 .0) _))
+    let k = c .before .before .before .before .struct-known .given .1 .1 .1 .1 .1 .1 .1 .1 in
+    rw (c .all-three .ensures, c .before .before .both .ensures, c .before .before .before .before .before .all-six .ensures, c .before .before .before .before .before .before .powers-in-range .ensures, c .before .before .before .before .before .before .before .exchanger-in-range .ensures, c .before .before .before .before .before .before .before .before .capacities-in-range .ensures, c .before .before .before .before .before .before .before .before .before .temperatures-in-range .ensures, c .before .before .before .before .before .before .before .before .before .before .times-in-range .ensures, c .before .before .before .before .before .before .before .before .before .before .before .counts-in-range .ensures) (sym (accepted-is _ (k .0) (k .1 .0) _))
 
 pub is-accepted-spec : {M : Type 1} → statement M
 is-accepted-spec =
@@ -64,12 +49,7 @@ is-accepted-spec =
     capacities-in-range-requires
     exchanger-in-range-requires
     powers-in-range-requires
+    all-six-requires
     both-requires
-    both-requires-2
-    both-requires-3
-    both-requires-4
-    both-requires-5
-    both-requires-6
-    both-requires-7
-    both-requires-8
+    all-three-requires
     returns)

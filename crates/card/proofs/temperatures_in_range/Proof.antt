@@ -12,11 +12,8 @@ is-temperature-requires-2 c κs = search needs
 is-temperature-requires-3 : tie.Need-is-temperature-requires-3
 is-temperature-requires-3 c κs = search needs
 
-both-requires : tie.Need-both-requires
-both-requires c κs = search needs
-
-both-requires-2 : tie.Need-both-requires-2
-both-requires-2 c κs = search needs
+all-three-requires : tie.Need-all-three-requires
+all-three-requires c κs = search needs
 
 is-temperature-requires-4 : tie.Need-is-temperature-requires-4
 is-temperature-requires-4 c κs = search needs
@@ -30,21 +27,12 @@ is-temperature-requires-6 c κs = search needs
 is-temperature-requires-7 : tie.Need-is-temperature-requires-7
 is-temperature-requires-7 c κs = search needs
 
-both-requires-3 : tie.Need-both-requires-3
-both-requires-3 c κs = search needs
-
-both-requires-4 : tie.Need-both-requires-4
-both-requires-4 c κs = search needs
-
-both-requires-5 : tie.Need-both-requires-5
-both-requires-5 c κs = search needs
-
-both-requires-6 : tie.Need-both-requires-6
-both-requires-6 c κs = search needs
+all-five-requires : tie.Need-all-five-requires
+all-five-requires c κs = search needs
 
 returns : tie.Need-returns
 unfolding temperaturesInRange
-returns c = rw (← (c .before .before .before .before .before .before .before .before .before .before .before .before .is-temperature .ensures), ← (c .before .before .before .before .before .before .before .before .before .before .before .is-temperature2 .ensures), ← (c .before .before .before .before .before .before .before .before .before .before .is-temperature3 .ensures), ← (c .before .before .before .before .before .before .before .before .before .both .ensures), ← (c .before .before .before .before .before .before .before .before .both2 .ensures), ← (c .before .before .before .before .before .before .before .is-temperature4 .ensures), ← (c .before .before .before .before .before .before .is-temperature5 .ensures), ← (c .before .before .before .before .before .is-temperature6 .ensures), ← (c .before .before .before .before .is-temperature7 .ensures), ← (c .before .before .before .both3 .ensures), ← (c .before .before .both4 .ensures), ← (c .before .both5 .ensures), ← (c .both6 .ensures))
+returns c = rw (← (c .before .before .before .before .before .before .before .before .is-temperature .ensures), ← (c .before .before .before .before .before .before .before .is-temperature2 .ensures), ← (c .before .before .before .before .before .before .is-temperature3 .ensures), ← (c .before .before .before .before .before .all-three .ensures), ← (c .before .before .before .before .is-temperature4 .ensures), ← (c .before .before .before .is-temperature5 .ensures), ← (c .before .before .is-temperature6 .ensures), ← (c .before .is-temperature7 .ensures), ← (c .all-five .ensures))
 
 pub temperatures-in-range-spec : {M : Type 1} → statement M
 temperatures-in-range-spec =
@@ -53,14 +41,10 @@ temperatures-in-range-spec =
     is-temperature-requires
     is-temperature-requires-2
     is-temperature-requires-3
-    both-requires
-    both-requires-2
+    all-three-requires
     is-temperature-requires-4
     is-temperature-requires-5
     is-temperature-requires-6
     is-temperature-requires-7
-    both-requires-3
-    both-requires-4
-    both-requires-5
-    both-requires-6
+    all-five-requires
     returns)

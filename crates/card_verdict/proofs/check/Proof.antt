@@ -1,5 +1,5 @@
 use mathlib.Core.Path.{refl}
-use Rattle.floats.proofs.Branch.{via-true, via-false}
+use Rattle.logic.proofs.Branch.{via-true, via-false}
 use Rattle.card.specs.Card.{cardVerdict}
 use borrow.Author.Needs.{needs}
 use Rattle.card_verdict.proofs.check.Statement.{statement}

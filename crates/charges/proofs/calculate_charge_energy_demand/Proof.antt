@@ -1,5 +1,5 @@
 use mathlib.Core.Path.{refl}
-use Rattle.floats.proofs.Branch.{via-true, via-false}
+use Rattle.logic.proofs.Branch.{via-true, via-false}
 use Rattle.runs.specs.Charge.{chargeEnergyDemand}
 use borrow.Author.Needs.{needs}
 use Rattle.charges.proofs.calculate_charge_energy_demand.Statement.{statement}

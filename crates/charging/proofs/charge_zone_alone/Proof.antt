@@ -1,6 +1,6 @@
 use mathlib.Core.Path.{refl}
 use lib.Ieee.{ofBits, lt, eq, le}
-use Rattle.floats.proofs.Branch.{via-true, via-false}
+use Rattle.logic.proofs.Branch.{via-true, via-false}
 use Rattle.charging.specs.Charging.{zoneSimultaneousCharging}
 use borrow.Author.Needs.{needs}
 use Rattle.charging.proofs.charge_zone_alone.Statement.{statement}

@@ -3,14 +3,14 @@ use mathlib.Core.Bool.{true, false, not}
 use lib.Dec.{T}
 use lib.Ieee.{Float, nan, inf, fin, binary64, toBits, eq, ne, isNan}
 use lib.Ieee.Compare.{differs-from-itself}
-use Rattle.codec.proofs.Laws.{ft}
 use borrow.Author.Needs.{needs}
+use Rattle.logic.proofs.Tests.{no-both}
 use Rattle.codec.proofs.bits_of.Statement.{statement}
 use Rattle.codec.proofs.bits_of.Tie as tie
 
 not-nan : (x : Float) → eq x x ≡ true → T (not (isNan x))
 unfolding eq isNan
-not-nan nan h = ft h
+not-nan nan h = no-both (sym h)
 not-nan (inf s) h = tt
 not-nan (fin s m e) h = tt
 

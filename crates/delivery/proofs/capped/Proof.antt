@@ -1,5 +1,5 @@
 use mathlib.Core.Path.{refl}
-use Rattle.floats.proofs.Branch.{via-true, via-false}
+use Rattle.logic.proofs.Branch.{via-true, via-false}
 use Rattle.delivery.specs.Demand.{capped}
 use Rattle.delivery.proofs.capped.Statement.{statement}
 use Rattle.delivery.proofs.capped.Tie as tie

@@ -1,5 +1,5 @@
 use mathlib.Core.Path.{refl}
-use Rattle.floats.proofs.Branch.{via-true, via-false}
+use Rattle.logic.proofs.Branch.{via-true, via-false}
 use Rattle.delivery.specs.Demand.{cut}
 use Rattle.delivery.proofs.cut.Statement.{statement}
 use Rattle.delivery.proofs.cut.Tie as tie

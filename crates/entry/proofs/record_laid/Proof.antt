@@ -1,6 +1,6 @@
 use mathlib.Core.Path.{refl}
 use borrow.Author.Tests.{eq-eqb, ne-eqb, le-leb, lt-leb}
-use Rattle.floats.proofs.Branch.{via-true, via-false}
+use Rattle.logic.proofs.Branch.{via-true, via-false}
 use Rattle.entry.specs.Entry.{recordLaid}
 use borrow.Author.Needs.{needs}
 use Rattle.entry.proofs.record_laid.Statement.{statement}

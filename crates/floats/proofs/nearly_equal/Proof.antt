@@ -1,5 +1,5 @@
 use mathlib.Core.Path.{refl}
-use Rattle.floats.proofs.Branch.{via-true, via-false}
+use Rattle.logic.proofs.Branch.{via-true, via-false}
 use Rattle.floats.specs.Standins.{nearlyEqual}
 use borrow.Author.Needs.{needs}
 use Rattle.floats.proofs.nearly_equal.Statement.{statement}

@@ -2,7 +2,7 @@ use mathlib.Core.Path.{refl}
 use native.Mathlib.Omega.{arith}
 use borrow.Author.Needs.{needs}
 use borrow.Author.Tests.{le-leb, lt-leb}
-use Rattle.floats.proofs.Branch.{via-true, via-false}
+use Rattle.logic.proofs.Branch.{via-true, via-false}
 use Rattle.front.specs.Front.{headOk}
 use Rattle.front.proofs.Fronts.{size-is}
 use Rattle.front.proofs.head_ok.Statement.{statement}

@@ -2,7 +2,7 @@ use mathlib.Core.Path.{refl, sym, _∙_, ap}
 use native.Mathlib.Omega.{arith}
 use borrow.Author.Needs.{needs}
 use Rattle.front.proofs.Fronts.{front, head-in-answer, answer-long, call-slice, answer-slice, fits-slice}
-use Rattle.floats.proofs.Branch.{via-true, via-false}
+use Rattle.logic.proofs.Branch.{via-true, via-false}
 use Rattle.calls.specs.Calls.{callOf}
 use Rattle.sheet.specs.Answers.{marksOk}
 use Rattle.front.specs.Front.{lineCall}

@@ -1,5 +1,5 @@
 use mathlib.Core.Path.{refl}
-use Rattle.floats.proofs.Branch.{via-true, via-false}
+use Rattle.logic.proofs.Branch.{via-true, via-false}
 use Rattle.runs.specs.Hydronic.{limitReached}
 use borrow.Author.Needs.{needs}
 use Rattle.hydronic.proofs.limit_reached.Statement.{statement}

@@ -1,6 +1,6 @@
 use Rattle.runs.proofs.InPlace.{as-defined}
 use Rattle.runs.proofs.WetTurns.{replayed-turn}
-use Rattle.floats.proofs.Branch.{via-true}
+use Rattle.logic.proofs.Branch.{via-true}
 use borrow.Author.Tests.{eq-eqb}
 use Rattle.runs.specs.Hydronic.{replayed, wetDrive}
 use mathlib.Core.Path.{refl, ap}

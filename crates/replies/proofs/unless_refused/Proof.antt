@@ -1,4 +1,4 @@
-use Rattle.floats.proofs.Branch.{via-true, via-false}
+use Rattle.logic.proofs.Branch.{via-true, via-false}
 use Rattle.battery.proofs.Answers.{numbers-decide}
 use borrow.Author.Tests.{eq-eqb, ne-eqb}
 use Rattle.replies.specs.Replies.{checked, unlessRefused}

@@ -1,5 +1,5 @@
 use Rattle.substep.proofs.Passes.{all-finite}
-use Rattle.floats.proofs.Branch.{via-true, via-false}
+use Rattle.logic.proofs.Branch.{via-true, via-false}
 use mathlib.Core.Path.{refl, sym, _∙_}
 use borrow.Author.Needs.{needs}
 use Rattle.substep.proofs.pass_fault.Statement.{statement}

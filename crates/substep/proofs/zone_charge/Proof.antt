@@ -1,5 +1,5 @@
 use mathlib.Core.Path.{refl}
-use Rattle.floats.proofs.Branch.{via-true, via-false}
+use Rattle.logic.proofs.Branch.{via-true, via-false}
 use Rattle.substep.specs.Substep.{zoneCharge}
 use borrow.Author.Needs.{needs}
 use Rattle.substep.proofs.zone_charge.Statement.{statement}

@@ -1,5 +1,5 @@
 use mathlib.Core.Path.{refl}
-use Rattle.floats.proofs.Branch.{via-true, via-false}
+use Rattle.logic.proofs.Branch.{via-true, via-false}
 use Rattle.update.specs.Update.{deliveringFromAbove}
 use Rattle.update.proofs.delivering_from_above.Statement.{statement}
 use Rattle.update.proofs.delivering_from_above.Tie as tie

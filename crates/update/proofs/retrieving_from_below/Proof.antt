@@ -1,5 +1,5 @@
 use mathlib.Core.Path.{refl}
-use Rattle.floats.proofs.Branch.{via-true, via-false}
+use Rattle.logic.proofs.Branch.{via-true, via-false}
 use Rattle.update.specs.Update.{retrievingFromBelow}
 use Rattle.update.proofs.retrieving_from_below.Statement.{statement}
 use Rattle.update.proofs.retrieving_from_below.Tie as tie

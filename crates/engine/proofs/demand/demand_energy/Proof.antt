@@ -1,5 +1,5 @@
 use mathlib.Core.List.{[]}
-use Rattle.floats.proofs.Branch.{via-true, via-false}
+use Rattle.logic.proofs.Branch.{via-true, via-false}
 use Rattle.replies.specs.Replies.{checked}
 use Rattle.engine.specs.Steps.{demandEnergy}
 use Rattle.replies.proofs.Settled.{plain-refusal, plain-with}

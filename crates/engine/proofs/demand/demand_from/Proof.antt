@@ -1,4 +1,4 @@
-use Rattle.floats.proofs.Branch.{via-true, via-false}
+use Rattle.logic.proofs.Branch.{via-true, via-false}
 use Rattle.engine.specs.Steps.{demandFrom}
 use Rattle.replies.proofs.Settled.{settled-refusal}
 use mathlib.Core.Path.{refl}

@@ -1,5 +1,5 @@
 use mathlib.Core.Path.{refl}
-use Rattle.floats.proofs.Branch.{via-true, via-false}
+use Rattle.logic.proofs.Branch.{via-true, via-false}
 use Rattle.engine.specs.Steps.{demandPower}
 use borrow.Author.Needs.{needs}
 use Rattle.engine.proofs.demand.demand_power.Statement.{statement}

@@ -1,4 +1,4 @@
-use Rattle.floats.proofs.Branch.{via-true, via-false}
+use Rattle.logic.proofs.Branch.{via-true, via-false}
 use Rattle.battery.specs.Ledger.{whole}
 use Rattle.battery.specs.Battery.{batteryAccepted}
 use Rattle.engine.specs.Steps.{advanceOf}

@@ -1,5 +1,5 @@
 use mathlib.Core.Path.{refl}
-use Rattle.floats.proofs.Branch.{via-true, via-false}
+use Rattle.logic.proofs.Branch.{via-true, via-false}
 use Rattle.zone.specs.Layer.{zoneEnergyRequired}
 use Rattle.zone.proofs.layer.calculate_zone_energy_required.Statement.{statement}
 use Rattle.zone.proofs.layer.calculate_zone_energy_required.Tie as tie

@@ -1,5 +1,5 @@
 use mathlib.Core.Path.{refl}
-use Rattle.floats.proofs.Branch.{via-true, via-false}
+use Rattle.logic.proofs.Branch.{via-true, via-false}
 use Rattle.zone.specs.Layer.{socToTemp}
 use borrow.Author.Needs.{needs}
 use Rattle.zone.proofs.layer.soc_to_temp.Statement.{statement}

@@ -1,5 +1,5 @@
 use mathlib.Core.Path.{refl}
-use Rattle.floats.proofs.Branch.{via-true, via-false}
+use Rattle.logic.proofs.Branch.{via-true, via-false}
 use Rattle.zone.specs.Layer.{tempAt}
 use Rattle.zone.proofs.layer.temp_at.Statement.{statement}
 use Rattle.zone.proofs.layer.temp_at.Tie as tie
