@@ -23,7 +23,8 @@ use Rattle.sheet.proofs.Lengths.{length-answerBytes}
 use Rattle.sheet.proofs.AnswerBack.{answer-back, marks-written}
 use Rattle.sheet.proofs.Agreement.{agrees-self}
 use Rattle.sheet.proofs.Good.{good-layers}
-use Rattle.calls.proofs.CallLaws.{call-length, call-short}
+use Rattle.calls.proofs.CallLaws.{call-length}
+use Rattle.calls.proofs.Places.{call-short}
 use Rattle.sheet.proofs.LineLaws.{line-fits}
 use Rattle.heat_battery.specs.Lists.{answerRead, answerTo, stepLines}
 use Rattle.heat_battery.proofs.GoodAnswers.{answer-good}

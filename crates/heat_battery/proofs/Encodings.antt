@@ -24,7 +24,8 @@ use Rattle.calls.specs.declared.ReadCall.the-variants.{Good}
 use Rattle.sheet.proofs.Lengths.{length-lineBytes}
 use Rattle.sheet.proofs.Good.{good-layers}
 use Rattle.sheet.proofs.AnswerBack.{record-back, card-front}
-use Rattle.calls.proofs.CallLaws.{call-length, call-short}
+use Rattle.calls.proofs.CallLaws.{call-length}
+use Rattle.calls.proofs.Places.{call-short}
 use Rattle.sheet.proofs.LineLaws.{line-fits, line-says, line-behind}
 use Rattle.entry.specs.Entry.{After, unchanged, renewed, entered}
 use Rattle.heat_battery.specs.Entries.{entryOf}

@@ -25,39 +25,6 @@ use Rattle.sheet.proofs.Back.{state-back}
 
 -- ---- a record
 
--- a card is read from its own bytes, whatever stands behind them
-pub card-front : (version : ℕ) (card r : List ℕ) → length card ≡ cardLength version → cardAt version (card ++ r) ≡ cardAt version card
-unfolding cardAt cardLength
-card-front version card r h =
-    let byte : (i : ℕ) → i < 158 → getD (card ++ r) i 0 ≡ getD card i 0 = λ i l. List·getD-append card r 0 i (omega arith) in
-    let two : (at : ℕ) → at + 2 ≤ 158 → beAt (card ++ r) at 2 ≡ beAt card at 2 = λ at l. ap be (in-front card r at 2 (omega arith)) in
-    let f : (k : ℕ) → k < 19 → nthF64 (card ++ r) 6 k ≡ nthF64 card 6 k = λ k l. ap f64Of (in-front card r (6 + 8 * k) 8 (omega arith)) in
-    λ i. record {
-      layers = byte 0 (omega arith) i;
-      units = two 1 (omega arith) i;
-      simultaneous = byte 3 (omega arith) i;
-      budget = two 4 (omega arith) i;
-      substep = f 0 (omega arith) i;
-      timestep = f 1 (omega arith) i;
-      inlet = f 2 (omega arith) i;
-      outlet = f 3 (omega arith) i;
-      max = f 4 (omega arith) i;
-      reference = f 5 (omega arith) i;
-      lower = f 6 (omega arith) i;
-      upper = f 7 (omega arith) i;
-      below = f 8 (omega arith) i;
-      during = f 9 (omega arith) i;
-      above = f 10 (omega arith) i;
-      velocity = f 11 (omega arith) i;
-      diameter = f 12 (omega arith) i;
-      a = f 13 (omega arith) i;
-      b = f 14 (omega arith) i;
-      flow = f 15 (omega arith) i;
-      losses = f 16 (omega arith) i;
-      start = f 17 (omega arith) i;
-      power = f 18 (omega arith) i;
-    }
-
 -- the battery comes back from a record with its card's bytes
 pub record-back : (version : ℕ) (card : List ℕ) (b : Battery) → length card ≡ cardLength version → cardAt version card ≡ b .card → GoodBattery version b
     → recordOf version (recordBytes version card b) ≡ b

@@ -6,7 +6,8 @@ use lib.ListN.{length, getD}
 use Rattle.battery.specs.declared.Call.{Call}
 use Rattle.calls.specs.Calls.{callOf}
 use Rattle.calls.specs.declared.ReadCall.the-variants.{Good}
-use Rattle.calls.proofs.CallLaws.{call-length, call-short}
+use Rattle.calls.proofs.CallLaws.{call-length}
+use Rattle.calls.proofs.Places.{call-short}
 use Rattle.engine.proofs.AdvanceKeeps.{advance-keeps-card}
 use Rattle.card.proofs.Accepted.{accepted-layers}
 use Rattle.battery.specs.declared.Battery.{Battery}
