@@ -16,6 +16,7 @@ use Rattle.battery.specs.declared.Battery.{Battery}
 use Rattle.battery.specs.declared.Answer.{Answer}
 use Rattle.battery.specs.Battery.{GoodBattery}
 use Rattle.records.specs.Cards.{cardLength, cardAt}
+use Rattle.records.proofs.CardLaws.{card-length-front, card-at-front}
 use Rattle.records.specs.Records.{stateAt, stateBytes, recordOf, recordBytes}
 use Rattle.calls.specs.Calls.{markOk}
 use Rattle.sheet.specs.Answers.{headLength, headBytes, answerAt, answerBytes, marksOk, GoodAnswer}
@@ -26,13 +27,15 @@ use Rattle.sheet.proofs.Back.{state-back}
 -- ---- a record
 
 -- the battery comes back from a record with its card's bytes
-pub record-back : (version : ℕ) (card : List ℕ) (b : Battery) → length card ≡ cardLength version → cardAt version card ≡ b .card → GoodBattery version b
+pub record-back : (version : ℕ) (card : List ℕ) (b : Battery) → length card ≡ cardLength version card → cardAt version card ≡ b .card → GoodBattery version b
     → recordOf version (recordBytes version card b) ≡ b
 unfolding recordOf recordBytes
 record-back version card b h e g =
-    let c : cardAt version (card ++ stateBytes version b) ≡ b .card = card-front version card (stateBytes version b) h ∙ e in
+    let long : cardLength version card ≤ length card = omega arith in
+    let n : cardLength version (card ++ stateBytes version b) ≡ cardLength version card = card-length-front version card (stateBytes version b) long in
+    let c : cardAt version (card ++ stateBytes version b) ≡ b .card = card-at-front version card (stateBytes version b) long ∙ e in
     let m : card ++ stateBytes version b ≡ card ++ (stateBytes version b ++ []) = simp append-nil in
-    rw (c, m) (state-back version b card [] (cardLength version) g h)
+    rw (n, c, m) (state-back version b card [] (cardLength version card) g h)
 
 -- ---- an answer
 
