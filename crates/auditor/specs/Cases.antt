@@ -1,7 +1,7 @@
 -- Each of 40 to 44 'is given only in its case': the cases, in the words of a sheet, and which verdicts there are.
 use Prim.Native.Nat.{ℕ, _≤_}
 use mathlib.Core.Path.{_≡_}
-use mathlib.Core.Bool.{false}
+use mathlib.Core.Bool.{true, false}
 use mathlib.Core.Logic.{_⊎_}
 use mathlib.Core.List.{List, _∷_, _++_}
 use lib.ListN.{length}

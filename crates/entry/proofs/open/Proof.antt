@@ -29,7 +29,7 @@ refusal-requires c κs = search needs
 returns-2 : tie.Need-returns-2
 returns-2 c =
     let s = c .before .before .before .before .before .before .before .before .args in
-    let e : c .before .refusal .result ≡ cardRefusal 1 (cardAt (s .version) (s .card .now)) = c .before .refusal .ensures ∙ ap (cardRefusal (s .version)) (c .before .before .read-card .ensures) in
+    let e : c .before .refusal .result ≡ cardRefusal (s .version) (cardAt (s .version) (s .card .now)) = c .before .refusal .ensures ∙ ap (cardRefusal (s .version)) (c .before .before .read-card .ensures) in
     rw (open-card (s .version) (s .card .now) (s .«record» .now) (s .sheet .now) (c .before .before .before .if1 .left ∙ c .before .before .before .before .card-length .ensures) (λ z. c .if2 .taken (e ∙ z)))
     (record { code-is = e; record-is = refl; sheet-is = refl })
 
@@ -68,7 +68,7 @@ fresh-requires c κs = accepted-layers _ (c .before .before .before .before .bef
 put-record-requires : tie.Need-put-record-requires
 unfolding fresh recordLength
 put-record-requires c κs =
-    let s = c .before .before .before .before .before .before .before .before .before .before .before .before .before .args in
+    let s = c .before .before .before .before .before .before .before .before .before .before .before .before .before .before .args in
     let read = c .before .before .before .before .before .before .before .before .read-card in
     let e : c .before .fresh .result .card ≡ read .result = ap (λ (x : Battery). x .card) (c .before .fresh .ensures) in
     let l : stateLength (s .version) (c .before .fresh .result .card) ≡ stateLength (s .version) (cardAt (s .version) (s .card .now)) = ap (stateLength (s .version)) (e ∙ read .ensures) in (
