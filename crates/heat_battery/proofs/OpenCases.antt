@@ -19,8 +19,8 @@ use Rattle.heat_battery.proofs.CardCases.{CardWay, out-of-range, lower-
 
 -- which way opening goes
 data OpenWay (version : ℕ) (card rec free : List ℕ) (a : After) : Type 0 where
-  other-card : (length card ≡ cardLength version → ⊥) → a ≡ unchanged 1 rec free → OpenWay version card rec free a
-  refused : length card ≡ cardLength version → (cardRefusal version (cardAt version card) ≡ 0 → ⊥) → a ≡ unchanged (cardRefusal version (cardAt version card)) rec free
+  other-card : (length card ≡ cardLength version card → ⊥) → a ≡ unchanged 1 rec free → OpenWay version card rec free a
+  refused : length card ≡ cardLength version card → (cardRefusal version (cardAt version card) ≡ 0 → ⊥) → a ≡ unchanged (cardRefusal version (cardAt version card)) rec free
       → OpenWay version card rec free a
   other-record : OpenCase10 version card rec → a ≡ unchanged 10 rec free → OpenWay version card rec free a
   no-room : OpenCase11 version card rec free → a ≡ unchanged 11 rec free → OpenWay version card rec free a
@@ -30,19 +30,19 @@ data OpenWay (version : ℕ) (card rec free : List ℕ) (a : After) : Type 0 whe
 
 open-way : (version : ℕ) (card rec free : List ℕ) → OpenWay version card rec free (openOf version card rec free)
 open-way version card rec free =
-    on (ℕ-discrete (length card) (cardLength version)) (ℕ-discrete (cardRefusal version c) 0) (ℕ-discrete (length rec) (recordLength version c)) (decLe (openingLength version) (length free))
+    on (ℕ-discrete (length card) (cardLength version card)) (ℕ-discrete (cardRefusal version c) 0) (ℕ-discrete (length rec) (recordLength version card)) (decLe (openingLength version card) (length free))
   where
     c : Card
     c = cardAt version card
 
-    on : Dec (length card ≡ cardLength version) → Dec (cardRefusal version c ≡ 0) → Dec (length rec ≡ recordLength version c) → Dec (openingLength version ≤ length free)
+    on : Dec (length card ≡ cardLength version card) → Dec (cardRefusal version c ≡ 0) → Dec (length rec ≡ recordLength version card) → Dec (openingLength version card ≤ length free)
         → OpenWay version card rec free (openOf version card rec free)
     on (no l) a k r = other-card l (open-length version card rec free l)
     on (yes l) (no a) k r = refused l a (open-card version card rec free l a)
     on (yes l) (yes a) (no k) r =
         other-record (record { card-good = record { long = l; accepted = a }; other-length = k }) (open-record version card rec free l a k)
     on (yes l) (yes a) (yes k) (no r) =
-        let h : length free < openingLength version = omega arith in
+        let h : length free < openingLength version card = omega arith in
         no-room (record { card-good = record { long = l; accepted = a }; long = k; no-room = h }) (open-room version card rec free l a k h)
     on (yes l) (yes a) (yes k) (yes r) =
         opens (record { card-good = record { long = l; accepted = a }; long = k; room = r }) (opened version card rec free l a k r)
@@ -58,17 +58,17 @@ module _ (version : ℕ) (card rec free : List ℕ) where
   o = openOf version card rec free
 
   -- a number from 1 to 4 is the card's
-  by-card : o .code ≤ 4 → (o .code ≡ 0 → ⊥) → ((length card ≡ cardLength version → ⊥) × (o .code ≡ 1)) ⊎ ((length card ≡ cardLength version) × (cardRefusal version c ≡ o .code))
+  by-card : o .code ≤ 4 → (o .code ≡ 0 → ⊥) → ((length card ≡ cardLength version card → ⊥) × (o .code ≡ 1)) ⊎ ((length card ≡ cardLength version card) × (cardRefusal version c ≡ o .code))
   by-card h z = on (open-way version card rec free)
     where
-      on : OpenWay version card rec free o → ((length card ≡ cardLength version → ⊥) × (o .code ≡ 1)) ⊎ ((length card ≡ cardLength version) × (cardRefusal version c ≡ o .code))
+      on : OpenWay version card rec free o → ((length card ≡ cardLength version card → ⊥) × (o .code ≡ 1)) ⊎ ((length card ≡ cardLength version card) × (cardRefusal version c ≡ o .code))
       on (other-card l e) = inl (l, code-of o (unchanged 1 rec free) e)
       on (refused l a e) = inr (l, sym (code-of o (unchanged (cardRefusal version c) rec free) e))
       on (other-record x e) = let n = code-of o (unchanged 10 rec free) e in absurd (omega arith)
       on (no-room x e) = let n = code-of o (unchanged 11 rec free) e in absurd (omega arith)
       on (opens x e) = absurd (z (code-of o (openedWith version card free) e))
 
-  card-code : length card ≡ cardLength version → (cardRefusal version c ≡ 0 → ⊥) → o .code ≡ cardRefusal version c
+  card-code : length card ≡ cardLength version card → (cardRefusal version c ≡ 0 → ⊥) → o .code ≡ cardRefusal version c
   card-code l h = code-of o (unchanged (cardRefusal version c) rec free) (open-card version card rec free l h)
 
   pub open-1 : (openOf version card rec free .code ≡ 1) ↔ OpenCase1 version card
@@ -81,29 +81,29 @@ module _ (version : ℕ) (card rec free : List ℕ) where
       by h (nothing k l m s e) = absurd (omega arith)
       by h (accepted e) = absurd (omega arith)
 
-      on : o .code ≡ 1 → ((length card ≡ cardLength version → ⊥) × (o .code ≡ 1)) ⊎ ((length card ≡ cardLength version) × (cardRefusal version c ≡ o .code)) → OpenCase1 version card
+      on : o .code ≡ 1 → ((length card ≡ cardLength version card → ⊥) × (o .code ≡ 1)) ⊎ ((length card ≡ cardLength version card) × (cardRefusal version c ≡ o .code)) → OpenCase1 version card
       on h (inl x) = inl (x .0)
       on h (inr x) = by (x .1 ∙ h) (card-way version c)
 
-      long : cardInRange c ≡ false → Dec (length card ≡ cardLength version) → o .code ≡ 1
+      long : cardInRange c ≡ false → Dec (length card ≡ cardLength version card) → o .code ≡ 1
       long k (yes l) = let r = card-1 version c k in card-code l (λ z. omega arith) ∙ r
       long k (no l) = code-of o (unchanged 1 rec free) (open-length version card rec free l)
 
       back : OpenCase1 version card → o .code ≡ 1
       back (inl l) = code-of o (unchanged 1 rec free) (open-length version card rec free l)
-      back (inr k) = long k (ℕ-discrete (length card) (cardLength version))
+      back (inr k) = long k (ℕ-discrete (length card) (cardLength version card))
 
   pub open-2 : (openOf version card rec free .code ≡ 2) ↔ OpenCase2 version card
   open-2 = (λ h. on h (by-card (omega arith) (λ z. omega arith)), back)
     where
-      by : length card ≡ cardLength version → cardRefusal version c ≡ 2 → CardWay c (cardRefusal version c) → OpenCase2 version card
+      by : length card ≡ cardLength version card → cardRefusal version c ≡ 2 → CardWay c (cardRefusal version c) → OpenCase2 version card
       by x h (out-of-range k e) = absurd (omega arith)
       by x h (lower-above k l e) = record { in-range = record { long = x; fields = k }; lower-above = lower-above-is c k .0 l }
       by x h (max-low k l m e) = absurd (omega arith)
       by x h (nothing k l m s e) = absurd (omega arith)
       by x h (accepted e) = absurd (omega arith)
 
-      on : o .code ≡ 2 → ((length card ≡ cardLength version → ⊥) × (o .code ≡ 1)) ⊎ ((length card ≡ cardLength version) × (cardRefusal version c ≡ o .code)) → OpenCase2 version card
+      on : o .code ≡ 2 → ((length card ≡ cardLength version card → ⊥) × (o .code ≡ 1)) ⊎ ((length card ≡ cardLength version card) × (cardRefusal version c ≡ o .code)) → OpenCase2 version card
       on h (inl x) = absurd (omega arith)
       on h (inr x) = by (x .0) (x .1 ∙ h) (card-way version c)
 
@@ -116,14 +116,14 @@ module _ (version : ℕ) (card rec free : List ℕ) where
   pub open-3 : (openOf version card rec free .code ≡ 3) ↔ OpenCase3 version card
   open-3 = (λ h. on h (by-card (omega arith) (λ z. omega arith)), back)
     where
-      by : length card ≡ cardLength version → cardRefusal version c ≡ 3 → CardWay c (cardRefusal version c) → OpenCase3 version card
+      by : length card ≡ cardLength version card → cardRefusal version c ≡ 3 → CardWay c (cardRefusal version c) → OpenCase3 version card
       by x h (out-of-range k e) = absurd (omega arith)
       by x h (lower-above k l e) = absurd (omega arith)
       by x h (max-low k l m e) = record { in-range = record { long = x; fields = k }; ordered = l; max-low = m }
       by x h (nothing k l m s e) = absurd (omega arith)
       by x h (accepted e) = absurd (omega arith)
 
-      on : o .code ≡ 3 → ((length card ≡ cardLength version → ⊥) × (o .code ≡ 1)) ⊎ ((length card ≡ cardLength version) × (cardRefusal version c ≡ o .code)) → OpenCase3 version card
+      on : o .code ≡ 3 → ((length card ≡ cardLength version card → ⊥) × (o .code ≡ 1)) ⊎ ((length card ≡ cardLength version card) × (cardRefusal version c ≡ o .code)) → OpenCase3 version card
       on h (inl x) = absurd (omega arith)
       on h (inr x) = by (x .0) (x .1 ∙ h) (card-way version c)
 
@@ -135,14 +135,14 @@ module _ (version : ℕ) (card rec free : List ℕ) where
   pub open-4 : (openOf version card rec free .code ≡ 4) ↔ OpenCase4 version card
   open-4 = (λ h. on h (by-card (omega arith) (λ z. omega arith)), back)
     where
-      by : length card ≡ cardLength version → cardRefusal version c ≡ 4 → CardWay c (cardRefusal version c) → OpenCase4 version card
+      by : length card ≡ cardLength version card → cardRefusal version c ≡ 4 → CardWay c (cardRefusal version c) → OpenCase4 version card
       by x h (out-of-range k e) = absurd (omega arith)
       by x h (lower-above k l e) = absurd (omega arith)
       by x h (max-low k l m e) = absurd (omega arith)
       by x h (nothing k l m s e) = record { in-range = record { long = x; fields = k }; ordered = l; warm = max-above-is c k .0 m; nothing-to-store = s }
       by x h (accepted e) = absurd (omega arith)
 
-      on : o .code ≡ 4 → ((length card ≡ cardLength version → ⊥) × (o .code ≡ 1)) ⊎ ((length card ≡ cardLength version) × (cardRefusal version c ≡ o .code)) → OpenCase4 version card
+      on : o .code ≡ 4 → ((length card ≡ cardLength version card → ⊥) × (o .code ≡ 1)) ⊎ ((length card ≡ cardLength version card) × (cardRefusal version c ≡ o .code)) → OpenCase4 version card
       on h (inl x) = absurd (omega arith)
       on h (inr x) = by (x .0) (x .1 ∙ h) (card-way version c)
 
@@ -180,7 +180,7 @@ module _ (version : ℕ) (card rec free : List ℕ) where
       on (no-room x e) h = x
       on (opens x e) h = let n = code-of o (openedWith version card free) e in absurd (omega arith)
 
-  -- 0 exactly when the card has 158 bytes, 1 to 4 don't apply, the record has its length and 161 bytes are free
+  -- 0 exactly when the card has its length, 1 to 4 don't apply, the record has its length and there is room for the version and line 0
   pub open-0 : (openOf version card rec free .code ≡ 0) ↔ Opens version card rec free
   open-0 = (on (open-way version card rec free), λ x. code-of o (openedWith version card free) (opened version card rec free (x .card-good .long) (x .card-good .accepted) (x .long) (x .room)))
     where
