@@ -1,19 +1,24 @@
 -- Demand 3: 'Whatever bytes B is handed, it accepts them exactly when they have 01's layout, their card is accepted and every call line agrees
 -- with 01's steps for the calls up to it.' Of every comparison and card test.
-use mathlib.Core.Path.{_≡_, sym, ap, _∙_}
-use mathlib.Core.List.{List, [], _++_, append-assoc, append-nil}
+use mathlib.Core.Path.{_≡_, refl, sym, ap, _∙_}
+use mathlib.Core.Bool.{Bool, true}
+use mathlib.Core.List.{List, [], _∷_, _++_, append-assoc, append-nil}
 use mathlib.Core.Logic.{_↔_}
 use Prim.Native.Nat.{ℕ, _+_}
 use native.Mathlib.Omega.{arith}
 use lib.ListN.{length}
+use lib.Ieee.{Float}
 use Rattle.card.specs.declared.Card.{Card}
 use Rattle.battery.specs.Battery.{fresh}
+use Rattle.battery.specs.declared.Call.{Call}
 use Rattle.records.specs.Cards.{cardAt}
+use Rattle.sheet.specs.Answers.{answerAt, sameNumber}
+use Rattle.sheet.proofs.Agreement.{agrees-more}
 use Rattle.auditor.specs.declared.Verdict.{Verdict}
 use Rattle.auditor.specs.declared.Verdict.the-variants.{Accepted, Refused}
-use Rattle.auditor.specs.Rules.{Rules}
+use Rattle.auditor.specs.Rules.{Rules, plain, NoLooser}
 use Rattle.auditor.specs.Audit.{auditFrom, auditOf}
-use Rattle.auditor.specs.Sheet.{linesBytes, stepsFrom, Sheet}
+use Rattle.auditor.specs.Sheet.{Line, linesBytes, stepsFrom, expected, AgreesBehind, Sheet}
 use Rattle.auditor.specs.Cases.{Opened}
 use Rattle.auditor.proofs.Turns.{audit-none, From}
 use Rattle.auditor.proofs.Stepped.{Stepped, stepped}
@@ -90,3 +95,29 @@ module _ (rules : Rules) (bs : List ℕ) (n : ℕ) (s : Sheet rules bs n) where
 
 pub exact : (rules : Rules) (bs : List ℕ) (n : ℕ) → (auditOf rules bs ≡ Accepted n) ↔ Sheet rules bs n
 exact rules bs n = (sheet-of rules bs n (outcome rules bs), accepted rules bs n)
+
+-- ---- a sheet by a comparison that accepts no more than document 01's is a sheet of document 01
+
+pub agreed-plain : (same : Float → Float → Bool) → ((x y : Float) → same x y ≡ true → sameNumber x y ≡ true) → (version : ℕ) (c : Card) (earlier : List Call) (ls : List Line) (calls : List Call)
+    → AgreesBehind same version c earlier ls calls → AgreesBehind sameNumber version c earlier ls calls
+agreed-plain same more version c earlier [] [] a = tt
+agreed-plain same more version c earlier [] (call ∷ calls) a = absurd a
+agreed-plain same more version c earlier (l ∷ ls) [] a = absurd a
+agreed-plain same more version c earlier (l ∷ ls) (call ∷ calls) a = (
+  agrees-more same sameNumber more (answerAt version c (l .answer)) (expected version c earlier call) (a .0),
+  agreed-plain same more version c (earlier ++ (call ∷ [])) ls calls (a .1),
+)
+
+unfoldable pub plain-sheet : (rules : Rules) → NoLooser rules → (bs : List ℕ) (n : ℕ) → Sheet rules bs n → Sheet plain bs n
+plain-sheet rules more bs n s =
+    record {
+      version = s .version;
+      card = s .card;
+      lines = s .lines;
+      calls = s .calls;
+      layout = s .layout;
+      accepted = s .accepted;
+      passes = refl;
+      agreed = agreed-plain (rules .same) more (s .version) (cardAt (s .version) (s .card)) [] (s .lines) (s .calls) (s .agreed);
+      count = s .count;
+    }

@@ -4,3 +4,4 @@ pub mod Salt
 pub mod Within
 pub mod OneTest
 pub mod Versions
+pub mod Refusals

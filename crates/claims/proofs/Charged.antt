@@ -23,13 +23,13 @@ use Rattle.engine.specs.Steps.{stepOf}
 use Rattle.engine.proofs.StepKeeps.{charge-adds-energy, charged-stays}
 use Rattle.records.specs.Cards.{cardAt}
 use Rattle.sheet.specs.Answers.{sameNumber, agrees}
-use Rattle.auditor.specs.Rules.{plain}
+use Rattle.auditor.specs.Rules.{Rules, plain, NoLooser}
 use Rattle.auditor.specs.Sheet.{Line, Laid, Sheet}
 use Rattle.claims.specs.Claims.{shown, answeredCharge, sumAfter, AllSummed}
 use Rattle.auditor.proofs.Stepped.{Stepped}
 use Rattle.auditor.proofs.Walks.{Own, next-own}
 use Rattle.auditor.proofs.Opened.{fresh-own}
-use Rattle.auditor.proofs.Exact.{sheet-stepped}
+use Rattle.auditor.proofs.Exact.{sheet-stepped, plain-sheet}
 use Rattle.auditor.proofs.ReadCalls.{read-charge}
 use Rattle.claims.proofs.Shown.{shown-refusal, shown-energy, shown-charged, charged-number}
 
@@ -71,9 +71,13 @@ all-summed version c (l ∷ ls) (call ∷ calls) b o sum same s = (
   all-summed version c ls calls (stepOf version b call .battery) (next-own version c b o call) (sumAfter version c sum l) (kept version c b o sum same l call (s .0) (s .1)) (s .2),
 )
 
--- 'The charged sum starts at 0'
-pub charged-total : (bs : List ℕ) (n : ℕ) (s : Sheet plain bs n) → AllSummed (s .version) (cardAt (s .version) (s .card)) zero (s .lines)
+total : (bs : List ℕ) (n : ℕ) (s : Sheet plain bs n) → AllSummed (s .version) (cardAt (s .version) (s .card)) zero (s .lines)
 unfolding fresh ofBits eq
-charged-total bs n s =
+total bs n s =
     let c = cardAt (s .version) (s .card) in
     all-summed (s .version) c (s .lines) (s .calls) (fresh c) (fresh-own (s .version) (s .card) (s .accepted)) zero tt (sheet-stepped plain bs n s)
+
+-- 'The charged sum starts at 0'
+pub charged-total : (rules : Rules) → NoLooser rules → (bs : List ℕ) (n : ℕ) (s : Sheet rules bs n) → AllSummed (s .version) (cardAt (s .version) (s .card)) zero (s .lines)
+unfolding plain-sheet
+charged-total rules more bs n s = total bs n (plain-sheet rules more bs n s)

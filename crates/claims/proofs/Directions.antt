@@ -28,13 +28,13 @@ use Rattle.engine.proofs.StepKeeps.{refused-keeps-state, trial-keeps-state}
 use Rattle.engine.proofs.Warmth.{loss-warms-none, electric-cools-none}
 use Rattle.records.specs.Cards.{cardAt}
 use Rattle.sheet.specs.Answers.{sameNumber, agrees}
-use Rattle.auditor.specs.Rules.{plain}
+use Rattle.auditor.specs.Rules.{Rules, plain, NoLooser}
 use Rattle.auditor.specs.Sheet.{Line, Laid, Sheet}
 use Rattle.claims.specs.Claims.{shown, zonesIn, NoneWarmer, NoneCooler, NoneAltered, Directed, AllDirected}
 use Rattle.auditor.proofs.Stepped.{Stepped}
 use Rattle.auditor.proofs.Walks.{Own, next-own}
 use Rattle.auditor.proofs.Opened.{fresh-own}
-use Rattle.auditor.proofs.Exact.{sheet-stepped}
+use Rattle.auditor.proofs.Exact.{sheet-stepped, plain-sheet}
 use Rattle.auditor.proofs.ReadCalls.{card-held, read-loss, read-electric, read-trial}
 use Rattle.claims.proofs.Shown.{number-of, SameZones, shown-refusal, shown-zones}
 
@@ -118,10 +118,15 @@ start-zones version c o i k =
     let z = zones-finite-at (freshZones (c .layers) (c .start)) (c .layers) (g .zones) i k in
     rw e (eq-refl (c .start) (number-of (c .start) (rw e at z)))
 
-pub directions : (bs : List ℕ) (n : ℕ) (s : Sheet plain bs n)
+plain-directions : (bs : List ℕ) (n : ℕ) (s : Sheet plain bs n)
     → AllDirected (s .version) (cardAt (s .version) (s .card)) (λ i. cardAt (s .version) (s .card) .start) (s .lines)
-directions bs n s =
+plain-directions bs n s =
     let v = s .version in
     let c = cardAt v (s .card) in
     let o = fresh-own v (s .card) (s .accepted) in
     all-directed v c (card-held v (s .card)) (s .lines) (s .calls) (fresh c) o (λ i. c .start) (start-zones v c o) (sheet-stepped plain bs n s)
+
+pub directions : (rules : Rules) → NoLooser rules → (bs : List ℕ) (n : ℕ) (s : Sheet rules bs n)
+    → AllDirected (s .version) (cardAt (s .version) (s .card)) (λ i. cardAt (s .version) (s .card) .start) (s .lines)
+unfolding plain-sheet
+directions rules more bs n s = plain-directions bs n (plain-sheet rules more bs n s)

@@ -1,5 +1,5 @@
 -- Opening: each refusal is given exactly in its case, and leaves every byte.
-use mathlib.Core.Path.{_≡_, sym, ap, _∙_}
+use mathlib.Core.Path.{_≡_, refl, sym, ap, _∙_, subst}
 use mathlib.Core.Logic.{_⊎_, _↔_, inl, inr}
 use mathlib.Core.List.{List}
 use mathlib.Core.Bool.{false}
@@ -7,7 +7,8 @@ use Prim.Native.Nat.{ℕ, _≤_, _<_}
 use native.Mathlib.Decide.{ℕ-discrete, decLe}
 use native.Mathlib.Omega.{arith}
 use lib.ListN.{length}
-use Rattle.card.specs.Card.{cardInRange, cardRefusal}
+use Rattle.card.specs.Card.{cardInRange, cardRefusal, CardRefusal}
+use Rattle.card.proofs.Refusals.{card-refusal, card-refusal-own}
 use Rattle.card.specs.declared.Card.{Card}
 use Rattle.records.specs.Cards.{cardLength, cardAt}
 use Rattle.records.specs.Records.{recordLength}
@@ -57,22 +58,22 @@ module _ (version : ℕ) (card rec free : List ℕ) where
   abbrev o : After
   o = openOf version card rec free
 
-  -- a number from 1 to 4 is the card's
-  by-card : o .code ≤ 4 → (o .code ≡ 0 → ⊥) → ((length card ≡ cardLength version card → ⊥) × (o .code ≡ 1)) ⊎ ((length card ≡ cardLength version card) × (cardRefusal version c ≡ o .code))
-  by-card h z = on (open-way version card rec free)
+  -- a number that is neither 0 nor 10 nor 11 is the card's
+  by-card : (o .code ≡ 0 → ⊥) → (o .code ≡ 10 → ⊥) → (o .code ≡ 11 → ⊥) → ((length card ≡ cardLength version card → ⊥) × (o .code ≡ 1)) ⊎ ((length card ≡ cardLength version card) × (cardRefusal version c ≡ o .code))
+  by-card z ten eleven = on (open-way version card rec free)
     where
       on : OpenWay version card rec free o → ((length card ≡ cardLength version card → ⊥) × (o .code ≡ 1)) ⊎ ((length card ≡ cardLength version card) × (cardRefusal version c ≡ o .code))
       on (other-card l e) = inl (l, code-of o (unchanged 1 rec free) e)
       on (refused l a e) = inr (l, sym (code-of o (unchanged (cardRefusal version c) rec free) e))
-      on (other-record x e) = let n = code-of o (unchanged 10 rec free) e in absurd (omega arith)
-      on (no-room x e) = let n = code-of o (unchanged 11 rec free) e in absurd (omega arith)
+      on (other-record x e) = absurd (ten (code-of o (unchanged 10 rec free) e))
+      on (no-room x e) = absurd (eleven (code-of o (unchanged 11 rec free) e))
       on (opens x e) = absurd (z (code-of o (openedWith version card free) e))
 
   card-code : length card ≡ cardLength version card → (cardRefusal version c ≡ 0 → ⊥) → o .code ≡ cardRefusal version c
   card-code l h = code-of o (unchanged (cardRefusal version c) rec free) (open-card version card rec free l h)
 
   pub open-1 : (openOf version card rec free .code ≡ 1) ↔ OpenCase1 version card
-  open-1 = (λ h. on h (by-card (omega arith) (λ z. omega arith)), back)
+  open-1 = (λ h. on h (by-card (λ z. omega arith) (λ z. omega arith) (λ z. omega arith)), back)
     where
       by : cardRefusal version c ≡ 1 → CardWay c (cardRefusal version c) → OpenCase1 version card
       by h (out-of-range k e) = inr k
@@ -94,7 +95,7 @@ module _ (version : ℕ) (card rec free : List ℕ) where
       back (inr k) = long k (ℕ-discrete (length card) (cardLength version card))
 
   pub open-2 : (openOf version card rec free .code ≡ 2) ↔ OpenCase2 version card
-  open-2 = (λ h. on h (by-card (omega arith) (λ z. omega arith)), back)
+  open-2 = (λ h. on h (by-card (λ z. omega arith) (λ z. omega arith) (λ z. omega arith)), back)
     where
       by : length card ≡ cardLength version card → cardRefusal version c ≡ 2 → CardWay c (cardRefusal version c) → OpenCase2 version card
       by x h (out-of-range k e) = absurd (omega arith)
@@ -114,7 +115,7 @@ module _ (version : ℕ) (card rec free : List ℕ) where
           card-code (x .in-range .long) (λ z. omega arith) ∙ r
 
   pub open-3 : (openOf version card rec free .code ≡ 3) ↔ OpenCase3 version card
-  open-3 = (λ h. on h (by-card (omega arith) (λ z. omega arith)), back)
+  open-3 = (λ h. on h (by-card (λ z. omega arith) (λ z. omega arith) (λ z. omega arith)), back)
     where
       by : length card ≡ cardLength version card → cardRefusal version c ≡ 3 → CardWay c (cardRefusal version c) → OpenCase3 version card
       by x h (out-of-range k e) = absurd (omega arith)
@@ -133,7 +134,7 @@ module _ (version : ℕ) (card rec free : List ℕ) where
           card-code (x .in-range .long) (λ z. omega arith) ∙ r
 
   pub open-4 : (openOf version card rec free .code ≡ 4) ↔ OpenCase4 version card
-  open-4 = (λ h. on h (by-card (omega arith) (λ z. omega arith)), back)
+  open-4 = (λ h. on h (by-card (λ z. omega arith) (λ z. omega arith) (λ z. omega arith)), back)
     where
       by : length card ≡ cardLength version card → cardRefusal version c ≡ 4 → CardWay c (cardRefusal version c) → OpenCase4 version card
       by x h (out-of-range k e) = absurd (omega arith)
@@ -152,20 +153,17 @@ module _ (version : ℕ) (card rec free : List ℕ) where
           let r = card-4 version c k (x .ordered) (max-above-is c k .1 (x .warm)) (x .nothing-to-store) in
           card-code (x .in-range .long) (λ z. omega arith) ∙ r
 
-  -- no card has another number
-  card-small : CardWay c (cardRefusal version c) → cardRefusal version c ≤ 4
-  card-small (out-of-range k e) = omega arith
-  card-small (lower-above k l e) = omega arith
-  card-small (max-low k l m e) = omega arith
-  card-small (nothing k l m s e) = omega arith
-  card-small (accepted e) = omega arith
+  -- a refused card's number is a card's
+  refused-number : (cardRefusal version c ≡ 0 → ⊥) → (n : ℕ) → o ≡ unchanged (cardRefusal version c) rec free → o .code ≡ n → CardRefusal n
+  refused-number a n e h =
+      subst CardRefusal (sym (code-of o (unchanged (cardRefusal version c) rec free) e) ∙ h) (card-refusal version c a)
 
   pub open-10 : (openOf version card rec free .code ≡ 10) ↔ OpenCase10 version card rec
   open-10 = (on (open-way version card rec free), λ x. code-of o (unchanged 10 rec free) (open-record version card rec free (x .card-good .long) (x .card-good .accepted) (x .other-length)))
     where
       on : OpenWay version card rec free o → o .code ≡ 10 → OpenCase10 version card rec
       on (other-card l e) h = let n = code-of o (unchanged 1 rec free) e in absurd (omega arith)
-      on (refused l a e) h = let n = code-of o (unchanged (cardRefusal version c) rec free) e in let s = card-small (card-way version c) in absurd (omega arith)
+      on (refused l a e) h = absurd (card-refusal-own 10 (refused-number a 10 e h) .1 refl)
       on (other-record x e) h = x
       on (no-room x e) h = let n = code-of o (unchanged 11 rec free) e in absurd (omega arith)
       on (opens x e) h = let n = code-of o (openedWith version card free) e in absurd (omega arith)
@@ -175,7 +173,7 @@ module _ (version : ℕ) (card rec free : List ℕ) where
     where
       on : OpenWay version card rec free o → o .code ≡ 11 → OpenCase11 version card rec free
       on (other-card l e) h = let n = code-of o (unchanged 1 rec free) e in absurd (omega arith)
-      on (refused l a e) h = let n = code-of o (unchanged (cardRefusal version c) rec free) e in let s = card-small (card-way version c) in absurd (omega arith)
+      on (refused l a e) h = absurd (card-refusal-own 11 (refused-number a 11 e h) .2 refl)
       on (other-record x e) h = let n = code-of o (unchanged 10 rec free) e in absurd (omega arith)
       on (no-room x e) h = x
       on (opens x e) h = let n = code-of o (openedWith version card free) e in absurd (omega arith)
@@ -206,12 +204,12 @@ module _ (version : ℕ) (card rec free : List ℕ) where
       on (opens x e) = absurd (h (code-of o (openedWith version card free) e))
 
   -- opening gives no other number
-  pub open-codes : (openOf version card rec free .code ≤ 4) ⊎ ((openOf version card rec free .code ≡ 10) ⊎ (openOf version card rec free .code ≡ 11))
+  pub open-codes : (openOf version card rec free .code ≡ 0) ⊎ ((openOf version card rec free .code ≡ 10) ⊎ ((openOf version card rec free .code ≡ 11) ⊎ CardRefusal (openOf version card rec free .code)))
   open-codes = on (open-way version card rec free)
     where
-      on : OpenWay version card rec free o → (o .code ≤ 4) ⊎ ((o .code ≡ 10) ⊎ (o .code ≡ 11))
-      on (other-card l e) = let n = code-of o (unchanged 1 rec free) e in inl (omega arith)
-      on (refused l a e) = let n = code-of o (unchanged (cardRefusal version c) rec free) e in let s = card-small (card-way version c) in inl (omega arith)
+      on : OpenWay version card rec free o → (o .code ≡ 0) ⊎ ((o .code ≡ 10) ⊎ ((o .code ≡ 11) ⊎ CardRefusal (o .code)))
+      on (other-card l e) = inr (inr (inr (inl (code-of o (unchanged 1 rec free) e))))
+      on (refused l a e) = inr (inr (inr (refused-number a (o .code) e refl)))
       on (other-record x e) = inr (inl (code-of o (unchanged 10 rec free) e))
-      on (no-room x e) = inr (inr (code-of o (unchanged 11 rec free) e))
-      on (opens x e) = let n = code-of o (openedWith version card free) e in inl (omega arith)
+      on (no-room x e) = inr (inr (inl (code-of o (unchanged 11 rec free) e)))
+      on (opens x e) = inl (code-of o (openedWith version card free) e)

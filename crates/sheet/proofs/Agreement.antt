@@ -105,3 +105,38 @@ module _ (same : Float → Float → Bool) where
         charged = t₄ .0;
         electric = t₄ .1;
       }
+
+-- ---- answers that agree by one comparison agree by any that accepts as much
+
+module _ (same other : Float → Float → Bool) (more : (x y : Float) → same x y ≡ true → other x y ≡ true) where
+  zones-more : (xs ys : List Float) (n : ℕ) → sameZones same xs ys n ≡ true → sameZones other xs ys n ≡ true
+  unfolding sameZones
+  zones-more xs ys zero h = refl
+  zones-more xs ys (suc n) h =
+      let a = and-true (sameZones same xs ys n) (same (getD xs n nan) (getD ys n nan)) h in
+      true-and (zones-more xs ys n (a .0)) (more (getD xs n nan) (getD ys n nan) (a .1))
+
+  pub agrees-more : (x y : Answer) → agrees same x y ≡ true → agrees other x y ≡ true
+  unfolding agrees sameTotals
+  agrees-more x y h =
+      let b = x .battery in
+      let c = y .battery in
+      let p₁ = and-true (eqb (x .refusal) (y .refusal)) _ h in
+      let p₂ = and-true (same (x .energy) (y .energy)) _ (p₁ .1) in
+      let p₃ = and-true (eqb (x .mark) (y .mark)) _ (p₂ .1) in
+      let p₄ = and-true (same (x .outlet) (y .outlet)) _ (p₃ .1) in
+      let p₅ = and-true (same (x .time) (y .time)) _ (p₄ .1) in
+      let p₆ = and-true (eqb (x .substeps) (y .substeps)) _ (p₅ .1) in
+      let p₇ = and-true (sameZones same (b .zones) (c .zones) (b .card .layers)) _ (p₆ .1) in
+      let t₁ = and-true (same (b .total) (c .total)) _ (p₇ .1) in
+      let t₂ = and-true (same (b .pump) (c .pump)) _ (t₁ .1) in
+      let t₃ = and-true (same (b .direct) (c .direct)) _ (t₂ .1) in
+      let t₄ = and-true (same (b .charged) (c .charged)) (same (b .electric) (c .electric)) (t₃ .1) in
+      let totals = true-and (more _ _ (t₁ .0)) (true-and (more _ _ (t₂ .0)) (true-and (more _ _ (t₃ .0)) (true-and (more _ _ (t₄ .0)) (more _ _ (t₄ .1))))) in
+      true-and (p₁ .0)
+      (true-and (more _ _ (p₂ .0))
+      (true-and (p₃ .0)
+      (true-and (more _ _ (p₄ .0))
+      (true-and (more _ _ (p₅ .0))
+      (true-and (p₆ .0)
+      (true-and (zones-more (b .zones) (c .zones) (b .card .layers) (p₇ .0)) totals))))))

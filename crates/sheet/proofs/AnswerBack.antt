@@ -3,15 +3,15 @@ use mathlib.Core.Path.{_≡_, refl, ap, _∙_}
 use mathlib.Core.List.{List, [], _++_, append-assoc, append-nil}
 use mathlib.Core.Bool.{true, cond}
 use mathlib.Core.Logic.{_⊎_, inl, inr}
-use Prim.Native.Nat.{ℕ, zero, _+_, _*_, _≤_, _<_}
+use Prim.Native.Nat.{ℕ, zero, _≤_}
 use native.Mathlib.Omega.{arith}
 use lib.Dec.{eqb}
-use lib.ListN.{length, take, drop, getD, List·getD-append, length-append}
+use lib.ListN.{length, take, drop, getD, length-append}
 use lib.Ieee.{Float, toBits, ofBits}
 use Rattle.floats.specs.Constants as Constants
-use Rattle.codec.specs.Bytes.{be, beAt, f64At, beBytes, nthF64, f64Of, f64Bytes}
+use Rattle.codec.specs.Bytes.{be, beAt, f64At, beBytes, f64Bytes}
 use Rattle.codec.proofs.Laws.{length-beBytes, length-f64Bytes}
-use Rattle.codec.proofs.Places.{bytes-here, number-here, byte-here, f64-here, in-front}
+use Rattle.codec.proofs.Places.{bytes-here, number-here, byte-here, f64-here}
 use Rattle.battery.specs.declared.Battery.{Battery}
 use Rattle.battery.specs.declared.Answer.{Answer}
 use Rattle.battery.specs.Battery.{GoodBattery}

@@ -1,7 +1,7 @@
 -- The parts of a line and of the opening are found again at their places; 01's closing line.
 use mathlib.Core.Path.{_≡_, refl, ap, _∙_}
 use mathlib.Core.List.{List, [], _∷_, _++_, append-assoc}
-use Prim.Native.Nat.{ℕ, _+_, _≤_, _<_}
+use Prim.Native.Nat.{ℕ, _+_, _%_, _≤_, _<_}
 use native.Mathlib.Omega.{arith}
 use lib.ListN.{length, take, drop, getD, replicate, List·getD-append, length-append}
 use lib.Seq.{drop-at, getD-append-add}
@@ -62,6 +62,11 @@ module _ (version : ℕ) (call : List ℕ) (a : Answer) (r : List ℕ) where
   pub line-behind : drop (lineSize version (a .battery .card) (length call)) (lineBytes version call a ++ r) ≡ r
   line-behind = drop-at (lineBytes version call a) r (lineSize version (a .battery .card) (length call)) (length-lineBytes version call a)
 
+-- a number below 256 is one byte
+one-byte : (x : ℕ) → x < 256 → beBytes 1 x ≡ x ∷ []
+unfolding beBytes
+one-byte x h = let e : x % 256 ≡ x = omega arith in ap (λ (n : ℕ). n ∷ []) e
+
 -- the version and line 0, with r behind them
 module _ (version : ℕ) (card r : List ℕ) where
   head : openingBytes version card ++ r ≡ beBytes 1 version ++ (beBytes 2 (cardLength version card) ++ (card ++ r))
@@ -71,6 +76,9 @@ module _ (version : ℕ) (card r : List ℕ) where
   head-card : openingBytes version card ++ r ≡ (beBytes 1 version ++ beBytes 2 (cardLength version card)) ++ (card ++ r)
   unfolding openingBytes
   head-card = simp append-assoc
+
+  pub opening-starts : version < 256 → openingBytes version card ++ r ≡ version ∷ (beBytes 2 (cardLength version card) ++ (card ++ r))
+  opening-starts h = head ∙ ap (λ (x : List ℕ). x ++ (beBytes 2 (cardLength version card) ++ (card ++ r))) (one-byte version h)
 
   pub opening-version : version < 256 → getD (openingBytes version card ++ r) 0 0 ≡ version
   opening-version h = byte-here (openingBytes version card ++ r) [] _ 0 version head refl h
