@@ -7,6 +7,7 @@ use mathlib.Core.List.{List}
 use lib.ListN.{length}
 use Rattle.auditor.specs.declared.Verdict.{Verdict}
 use Rattle.auditor.specs.declared.Verdict.the-variants.{Accepted, Refused}
+use Rattle.auditor.specs.Rules.{plain}
 use Rattle.auditor.specs.Audit.{limit, auditOf, limitedAuditOf, verdictWord, verdictFields}
 use Rattle.auditor.specs.Sheet.{Sheet}
 use Rattle.auditor.specs.Cases.{Given}
@@ -32,14 +33,14 @@ refused-of (Accepted n) r i l h = let z : 0 ≡ r = h .0 in absurd (omega arith)
 refused-of (Refused s j) r i l h = ap (λ (x : ℕ). Refused x j) (h .0) ∙ ap (Refused r) (h .1)
 
 -- 0 and N exactly when the bytes are a sheet with N lines, however many there are
-pub fields-accept : (bs : List ℕ) (n : ℕ) → ((verdictFields (auditOf bs) .refusal ≡ 0) × (verdictFields (auditOf bs) .line ≡ n)) ↔ Sheet bs n
+pub fields-accept : (bs : List ℕ) (n : ℕ) → ((verdictFields (auditOf plain bs) .refusal ≡ 0) × (verdictFields (auditOf plain bs) .line ≡ n)) ↔ Sheet plain bs n
 unfolding verdictFields
-fields-accept bs n = (λ h. exact bs n .0 (accepted-of (auditOf bs) n (audit-given bs) h), λ s. has (auditOf bs) (Accepted n) (exact bs n .1 s))
+fields-accept bs n = (λ h. exact plain bs n .0 (accepted-of (auditOf plain bs) n (audit-given bs) h), λ s. has (auditOf plain bs) (Accepted n) (exact plain bs n .1 s))
 
 -- another number and a line exactly when that is the verdict
-pub fields-refuse : (bs : List ℕ) (r i : ℕ) → 1 ≤ r → ((verdictFields (auditOf bs) .refusal ≡ r) × (verdictFields (auditOf bs) .line ≡ i)) ↔ (auditOf bs ≡ Refused r i)
+pub fields-refuse : (bs : List ℕ) (r i : ℕ) → 1 ≤ r → ((verdictFields (auditOf plain bs) .refusal ≡ r) × (verdictFields (auditOf plain bs) .line ≡ i)) ↔ (auditOf plain bs ≡ Refused r i)
 unfolding verdictFields
-fields-refuse bs r i l = (refused-of (auditOf bs) r i l, has (auditOf bs) (Refused r i))
+fields-refuse bs r i l = (refused-of (auditOf plain bs) r i l, has (auditOf plain bs) (Refused r i))
 
 word-of : (v : Verdict) → verdictWord v ≡ verdictFields v .line * 256 + verdictFields v .refusal
 unfolding verdictWord verdictFields
@@ -47,5 +48,5 @@ word-of (Accepted n) = omega arith
 word-of (Refused r k) = omega arith
 
 -- within the limit the word is made of them
-pub fields-word : (bs : List ℕ) → length bs ≤ limit → verdictWord (limitedAuditOf bs) ≡ verdictFields (auditOf bs) .line * 256 + verdictFields (auditOf bs) .refusal
-fields-word bs l = ap verdictWord (within-limit bs l) ∙ word-of (auditOf bs)
+pub fields-word : (bs : List ℕ) → length bs ≤ limit → verdictWord (limitedAuditOf plain bs) ≡ verdictFields (auditOf plain bs) .line * 256 + verdictFields (auditOf plain bs) .refusal
+fields-word bs l = ap verdictWord (within-limit plain bs l) ∙ word-of (auditOf plain bs)

@@ -26,9 +26,9 @@ held : (bs : List ℕ) (at : ℕ) → T (fits binary64 (f64At bs at))
 unfolding f64Of
 held bs at = ofBits-fits binary64 (be (take 8 (drop at bs)))
 
-pub card-held : (bs : List ℕ) → CardFits (cardAt 1 bs)
+pub card-held : (version : ℕ) (bs : List ℕ) → CardFits (cardAt version bs)
 unfolding cardAt
-card-held bs =
+card-held version bs =
     record {
       substep = held bs 6;
       timestep = held bs 14;
@@ -93,23 +93,23 @@ charge-kinds ReadStateOfCharge = refl
 charge-kinds (ChargeEnergyDemand most target) = refl
 
 -- ---- from the bytes
-module _ (bs : List ℕ) (call : Call) (h : callOf 1 bs ≡ Good call) where
+module _ (version : ℕ) (bs : List ℕ) (call : Call) (h : callOf version bs ≡ Good call) where
   pub read-loss : getD bs 0 0 ≡ 4 → call ≡ HeatLoss
-  read-loss k = loss-call call (call-kind 1 bs call h ∙ k)
+  read-loss k = loss-call call (call-kind version bs call h ∙ k)
 
   pub read-electric : getD bs 0 0 ≡ 2 → IsElectric call
-  read-electric k = electric-call call (call-kind 1 bs call h ∙ k)
+  read-electric k = electric-call call (call-kind version bs call h ∙ k)
 
   pub read-charge : isCharge call ≡ (eqb (getD bs 0 0) 2 || eqb (getD bs 0 0) 3)
-  read-charge = charge-kinds call ∙ ap (λ (k : ℕ). eqb k 2 || eqb k 3) (call-kind 1 bs call h)
+  read-charge = charge-kinds call ∙ ap (λ (k : ℕ). eqb k 2 || eqb k 3) (call-kind version bs call h)
 
   -- a trial is a demand that is not committed
-  pub read-trial : getD bs 0 0 ≡ 1 → getD bs commitPlace 0 ≡ 0 → (d : Demand) × (call ≡ DemandEnergy d) × (d .commit ≡ false)
+  pub read-trial : getD bs 0 0 ≡ 1 → getD bs (commitPlace version) 0 ≡ 0 → (d : Demand) × (call ≡ DemandEnergy d) × (d .commit ≡ false)
   unfolding callOf callBy demandCall demandAt
   read-trial k c =
-      let d = demandAt 1 bs in
-      let r : callBy 1 (getD bs 0 0) bs ≡ Good call = test-good (eqb (length bs) (callLength 1 (getD bs 0 0))) (callBy 1 (getD bs 0 0) bs) call h .1 in
-      let q : demandCall 1 bs ≡ Good call = ap (λ (n : ℕ). callBy 1 n bs) (sym k) ∙ r in
-      let t = leb (getD bs commitPlace 0) 1 && (leb (getD bs controlPlace 0) 1 && markOk bs returnPlace) in
+      let d = demandAt version bs in
+      let r : callBy version (getD bs 0 0) bs ≡ Good call = test-good (eqb (length bs) (callLength version (getD bs 0 0))) (callBy version (getD bs 0 0) bs) call h .1 in
+      let q : demandCall version bs ≡ Good call = ap (λ (n : ℕ). callBy version n bs) (sym k) ∙ r in
+      let t = leb (getD bs (commitPlace version) 0) 1 && (leb (getD bs (controlPlace version) 0) 1 && markOk bs (returnPlace version)) in
       let g : _≡_ {A = ReadCall} (Good (DemandEnergy d)) (Good call) = test-good t (Good (DemandEnergy d)) call q .1 in
       (d, same-call (Good (DemandEnergy d)) refl g, ap (λ (n : ℕ). eqb n 1) c)

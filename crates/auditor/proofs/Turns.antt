@@ -1,10 +1,11 @@
 -- One turn of the walk over the lines.
 use mathlib.Core.Path.{_≡_, refl, ap, _∙_}
 use mathlib.Core.List.{List, [], _∷_}
-use mathlib.Core.Bool.{true, false}
+use mathlib.Core.Bool.{Bool, true, false}
 use Prim.Native.Nat.{ℕ, zero, suc, _+_, _-_, _≤_, _<_}
 use native.Mathlib.Omega.{arith}
 use borrow.Author.Tests.{eq-eqb, ne-eqb}
+use lib.Ieee.{Float}
 use lib.ListN.{length, take, drop, length-drop}
 use lib.Seq.{take-all}
 use Rattle.card.specs.declared.Card.{Card}
@@ -21,40 +22,40 @@ use Rattle.front.specs.Front.{lineCallLength, behind, headOk, lineCall, lineAns
 use Rattle.auditor.specs.Audit.{judge, auditLine, auditFrom}
 use Rattle.front.proofs.Fronts.{size-is}
 
-pub audit-none : (version : ℕ) (c : Card) (most : ℕ) (b : Battery) (k : ℕ) → auditFrom version c most b k [] ≡ Accepted k
+pub audit-none : (same : Float → Float → Bool) (version : ℕ) (c : Card) (most : ℕ) (b : Battery) (k : ℕ) → auditFrom same version c most b k [] ≡ Accepted k
 unfolding auditFrom
-audit-none version c zero b k = refl
-audit-none version c (suc most) b k = refl
+audit-none same version c zero b k = refl
+audit-none same version c (suc most) b k = refl
 
-pub audit-some : (version : ℕ) (c : Card) (most : ℕ) (b : Battery) (k : ℕ) (bs : List ℕ) → 1 ≤ length bs
-    → auditFrom version c (suc most) b k bs
-    ≡ auditLine version b k (lineAnswer version c bs) (lineCall version c bs) (λ next. auditFrom version c most next (k + 1) (behind version c bs))
+pub audit-some : (same : Float → Float → Bool) (version : ℕ) (c : Card) (most : ℕ) (b : Battery) (k : ℕ) (bs : List ℕ) → 1 ≤ length bs
+    → auditFrom same version c (suc most) b k bs
+    ≡ auditLine same version b k (lineAnswer version c bs) (lineCall version c bs) (λ next. auditFrom same version c most next (k + 1) (behind version c bs))
 unfolding auditFrom
-audit-some version c most b k [] h = absurd (omega arith)
-audit-some version c most b k (x ∷ bs) h = refl
+audit-some same version c most b k [] h = absurd (omega arith)
+audit-some same version c most b k (x ∷ bs) h = refl
 
 pub behind-short : (version : ℕ) (c : Card) (bs : List ℕ) → length (behind version c bs) ≤ length bs - 2
 unfolding behind
 behind-short version c bs = simp length-drop (omega (arith, size-is version c (lineCallLength version bs)))
 
 -- the lines from t on, of which there are at most so many, give the verdict v
-pub record From (version : ℕ) (c : Card) (b : Battery) (k : ℕ) (t : List ℕ) (v : Verdict) : Type 0 where
+pub record From (same : Float → Float → Bool) (version : ℕ) (c : Card) (b : Battery) (k : ℕ) (t : List ℕ) (v : Verdict) : Type 0 where
   pub most : ℕ
   pub enough : length t ≤ most
-  pub gives : v ≡ auditFrom version c most b k t
+  pub gives : v ≡ auditFrom same version c most b k t
 
-module _ (version : ℕ) (c : Card) (b : Battery) (k : ℕ) (t : List ℕ) (v : Verdict) (some : 1 ≤ length t) (h : From version c b k t v) where
-  line : v ≡ auditLine version b k (lineAnswer version c t) (lineCall version c t) (λ next. auditFrom version c (h .most - 1) next (k + 1) (behind version c t))
+module _ (same : Float → Float → Bool) (version : ℕ) (c : Card) (b : Battery) (k : ℕ) (t : List ℕ) (v : Verdict) (some : 1 ≤ length t) (h : From same version c b k t v) where
+  line : v ≡ auditLine same version b k (lineAnswer version c t) (lineCall version c t) (λ next. auditFrom same version c (h .most - 1) next (k + 1) (behind version c t))
   line =
       let e : h .most ≡ suc (h .most - 1) = omega (arith, h .enough) in
-      h .gives ∙ ap (λ (m : ℕ). auditFrom version c m b k t) e ∙ audit-some version c (h .most - 1) b k t some
+      h .gives ∙ ap (λ (m : ℕ). auditFrom same version c m b k t) e ∙ audit-some same version c (h .most - 1) b k t some
 
   pub turn-bad : lineCall version c t ≡ Bad → v ≡ Refused 42 (k + 1)
   unfolding auditLine
   turn-bad e = line ∙ rw e
 
   module _ (call : Call) (e : lineCall version c t ≡ Good call) (own : Answer) (o : own ≡ advanceOf version b call) where
-    judged : v ≡ judge k (lineAnswer version c t) own (λ next. auditFrom version c (h .most - 1) next (k + 1) (behind version c t))
+    judged : v ≡ judge same k (lineAnswer version c t) own (λ next. auditFrom same version c (h .most - 1) next (k + 1) (behind version c t))
     unfolding auditLine
     judged = line ∙ rw (e, o)
 
@@ -62,11 +63,11 @@ module _ (version : ℕ) (c : Card) (b : Battery) (k : ℕ) (t : List ℕ) (v : 
     unfolding judge
     turn-out r = judged ∙ rw (eq-eqb (own .refusal) 10 r)
 
-    pub turn-differs : (own .refusal ≡ 10 → ⊥) → agrees (lineAnswer version c t) own ≡ false → v ≡ Refused 43 (k + 1)
+    pub turn-differs : (own .refusal ≡ 10 → ⊥) → agrees same (lineAnswer version c t) own ≡ false → v ≡ Refused 43 (k + 1)
     unfolding judge
     turn-differs r d = judged ∙ rw (ne-eqb (own .refusal) 10 r, d)
 
-    pub turn-next : (own .refusal ≡ 10 → ⊥) → agrees (lineAnswer version c t) own ≡ true → From version c (own .battery) (k + 1) (behind version c t) v
+    pub turn-next : (own .refusal ≡ 10 → ⊥) → agrees same (lineAnswer version c t) own ≡ true → From same version c (own .battery) (k + 1) (behind version c t) v
     unfolding judge
     turn-next r d =
         record {
@@ -75,9 +76,9 @@ module _ (version : ℕ) (c : Card) (b : Battery) (k : ℕ) (t : List ℕ) (v : 
           gives = judged ∙ rw (ne-eqb (own .refusal) 10 r, d);
         }
 
-pub at-end : (version : ℕ) (c : Card) (b : Battery) (k : ℕ) (t : List ℕ) (v : Verdict) → length t ≡ 0 → From version c b k t v → v ≡ Accepted k
-at-end version c b k [] v z h = h .gives ∙ audit-none version c (h .most) b k
-at-end version c b k (x ∷ t) v z h = absurd (omega arith)
+pub at-end : (same : Float → Float → Bool) (version : ℕ) (c : Card) (b : Battery) (k : ℕ) (t : List ℕ) (v : Verdict) → length t ≡ 0 → From same version c b k t v → v ≡ Accepted k
+at-end same version c b k [] v z h = h .gives ∙ audit-none same version c (h .most) b k
+at-end same version c b k (x ∷ t) v z h = absurd (omega arith)
 
 -- a line whose call is read has its head in order
 pub head-read : (version : ℕ) (c : Card) (bs : List ℕ) (call : Call) → lineCall version c bs ≡ Good call → headOk version c bs ≡ true
@@ -92,12 +93,12 @@ pub rest-less : (t : List ℕ) (r : ℕ) → 1 ≤ r → r ≤ length t → leng
 rest-less t r h k = rw rest-of (simp length-drop (omega arith))
 
 -- what the loop keeps
-abbrev pub Walked : ℕ → Card → List ℕ → Verdict → Battery → ℕ → List ℕ → Type 0
-Walked version c s v b k t = (k + length t ≤ length s) × From version c b k t v
+abbrev pub Walked : (Float → Float → Bool) → ℕ → Card → List ℕ → Verdict → Battery → ℕ → List ℕ → Type 0
+Walked same version c s v b k t = (k + length t ≤ length s) × From same version c b k t v
 
-pub walked-on : (version : ℕ) (c : Card) (s t : List ℕ) (v : Verdict) (b next : Battery) (k r : ℕ) → Walked version c s v b k t
-    → 1 ≤ r → r ≤ length t → drop r t ≡ behind version c t → From version c next (k + 1) (behind version c t) v
-    → Walked version c s v next (k + 1) (take (length t - r) (drop r t))
-walked-on version c s t v b next k r w low high d f =
+pub walked-on : (same : Float → Float → Bool) (version : ℕ) (c : Card) (s t : List ℕ) (v : Verdict) (b next : Battery) (k r : ℕ) → Walked same version c s v b k t
+    → 1 ≤ r → r ≤ length t → drop r t ≡ behind version c t → From same version c next (k + 1) (behind version c t) v
+    → Walked same version c s v next (k + 1) (take (length t - r) (drop r t))
+walked-on same version c s t v b next k r w low high d f =
     let l : length (take (length t - r) (drop r t)) < length t = rest-less t r low high in
     (omega (arith, w .0), rw (rest-of t r, d) f)

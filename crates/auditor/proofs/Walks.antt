@@ -1,12 +1,13 @@
 -- The auditor's own battery, and its walk over lines that are laid and agree.
 use mathlib.Core.Path.{_≡_, sym, ap, _∙_}
 use mathlib.Core.List.{List, [], _∷_, _++_, append-assoc}
-use mathlib.Core.Bool.{true, false}
+use mathlib.Core.Bool.{Bool, true, false}
 use mathlib.Core.Logic.{_⊎_, inl, inr}
 use Prim.Native.Nat.{ℕ, zero, suc, _+_, _≤_}
 use native.Mathlib.Nat.{add-zero}
 use native.Mathlib.Omega.{arith}
 use borrow.Author.Tests.{ne-eqb}
+use lib.Ieee.{Float}
 use lib.ListN.{length}
 use Rattle.card.specs.declared.Card.{Card}
 use Rattle.battery.specs.Battery.{GoodBattery}
@@ -51,13 +52,13 @@ module _ (version : ℕ) (c : Card) (b : Battery) (o : Own version c b) (call : 
 
 -- ---- the walk over lines that are laid and agree, to what lies behind them
 
-pub one-line : (version : ℕ) (c : Card) (most : ℕ) (b : Battery) (k : ℕ) (l : Line) (call : Call) (r : List ℕ) → Own version c b → Laid version c l call
-    → auditFrom version c (suc most) b k (bytesOf l ++ r)
-    ≡ judge k (answerAt version c (l .answer)) (stepOf version b call) (λ next. auditFrom version c most next (k + 1) r)
+pub one-line : (same : Float → Float → Bool) (version : ℕ) (c : Card) (most : ℕ) (b : Battery) (k : ℕ) (l : Line) (call : Call) (r : List ℕ) → Own version c b → Laid version c l call
+    → auditFrom same version c (suc most) b k (bytesOf l ++ r)
+    ≡ judge same k (answerAt version c (l .answer)) (stepOf version b call) (λ next. auditFrom same version c most next (k + 1) r)
 unfolding auditLine
-one-line version c most b k l call r o h =
+one-line same version c most b k l call r o h =
     let some : 1 ≤ length (bytesOf l ++ r) = omega (arith, line-long version c l call h r) in
-    audit-some version c most b k (bytesOf l ++ r) some
+    audit-some same version c most b k (bytesOf l ++ r) some
     ∙ rw (line-call version c l call h r, answer-part version c l call h r, behind-part version c l call h r, own-step version c b o call (h .in-range))
 
 pub own-behind : (version : ℕ) (c : Card) (calls : List Call) (b : Battery) → Own version c b → Own version c (stepsFrom version b calls)
@@ -65,26 +66,26 @@ unfolding stepsFrom
 own-behind version c [] b o = o
 own-behind version c (call ∷ calls) b o = own-behind version c calls (stepOf version b call .battery) (next-own version c b o call)
 
-pub walk : (version : ℕ) (c : Card) (ls : List Line) (calls : List Call) (most : ℕ) (b : Battery) (k : ℕ) (r : List ℕ) → Own version c b → Stepped version c b ls calls
-    → length (linesBytes ls ++ r) ≤ most → From version c (stepsFrom version b calls) (k + length ls) r (auditFrom version c most b k (linesBytes ls ++ r))
+pub walk : (same : Float → Float → Bool) (version : ℕ) (c : Card) (ls : List Line) (calls : List Call) (most : ℕ) (b : Battery) (k : ℕ) (r : List ℕ) → Own version c b → Stepped same version c b ls calls
+    → length (linesBytes ls ++ r) ≤ most → From same version c (stepsFrom version b calls) (k + length ls) r (auditFrom same version c most b k (linesBytes ls ++ r))
 unfolding stepsFrom judge
-walk version c [] [] most b k r o s h = record { most = most; enough = h; gives = ap (λ (m : ℕ). auditFrom version c most b m r) (sym (add-zero k)) }
-walk version c [] (call ∷ calls) most b k r o s h = absurd s
-walk version c (l ∷ ls) [] most b k r o s h = absurd s
-walk version c (l ∷ ls) (call ∷ calls) zero b k r o s h =
+walk same version c [] [] most b k r o s h = record { most = most; enough = h; gives = ap (λ (m : ℕ). auditFrom same version c most b m r) (sym (add-zero k)) }
+walk same version c [] (call ∷ calls) most b k r o s h = absurd s
+walk same version c (l ∷ ls) [] most b k r o s h = absurd s
+walk same version c (l ∷ ls) (call ∷ calls) zero b k r o s h =
     let e : (bytesOf l ++ linesBytes ls) ++ r ≡ bytesOf l ++ (linesBytes ls ++ r) = append-assoc (bytesOf l) (linesBytes ls) r in
     absurd (omega (arith, ap length e, line-long version c l call (s .0) (linesBytes ls ++ r)))
-walk version c (l ∷ ls) (call ∷ calls) (suc most) b k r o s h =
+walk same version c (l ∷ ls) (call ∷ calls) (suc most) b k r o s h =
     let t = linesBytes ls ++ r in
     let e : (bytesOf l ++ linesBytes ls) ++ r ≡ bytesOf l ++ t = append-assoc (bytesOf l) (linesBytes ls) r in
     let less : length t ≤ most = omega (arith, ap length e, line-long version c l call (s .0) t) in
-    let w = walk version c ls calls most (stepOf version b call .battery) (k + 1) r (next-own version c b o call) (s .2) less in
+    let w = walk same version c ls calls most (stepOf version b call .battery) (k + 1) r (next-own version c b o call) (s .2) less in
     let m : k + 1 + length ls ≡ k + suc (length ls) = omega arith in
     record {
       most = w .most;
       enough = w .enough;
       gives =
-          ap (auditFrom version c (suc most) b k) e ∙ one-line version c most b k l call t o (s .0)
+          ap (auditFrom same version c (suc most) b k) e ∙ one-line same version c most b k l call t o (s .0)
           ∙ rw (ne-eqb (stepOf version b call .refusal) 10 (not-ten version c b o call), s .1)
-          (w .gives ∙ ap (λ (n : ℕ). auditFrom version c (w .most) (stepsFrom version (stepOf version b call .battery) calls) n r) m);
+          (w .gives ∙ ap (λ (n : ℕ). auditFrom same version c (w .most) (stepsFrom version (stepOf version b call .battery) calls) n r) m);
     }

@@ -1,5 +1,5 @@
 -- The C audit's word tells its verdict, and that a sheet is accepted.
-use Prim.Native.Nat.{ℕ, _+_, _*_, _≤_}
+use Prim.Native.Nat.{ℕ, _*_, _≤_}
 use native.Mathlib.Omega.{arith}
 use mathlib.Core.Path.{_≡_, refl, ap, _∙_}
 use mathlib.Core.Logic.{_⊎_, _↔_, inl, inr}
@@ -9,6 +9,7 @@ use lib.Dec.{ltb}
 use lib.ListN.{length}
 use Rattle.auditor.specs.declared.Verdict.{Verdict}
 use Rattle.auditor.specs.declared.Verdict.the-variants.{Accepted, Refused}
+use Rattle.auditor.specs.Rules.{plain}
 use Rattle.auditor.specs.Audit.{limit, auditOf, limitedAuditOf, verdictWord}
 use Rattle.auditor.specs.Sheet.{Sheet}
 use Rattle.auditor.specs.Cases.{Known, Given}
@@ -16,18 +17,18 @@ use Rattle.auditor.proofs.Exact.{exact}
 use Rattle.auditor.proofs.Refusals.{no-other, within-limit}
 
 -- the verdicts that there are
-pub audit-given : (bs : List ℕ) → Given (auditOf bs)
-audit-given bs = on (auditOf bs) refl
+pub audit-given : (bs : List ℕ) → Given (auditOf plain bs)
+audit-given bs = on (auditOf plain bs) refl
   where
-    on : (v : Verdict) → auditOf bs ≡ v → Given v
+    on : (v : Verdict) → auditOf plain bs ≡ v → Given v
     on (Accepted n) e = tt
     on (Refused r i) e = inl (no-other bs r i e)
 
-pub verdict-given : (bs : List ℕ) → Given (limitedAuditOf bs)
+pub verdict-given : (bs : List ℕ) → Given (limitedAuditOf plain bs)
 unfolding limitedAuditOf
 verdict-given bs = on (ltb limit (length bs))
   where
-    on : (t : Bool) → Given (cond t (Refused 44 0) (auditOf bs))
+    on : (t : Bool) → Given (cond t (Refused 44 0) (auditOf plain bs))
     on true = inr (refl, refl)
     on false = audit-given bs
 
@@ -52,9 +53,9 @@ same-verdict (Refused r i) (Refused s j) g k h =
     ap (λ (x : ℕ). Refused x i) q ∙ ap (Refused s) p
 
 -- within the limit, N × 256 exactly when the bytes are a sheet with N lines
-pub word-accepts : (bs : List ℕ) (n : ℕ) → length bs ≤ limit → (verdictWord (limitedAuditOf bs) ≡ n * 256) ↔ Sheet bs n
+pub word-accepts : (bs : List ℕ) (n : ℕ) → length bs ≤ limit → (verdictWord (limitedAuditOf plain bs) ≡ n * 256) ↔ Sheet plain bs n
 unfolding verdictWord
 word-accepts bs n l = (
-  λ h. exact bs n .0 (rw (within-limit bs l) at (same-verdict (limitedAuditOf bs) (Accepted n) (verdict-given bs) tt h)),
-  λ s. ap verdictWord (within-limit bs l ∙ exact bs n .1 s),
+  λ h. exact plain bs n .0 (rw (within-limit plain bs l) at (same-verdict (limitedAuditOf plain bs) (Accepted n) (verdict-given bs) tt h)),
+  λ s. ap verdictWord (within-limit plain bs l ∙ exact plain bs n .1 s),
 )

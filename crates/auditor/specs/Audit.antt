@@ -1,10 +1,13 @@
 -- Document 01, module 8: the auditor 'reads calls from the sheet and steps its own battery'. Refusals 40 to 43, 'the lowest line wins, 42 before 43'.
+-- It takes its comparison and its test of an accepted card as Rules.
 use Prim.Native.Nat.{ℕ, zero, suc, _+_, _*_}
 use mathlib.Core.Bool.{Bool, false, cond}
 use mathlib.Core.List.{List, [], _∷_}
 use lib.Dec.{leb, ltb, eqb}
 use lib.ListN.{length, take, drop, getD}
 use Rattle.codec.specs.Bytes.{beAt}
+use lib.Ieee.{Float}
+use Rattle.card.specs.Version.{knownVersion}
 use Rattle.card.specs.Card.{cardRefusal}
 use Rattle.card.specs.declared.Card.{Card}
 use Rattle.battery.specs.Battery.{fresh}
@@ -17,52 +20,61 @@ use Rattle.sheet.specs.Lines.{openingLength}
 use Rattle.calls.specs.declared.ReadCall.{ReadCall}
 use Rattle.calls.specs.declared.ReadCall.the-variants.{Good, Bad}
 use Rattle.front.specs.Front.{lineCall, lineAnswer, behind}
+use Rattle.auditor.specs.Rules.{Rules}
 use Rattle.auditor.specs.declared.Verdict.{Verdict}
 use Rattle.auditor.specs.declared.Verdict.the-variants.{Accepted, Refused}
 use Rattle.auditor.specs.declared.AuditVerdict.{AuditVerdict}
 
--- behind k lines: what the line shows against the steps' own answer, whose 10 is a field out of range
-unfoldable pub judge : ℕ → Answer → Answer → (Battery → Verdict) → Verdict
-judge k seen own go =
+-- after k lines: what the line shows against the steps' own answer, whose 10 is a field out of range
+unfoldable pub judge : (Float → Float → Bool) → ℕ → Answer → Answer → (Battery → Verdict) → Verdict
+judge same k seen own go =
     cond (eqb (own .refusal) 10)
     (Refused 42 (k + 1))
-    (cond (agrees seen own) (go (own .battery)) (Refused 43 (k + 1)))
+    (cond (agrees same seen own) (go (own .battery)) (Refused 43 (k + 1)))
 
-unfoldable pub auditLine : ℕ → Battery → ℕ → Answer → ReadCall → (Battery → Verdict) → Verdict
-auditLine version b k seen Bad go = Refused 42 (k + 1)
-auditLine version b k seen (Good call) go = judge k seen (advanceOf version b call) go
+unfoldable pub auditLine : (Float → Float → Bool) → ℕ → Battery → ℕ → Answer → ReadCall → (Battery → Verdict) → Verdict
+auditLine same version b k seen Bad go = Refused 42 (k + 1)
+auditLine same version b k seen (Good call) go = judge same k seen (advanceOf version b call) go
 
--- the lines from the front of bs on, k lines behind; `most` bounds how many there are
-unfoldable pub auditFrom : ℕ → Card → ℕ → Battery → ℕ → List ℕ → Verdict
-auditFrom version c zero b k bs = Accepted k
-auditFrom version c (suc most) b k [] = Accepted k
-auditFrom version c (suc most) b k (x ∷ bs) =
-    auditLine version b k (lineAnswer version c (x ∷ bs)) (lineCall version c (x ∷ bs))
-    (λ next. auditFrom version c most next (k + 1) (behind version c (x ∷ bs)))
+-- the lines from the front of bs on, after k lines; `most` bounds how many there are
+unfoldable pub auditFrom : (Float → Float → Bool) → ℕ → Card → ℕ → Battery → ℕ → List ℕ → Verdict
+auditFrom same version c zero b k bs = Accepted k
+auditFrom same version c (suc most) b k [] = Accepted k
+auditFrom same version c (suc most) b k (x ∷ bs) =
+    auditLine same version b k (lineAnswer version c (x ∷ bs)) (lineCall version c (x ∷ bs))
+    (λ next. auditFrom same version c most next (k + 1) (behind version c (x ∷ bs)))
 
--- line 0's content
+-- line 0's content, and all that follows it
 abbrev pub cardPart : ℕ → List ℕ → List ℕ
-cardPart version bs = take (cardLength version) (drop 3 bs)
+cardPart version bs = take (cardLength version (drop 3 bs)) (drop 3 bs)
+
+abbrev pub linesPart : ℕ → List ℕ → List ℕ
+linesPart version bs = drop (openingLength version (drop 3 bs)) bs
 
 -- '41 card line missing, of wrong length or refused'
 unfoldable pub cardLineOk : ℕ → List ℕ → Bool
 cardLineOk version bs =
-    cond (leb (openingLength version) (length bs))
-    (cond (eqb (beAt bs 1 2) (cardLength version))
+    cond (leb (openingLength version (drop 3 bs)) (length bs))
+    (cond (eqb (beAt bs 1 2) (cardLength version (drop 3 bs)))
     (eqb (cardRefusal version (cardAt version (cardPart version bs))) 0)
     false)
     false
 
 -- the call lines, from the card's fresh battery on
-unfoldable pub auditLines : ℕ → Card → List ℕ → Verdict
-auditLines version c bs = auditFrom version c (length bs) (fresh c) 0 bs
+unfoldable pub auditLines : (Float → Float → Bool) → ℕ → Card → List ℕ → Verdict
+auditLines same version c bs = auditFrom same version c (length bs) (fresh c) 0 bs
 
--- '40 no first byte or not 1 (index 0)'
-unfoldable pub auditOf : List ℕ → Verdict
-auditOf bs =
-    cond (eqb (getD bs 0 0) 1)
-    (cond (cardLineOk 1 bs)
-    (auditLines 1 (cardAt 1 (cardPart 1 bs)) (drop (openingLength 1) bs))
+-- the lines of an accepted card; 70 (index 0) for one that the audit doesn't take
+unfoldable pub auditCard : Rules → ℕ → Card → List ℕ → Verdict
+auditCard rules version c bs = cond (rules .test version c) (auditLines (rules .same) version c bs) (Refused 70 0)
+
+-- '40 no first byte or not 1 (index 0)': the first byte is the version
+unfoldable pub auditOf : Rules → List ℕ → Verdict
+auditOf rules bs =
+    let version = getD bs 0 0 in
+    cond (knownVersion version)
+    (cond (cardLineOk version bs)
+    (auditCard rules version (cardAt version (cardPart version bs)) (linesPart version bs))
     (Refused 41 0))
     (Refused 40 0)
 
@@ -71,8 +83,8 @@ abbrev pub limit : ℕ
 limit = 65536
 
 -- '44 more than 65,536 bytes, from the program and the C audit only (index 0, tested first)'
-unfoldable pub limitedAuditOf : List ℕ → Verdict
-limitedAuditOf bs = cond (ltb limit (length bs)) (Refused 44 0) (auditOf bs)
+unfoldable pub limitedAuditOf : Rules → List ℕ → Verdict
+limitedAuditOf rules bs = cond (ltb limit (length bs)) (Refused 44 0) (auditOf rules bs)
 
 -- document 01's numbers: 'K × 256 + R, or N × 256 when it accepts'
 unfoldable pub verdictWord : Verdict → ℕ

@@ -1,3 +1,4 @@
+pub mod Rules
 pub mod Audit
 pub mod Bound
 pub mod Sheet

@@ -1,10 +1,12 @@
 -- Document 01, 'What demand 3 speaks of': which bytes are a sheet, said apart from the auditor. Layout, CardAccepted and Agrees.
 use Prim.Native.Nat.{ℕ, _+_}
 use mathlib.Core.Path.{_≡_}
-use mathlib.Core.Bool.{true}
+use mathlib.Core.Bool.{Bool, true}
 use mathlib.Core.List.{List, [], _∷_, _++_}
 use lib.ListN.{length}
+use lib.Ieee.{Float}
 use Rattle.codec.specs.Bytes.{be}
+use Rattle.card.specs.Version.{knownVersion}
 use Rattle.card.specs.Card.{cardRefusal}
 use Rattle.card.specs.declared.Card.{Card}
 use Rattle.battery.specs.Battery.{fresh}
@@ -17,6 +19,7 @@ use Rattle.records.specs.Cards.{cardLength, cardAt}
 use Rattle.calls.specs.Calls.{callOf}
 use Rattle.sheet.specs.Answers.{answerLength, answerAt, marksOk, agrees}
 use Rattle.calls.specs.declared.ReadCall.the-variants.{Good}
+use Rattle.auditor.specs.Rules.{Rules}
 
 -- ---- Layout: no step is named
 
@@ -50,18 +53,19 @@ AllLaid version c (l ∷ ls) [] = ⊥
 AllLaid version c (l ∷ ls) (call ∷ calls) = Laid version c l call × AllLaid version c ls calls
 
 -- 'A sheet has the layout when 40 doesn't apply, line 0 is there in its length and all bytes after it are call lines to which 42 doesn't apply.'
-pub record Layout (bs card : List ℕ) (lines : List Line) (calls : List Call) : Type 0 where
+pub record Layout (version : ℕ) (bs card : List ℕ) (lines : List Line) (calls : List Call) : Type 0 where
+  pub known : knownVersion version ≡ true
   pub head : List ℕ
-  pub bytes : bs ≡ 1 ∷ (head ++ (card ++ linesBytes lines))
+  pub bytes : bs ≡ version ∷ (head ++ (card ++ linesBytes lines))
   pub two : length head ≡ 2
-  pub counts : be head ≡ cardLength 1
-  pub long : length card ≡ cardLength 1
-  pub laid : AllLaid 1 (cardAt 1 card) lines calls
+  pub counts : be head ≡ cardLength version card
+  pub long : length card ≡ cardLength version card
+  pub laid : AllLaid version (cardAt version card) lines calls
 
 -- ---- 'their card is accepted'
 
-abbrev pub CardAccepted : List ℕ → Type 0
-CardAccepted card = cardRefusal 1 (cardAt 1 card) ≡ 0
+abbrev pub CardAccepted : ℕ → List ℕ → Type 0
+CardAccepted version card = cardRefusal version (cardAt version card) ≡ 0
 
 -- ---- Agrees
 
@@ -75,23 +79,25 @@ unfoldable pub expected : ℕ → Card → List Call → Call → Answer
 expected version c earlier call = stepOf version (stepsFrom version (fresh c) earlier) call
 
 -- 'A call line agrees when its refusal, mark, substeps and f64 agree with those of the steps, its own call included.'
-abbrev pub AgreesBehind : ℕ → Card → List Call → List Line → List Call → Type 0
-AgreesBehind version c earlier [] [] = Unit
-AgreesBehind version c earlier [] (call ∷ calls) = ⊥
-AgreesBehind version c earlier (l ∷ ls) [] = ⊥
-AgreesBehind version c earlier (l ∷ ls) (call ∷ calls) =
-    (agrees (answerAt version c (l .answer)) (expected version c earlier call) ≡ true) × AgreesBehind version c (earlier ++ (call ∷ [])) ls calls
+abbrev pub AgreesBehind : (Float → Float → Bool) → ℕ → Card → List Call → List Line → List Call → Type 0
+AgreesBehind same version c earlier [] [] = Unit
+AgreesBehind same version c earlier [] (call ∷ calls) = ⊥
+AgreesBehind same version c earlier (l ∷ ls) [] = ⊥
+AgreesBehind same version c earlier (l ∷ ls) (call ∷ calls) =
+    (agrees same (answerAt version c (l .answer)) (expected version c earlier call) ≡ true) × AgreesBehind same version c (earlier ++ (call ∷ [])) ls calls
 
 -- 'every call line agrees with 01's steps for the calls up to it'
-abbrev pub Agrees : List ℕ → List Line → List Call → Type 0
-Agrees card lines calls = AgreesBehind 1 (cardAt 1 card) [] lines calls
+abbrev pub Agrees : (Float → Float → Bool) → ℕ → List ℕ → List Line → List Call → Type 0
+Agrees same version card lines calls = AgreesBehind same version (cardAt version card) [] lines calls
 
--- ---- a sheet with n call lines
-pub record Sheet (bs : List ℕ) (n : ℕ) : Type 0 where
+-- ---- a sheet with n call lines, by an audit's comparison and card test: document 01's is `Sheet plain`
+pub record Sheet (rules : Rules) (bs : List ℕ) (n : ℕ) : Type 0 where
+  pub version : ℕ
   pub card : List ℕ
   pub lines : List Line
   pub calls : List Call
-  pub layout : Layout bs card lines calls
-  pub accepted : CardAccepted card
-  pub agreed : Agrees card lines calls
+  pub layout : Layout version bs card lines calls
+  pub accepted : CardAccepted version card
+  pub passes : rules .test version (cardAt version card) ≡ true
+  pub agreed : Agrees (rules .same) version card lines calls
   pub count : length lines ≡ n

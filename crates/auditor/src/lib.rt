@@ -3,6 +3,7 @@ pub mod lines;
 
 ghost use mathlib.Core.Path.{_≡_};
 ghost use Rattle.auditor.specs.Audit.{cardLineOk, auditOf, limit, limitedAuditOf, verdictWord, verdictFields};
+ghost use Rattle.auditor.specs.Rules.{plain};
 ghost use Rattle.auditor.specs.Bound.{IndexAtMost};
 
 // The lines that agree, or the refusal and the line's index.
@@ -19,9 +20,6 @@ pub struct AuditVerdict {
     // the refused line's index, or the number of call lines
     pub line: u64,
 }
-
-// The only version known.
-const VERSION: u8 = 1;
 
 // Document 01's refusals of a sheet.
 pub const NO_VERSION: u8 = 40;
@@ -41,9 +39,12 @@ const LIMIT: usize = 65536;
 fn card_line_ok(version: u8, sheet: &[u8]) -> bool
     ensures { λ r. ⌜ r ≡ cardLineOk version (now (sheet .entry)) ⌝ }
 {
-    let end = sheet::lines::opening_length(version);
+    if sheet.len() < 3 {
+        return false;
+    }
+    let end = sheet::lines::opening_length(version, &sheet[3..]);
     if end <= sheet.len() {
-        let n = records::cards::card_length(version) as u64;
+        let n = records::cards::card_length(version, &sheet[3..]) as u64;
         if codec::read_be(sheet, 1, 2) == n {
             let card = records::cards::read_card(version, &sheet[3..end]);
             return card_verdict::refusal(version, card) == 0;
@@ -55,13 +56,14 @@ fn card_line_ok(version: u8, sheet: &[u8]) -> bool
 
 // The audit, for a sheet of any length.
 pub fn audit(sheet: &[u8]) -> Verdict
-    ensures { λ r. ⌜ r ≡ auditOf (now (sheet .entry)) ⌝ }
+    ensures { λ r. ⌜ r ≡ auditOf plain (now (sheet .entry)) ⌝ }
 {
-    if codec::byte_or_zero(sheet, 0) == VERSION {
-        if card_line_ok(VERSION, sheet) {
-            let end = sheet::lines::opening_length(VERSION);
-            let card = records::cards::read_card(VERSION, &sheet[3..end]);
-            return lines::audit_lines(VERSION, card, &sheet[end..]);
+    let version = codec::byte_or_zero(sheet, 0);
+    if card::version::known_version(version) {
+        if card_line_ok(version, sheet) {
+            let end = sheet::lines::opening_length(version, &sheet[3..]);
+            let card = records::cards::read_card(version, &sheet[3..end]);
+            return lines::audit_lines(version, card, &sheet[end..]);
         }
         return Verdict::Refused(NO_CARD, 0);
     }
@@ -70,7 +72,7 @@ pub fn audit(sheet: &[u8]) -> Verdict
 
 // The program's and the C entry's audit: 44 beyond the limit.
 pub fn audit_limited(sheet: &[u8]) -> Verdict
-    ensures { λ r. ⌜ r ≡ limitedAuditOf (now (sheet .entry)) ⌝ }
+    ensures { λ r. ⌜ r ≡ limitedAuditOf plain (now (sheet .entry)) ⌝ }
 {
     if LIMIT < sheet.len() {
         return Verdict::Refused(TOO_LONG, 0);
@@ -91,7 +93,7 @@ fn verdict_word(v: Verdict) -> u64
 
 // That word for a sheet.
 pub fn limited_audit_word(sheet: &[u8]) -> u64
-    ensures { λ r. ⌜ r ≡ verdictWord (limitedAuditOf (now (sheet .entry))) ⌝ }
+    ensures { λ r. ⌜ r ≡ verdictWord (limitedAuditOf plain (now (sheet .entry))) ⌝ }
 {
     verdict_word(audit_limited(sheet))
 }
@@ -114,7 +116,7 @@ fn verdict_fields(v: Verdict) -> AuditVerdict
 
 // Those for a sheet of any length.
 pub fn audit_fields(sheet: &[u8]) -> AuditVerdict
-    ensures { λ r. ⌜ r ≡ verdictFields (auditOf (now (sheet .entry))) ⌝ }
+    ensures { λ r. ⌜ r ≡ verdictFields (auditOf plain (now (sheet .entry))) ⌝ }
 {
     verdict_fields(audit(sheet))
 }

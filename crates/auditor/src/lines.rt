@@ -6,6 +6,7 @@ use calls::ReadCall;
 use card::Card;
 ghost use mathlib.Core.Path.{_≡_};
 ghost use Prim.Native.Nat.{_≤_};
+ghost use Rattle.sheet.specs.Answers.{sameNumber};
 ghost use Rattle.auditor.specs.Audit.{auditLines};
 
 // The refusal by which a step on an own battery says that a call field is out of range.
@@ -14,7 +15,7 @@ const OUT_OF_RANGE: u8 = 10;
 // Steps an own battery through the lines.
 pub fn audit_lines(version: u8, card: Card, bytes: &[u8]) -> Verdict
     requires { ⌜ card .layers ≤ 64 ⌝ }
-    ensures { λ r. ⌜ r ≡ auditLines version card (now (bytes .entry)) ⌝ }
+    ensures { λ r. ⌜ r ≡ auditLines sameNumber version card (now (bytes .entry)) ⌝ }
 {
     let mut rest = bytes;
     let mut b = battery::fresh(card);

@@ -66,18 +66,18 @@ kind-known CloseTimestep = omega arith
 kind-known ReadStateOfCharge = omega arith
 kind-known (ChargeEnergyDemand most target) = omega arith
 
-Flags : List ℕ → Type 0
-Flags bs = (getD bs commitPlace 0 ≤ 1) × (getD bs controlPlace 0 ≤ 1) × Marked bs returnPlace
+Flags : ℕ → List ℕ → Type 0
+Flags version bs = (getD bs (commitPlace version) 0 ≤ 1) × (getD bs (controlPlace version) 0 ≤ 1) × Marked bs (returnPlace version)
 
-flags : (version : ℕ) (bs : List ℕ) (c : Call) → demandCall version bs ≡ Good c → Flags bs
+flags : (version : ℕ) (bs : List ℕ) (c : Call) → demandCall version bs ≡ Good c → Flags version bs
 unfolding demandCall Flags
 flags version bs c h =
-    let a = leb (getD bs commitPlace 0) 1 in
-    let b = leb (getD bs controlPlace 0) 1 in
-    let t = test-good (a && (b && markOk bs returnPlace)) (Good (DemandEnergy (demandAt version bs))) c h .0 in
-    let p = and-true a (b && markOk bs returnPlace) t in
-    let q = and-true b (markOk bs returnPlace) (p .1) in
-    (leb-true (getD bs commitPlace 0) 1 (p .0), leb-true (getD bs controlPlace 0) 1 (q .0), marked bs returnPlace (q .1))
+    let a = leb (getD bs (commitPlace version) 0) 1 in
+    let b = leb (getD bs (controlPlace version) 0) 1 in
+    let t = test-good (a && (b && markOk bs (returnPlace version))) (Good (DemandEnergy (demandAt version bs))) c h .0 in
+    let p = and-true a (b && markOk bs (returnPlace version)) t in
+    let q = and-true b (markOk bs (returnPlace version)) (p .1) in
+    (leb-true (getD bs (commitPlace version) 0) 1 (p .0), leb-true (getD bs (controlPlace version) 0) 1 (q .0), marked bs (returnPlace version) (q .1))
 
 most : (version : ℕ) (bs : List ℕ) (c : Call) → chargeDemandCall version bs ≡ Good c → Marked bs fieldsPlace
 unfolding chargeDemandCall
@@ -116,13 +116,13 @@ seven P p₁ p₂ p₃ p₄ p₅ p₆ p₇ k h l = on (ℕ-discrete k 1) (ℕ-di
 abbrev pub IsRead : ReadCall → Type 0
 IsRead r = (c : Call) × (r ≡ Good c)
 
-by-kind : (version : ℕ) (bs : List ℕ) (k : ℕ) → 1 ≤ k → k ≤ 7 → (k ≡ 1 → Flags bs) → (k ≡ 7 → Marked bs fieldsPlace) → IsRead (callBy version k bs)
+by-kind : (version : ℕ) (bs : List ℕ) (k : ℕ) → 1 ≤ k → k ≤ 7 → (k ≡ 1 → Flags version bs) → (k ≡ 7 → Marked bs fieldsPlace) → IsRead (callBy version k bs)
 unfolding callBy bareCall demandCall chargeDemandCall Flags
 by-kind version bs =
-    seven (λ (k : ℕ). (k ≡ 1 → Flags bs) → (k ≡ 7 → Marked bs fieldsPlace) → IsRead (callBy version k bs))
+    seven (λ (k : ℕ). (k ≡ 1 → Flags version bs) → (k ≡ 7 → Marked bs fieldsPlace) → IsRead (callBy version k bs))
     (λ d m. (
       DemandEnergy (demandAt version bs),
-      rw (true-and (le-leb (getD bs commitPlace 0) 1 (d refl .0)) (true-and (le-leb (getD bs controlPlace 0) 1 (d refl .1)) (mark-ok bs returnPlace (d refl .2)))),
+      rw (true-and (le-leb (getD bs (commitPlace version) 0) 1 (d refl .0)) (true-and (le-leb (getD bs (controlPlace version) 0) 1 (d refl .1)) (mark-ok bs (returnPlace version) (d refl .2)))),
     ))
     (λ d m. (ChargeElectric (nthF64 bs fieldsPlace 0) (nthF64 bs fieldsPlace 1), refl))
     (λ d m. (ChargeHydronic (hydronicAt version bs), refl))

@@ -1,8 +1,8 @@
--- What the bytes of a call tell: its length, its kind, and that it is short.
+-- What the bytes of a call tell: its length and its kind.
 use mathlib.Core.Path.{_≡_, refl, sym, ap, _∙_}
 use mathlib.Core.List.{List}
 use mathlib.Core.Bool.{Bool, true, false, cond, _&&_}
-use Prim.Native.Nat.{ℕ, _≤_}
+use Prim.Native.Nat.{ℕ}
 use native.Mathlib.Omega.{arith}
 use borrow.Author.Tests.{eqb-true}
 use lib.Dec.{leb, eqb}
@@ -13,7 +13,7 @@ use Rattle.battery.specs.declared.Call.the-variants.{DemandEnergy, ChargeElectr
 use Rattle.battery.specs.Kinds.{kindOf}
 use Rattle.calls.specs.declared.ReadCall.{ReadCall}
 use Rattle.calls.specs.declared.ReadCall.the-variants.{Good, Bad}
-use Rattle.calls.specs.Calls.{callLength, markOk, givenAt, demandAt, demandCall, hydronicAt, chargeDemandCall, bareCall, callBy, callOf}
+use Rattle.calls.specs.Calls.{commitPlace, controlPlace, returnPlace, callLength, markOk, givenAt, demandAt, demandCall, hydronicAt, chargeDemandCall, bareCall, callBy, callOf}
 
 -- a read call is one call, or bad
 pub same-call : {c d : Call} (r : ReadCall) → r ≡ Good c → r ≡ Good d → d ≡ c
@@ -61,7 +61,7 @@ module _ (version kind : ℕ) (bs : List ℕ) (c : Call) where
   kind-by : callBy version kind bs ≡ Good c → kindOf c ≡ kind
   unfolding callBy demandCall chargeDemandCall kindOf readKind
   kind-by =
-      let d = leb (getD bs 2 0) 1 && (leb (getD bs 3 0) 1 && markOk bs 20) in
+      let d = leb (getD bs (commitPlace version) 0) 1 && (leb (getD bs (controlPlace version) 0) 1 && markOk bs (returnPlace version)) in
       let r₁ = Good (DemandEnergy (demandAt version bs)) in
       let r₂ = Good (ChargeElectric (nthF64 bs 1 0) (nthF64 bs 1 1)) in
       let r₃ = Good (ChargeHydronic (hydronicAt version bs)) in
@@ -81,18 +81,3 @@ unfolding callOf
 call-kind version bs c h =
     let k = getD bs 0 0 in
     kind-by version k bs c (test-good (eqb (length bs) (callLength version k)) (callBy version k bs) c h .1)
-
--- no call is longer than a hydronic one
-short-by : (a b c d e f g : Bool) → cond a 29 (cond b 17 (cond c 73 (cond d 1 (cond e 1 (cond f 1 (cond g 18 0)))))) ≤ 73
-short-by true b c d e f g = omega arith
-short-by false true c d e f g = omega arith
-short-by false false true d e f g = omega arith
-short-by false false false true e f g = omega arith
-short-by false false false false true f g = omega arith
-short-by false false false false false true g = omega arith
-short-by false false false false false false true = omega arith
-short-by false false false false false false false = omega arith
-
-pub call-short : (version kind : ℕ) → callLength version kind ≤ 73
-unfolding callLength
-call-short version kind = short-by (eqb kind 1) (eqb kind 2) (eqb kind 3) (eqb kind 4) (eqb kind 5) (eqb kind 6) (eqb kind 7)

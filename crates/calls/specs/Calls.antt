@@ -13,17 +13,6 @@ use Rattle.battery.specs.declared.Call.the-variants.{DemandEnergy, ChargeElectr
 use Rattle.calls.specs.declared.ReadCall.{ReadCall}
 use Rattle.calls.specs.declared.ReadCall.the-variants.{Good, Bad}
 
--- the bytes of a call of a kind, the kind's own included; 0 where there is no such kind
-unfoldable pub callLength : ℕ → ℕ → ℕ
-callLength version kind =
-    cond (eqb kind 1) 29
-    (cond (eqb kind 2) 17
-    (cond (eqb kind 3) 73
-    (cond (eqb kind 4) 1
-    (cond (eqb kind 5) 1
-    (cond (eqb kind 6) 1
-    (cond (eqb kind 7) 18 0))))))
-
 -- a mark is 0 or 1, and 'an absent value has zero bytes'
 unfoldable pub markOk : List ℕ → ℕ → Bool
 markOk bs at = cond (eqb (getD bs at 0) 0) (eqb (beAt bs (at + 1) 8) 0) (eqb (getD bs at 0) 1)
@@ -36,33 +25,46 @@ givenAt bs at = cond (eqb (getD bs at 0) 0) Absent (Value (f64At bs (at + 1)))
 abbrev pub fieldsPlace : ℕ
 fieldsPlace = 1
 
--- the places of a demand's two flags, its numbers, and its return mark
-abbrev pub commitPlace : ℕ
-commitPlace = 2
+-- the place of a demand's first flag, after its type; those of its second flag, its numbers and its return mark
+unfoldable pub commitPlace : ℕ → ℕ
+commitPlace version = 2
 
-abbrev pub controlPlace : ℕ
-controlPlace = 3
+abbrev pub controlPlace : ℕ → ℕ
+controlPlace version = commitPlace version + 1
 
-abbrev pub demandNumbers : ℕ
-demandNumbers = 4
+abbrev pub demandNumbers : ℕ → ℕ
+demandNumbers version = commitPlace version + 2
 
-abbrev pub returnPlace : ℕ
-returnPlace = 20
+abbrev pub returnPlace : ℕ → ℕ
+returnPlace version = commitPlace version + 18
+
+-- the bytes of a call of a kind, the kind's own included; 0 where there is no such kind
+unfoldable pub callLength : ℕ → ℕ → ℕ
+callLength version kind =
+    cond (eqb kind 1) (returnPlace version + 9)
+    (cond (eqb kind 2) 17
+    (cond (eqb kind 3) 73
+    (cond (eqb kind 4) 1
+    (cond (eqb kind 5) 1
+    (cond (eqb kind 6) 1
+    (cond (eqb kind 7) 18 0))))))
 
 -- '1 demand: type, commit, control on (u8 each), required, start, return mark and temperature'
 unfoldable pub demandAt : ℕ → List ℕ → Demand
 demandAt version bs =
     record {
       service = getD bs fieldsPlace 0;
-      commit = eqb (getD bs commitPlace 0) 1;
-      control = eqb (getD bs controlPlace 0) 1;
-      required = nthF64 bs demandNumbers 0;
-      start = nthF64 bs demandNumbers 1;
-      feed = givenAt bs returnPlace;
+      commit = eqb (getD bs (commitPlace version) 0) 1;
+      control = eqb (getD bs (controlPlace version) 0) 1;
+      required = nthF64 bs (demandNumbers version) 0;
+      start = nthF64 bs (demandNumbers version) 1;
+      feed = givenAt bs (returnPlace version);
     }
 
 unfoldable pub demandCall : ℕ → List ℕ → ReadCall
-demandCall version bs = cond (leb (getD bs commitPlace 0) 1 && (leb (getD bs controlPlace 0) 1 && markOk bs returnPlace)) (Good (DemandEnergy (demandAt version bs))) Bad
+demandCall version bs =
+    cond (leb (getD bs (commitPlace version) 0) 1 && (leb (getD bs (controlPlace version) 0) 1 && markOk bs (returnPlace version)))
+    (Good (DemandEnergy (demandAt version bs))) Bad
 
 -- '3 hydronic: inlet, hours, flow, target, limit, hex a, hex b, velocity, diameter'
 unfoldable pub hydronicAt : ℕ → List ℕ → Hydronic

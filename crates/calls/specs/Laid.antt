@@ -15,5 +15,5 @@ pub record LaidCall (version : ℕ) (bs : List ℕ) : Type 0 where
   pub from-one : 1 ≤ getD bs 0 0
   pub to-seven : getD bs 0 0 ≤ 7
   pub long : length bs ≡ callLength version (getD bs 0 0)
-  pub demand : getD bs 0 0 ≡ 1 → (getD bs commitPlace 0 ≤ 1) × (getD bs controlPlace 0 ≤ 1) × Marked bs returnPlace
+  pub demand : getD bs 0 0 ≡ 1 → (getD bs (commitPlace version) 0 ≤ 1) × (getD bs (controlPlace version) 0 ≤ 1) × Marked bs (returnPlace version)
   pub flow-maximum : getD bs 0 0 ≡ 7 → Marked bs fieldsPlace

@@ -6,7 +6,7 @@ use battery::Hydronic;
 ghost use mathlib.Core.Path.{_≡_};
 ghost use Prim.Native.Nat.{_+_, _≤_};
 ghost use lib.ListN.{length};
-ghost use Rattle.calls.specs.Calls.{callLength, markOk, givenAt, demandAt, demandCall, hydronicAt, chargeDemandCall, bareCall, callBy, callOf};
+ghost use Rattle.calls.specs.Calls.{commitPlace, callLength, markOk, givenAt, demandAt, demandCall, hydronicAt, chargeDemandCall, bareCall, callBy, callOf};
 
 // What the bytes of a call are: bad ones are refused with 10 by A's entry, with 42 by the auditor.
 pub enum ReadCall {
@@ -17,21 +17,26 @@ pub enum ReadCall {
 // Place of the first field.
 const FIELDS: usize = 1;
 
-// Places of a demand's two flags, its numbers and its return mark.
-const COMMIT: usize = 2;
+// How far after a demand's first flag its second one, its numbers and its return mark stand.
+const CONTROL: usize = 1;
 
-const CONTROL: usize = 3;
+const NUMBERS: usize = 2;
 
-const NUMBERS: usize = 4;
+const RETURN: usize = 18;
 
-const RETURN: usize = 20;
+// The place of a demand's first flag.
+fn commit_place(version: u8) -> usize
+    ensures { λ r. ⌜ r ≡ commitPlace version ⌝ }
+{
+    2
+}
 
 // The bytes of a call of a kind, 0 where there is no such kind.
 pub fn call_length(version: u8, kind: u8) -> usize
     ensures { λ r. ⌜ r ≡ callLength version kind ⌝ }
 {
     if kind == 1 {
-        29
+        commit_place(version) + RETURN + 9
     } else if kind == 2 {
         17
     } else if kind == 3 {
@@ -76,13 +81,14 @@ fn read_demand(version: u8, bytes: &[u8]) -> Demand
     requires { ⌜ callLength version 1 ≤ length (now bytes) ⌝ }
     ensures { λ r. ⌜ r ≡ demandAt version (now (bytes .entry)) ⌝ }
 {
-    let feed = read_given(bytes, RETURN);
+    let commit = commit_place(version);
+    let feed = read_given(bytes, commit + RETURN);
     Demand {
         service: bytes[FIELDS],
-        commit: bytes[COMMIT] == 1,
-        control: bytes[CONTROL] == 1,
-        required: codec::nth_f64(bytes, NUMBERS, 0),
-        start: codec::nth_f64(bytes, NUMBERS, 1),
+        commit: bytes[commit] == 1,
+        control: bytes[commit + CONTROL] == 1,
+        required: codec::nth_f64(bytes, commit + NUMBERS, 0),
+        start: codec::nth_f64(bytes, commit + NUMBERS, 1),
         feed,
     }
 }
@@ -91,9 +97,13 @@ fn demand_call(version: u8, bytes: &[u8]) -> ReadCall
     requires { ⌜ callLength version 1 ≤ length (now bytes) ⌝ }
     ensures { λ r. ⌜ r ≡ demandCall version (now (bytes .entry)) ⌝ }
 {
+    let commit = commit_place(version);
     if logic::both(
-        bytes[COMMIT] <= 1,
-        logic::both(bytes[CONTROL] <= 1, mark_ok(bytes, RETURN)),
+        bytes[commit] <= 1,
+        logic::both(
+            bytes[commit + CONTROL] <= 1,
+            mark_ok(bytes, commit + RETURN),
+        ),
     ) {
         return ReadCall::Good(Call::DemandEnergy(read_demand(version, bytes)));
     }

@@ -2,3 +2,5 @@ pub mod Accepted
 pub mod Salt
 pub mod Within
 pub mod OneTest
+pub mod Versions
+pub mod Refusals

@@ -1,6 +1,9 @@
--- Document 01, 'Card' and refusals 1 to 4. The version is the sheet's; 1 is the only one known.
+-- Document 01, 'Card' and refusals 1 to 4. The version is the sheet's.
 use Prim.Native.Nat.{ℕ}
+use mathlib.Core.Path.{_≡_}
 use mathlib.Core.Bool.{Bool, cond, _&&_}
+use mathlib.Core.List.{List, [], _∷_}
+use mathlib.Core.Logic.{_⊎_}
 use lib.Dec.{leb}
 use lib.Ieee.{lt, le}
 use Rattle.floats.specs.Constants.{maxRelative, tolerance, ratedAmbient}
@@ -69,3 +72,15 @@ verdictNumber NothingToStore = 4
 
 unfoldable pub cardRefusal : ℕ → Card → ℕ
 cardRefusal version c = verdictNumber (cardVerdict version c)
+
+-- one of these numbers
+abbrev pub OneOf : List ℕ → ℕ → Type 0
+OneOf [] n = ⊥
+OneOf (x ∷ xs) n = (n ≡ x) ⊎ OneOf xs n
+
+-- the refusals of a card
+abbrev pub cardRefusals : List ℕ
+cardRefusals = 1 ∷ 2 ∷ 3 ∷ 4 ∷ []
+
+abbrev pub CardRefusal : ℕ → Type 0
+CardRefusal r = OneOf cardRefusals r

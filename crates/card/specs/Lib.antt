@@ -1,3 +1,4 @@
+pub mod Version
 pub mod Card
 pub mod Derived
 pub mod Fits

@@ -1,4 +1,6 @@
 // The card: document 01's fields and their ranges, and whether 1 to 4 accept it.
+pub mod version;
+
 use zone::Kilojoules;
 use zone::Salt;
 ghost use mathlib.Core.Path.{_≡_};

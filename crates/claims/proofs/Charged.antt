@@ -22,57 +22,62 @@ use Rattle.battery.specs.declared.Answer.{Answer}
 use Rattle.engine.specs.Steps.{stepOf}
 use Rattle.engine.proofs.StepKeeps.{charge-adds-energy, charged-stays}
 use Rattle.records.specs.Cards.{cardAt}
-use Rattle.sheet.specs.Answers.{agrees}
+use Rattle.sheet.specs.Answers.{sameNumber, agrees}
+use Rattle.auditor.specs.Rules.{Rules, plain, NoLooser}
 use Rattle.auditor.specs.Sheet.{Line, Laid, Sheet}
 use Rattle.claims.specs.Claims.{shown, answeredCharge, sumAfter, AllSummed}
 use Rattle.auditor.proofs.Stepped.{Stepped}
 use Rattle.auditor.proofs.Walks.{Own, next-own}
 use Rattle.auditor.proofs.Opened.{fresh-own}
-use Rattle.auditor.proofs.Exact.{sheet-stepped}
+use Rattle.auditor.proofs.Exact.{sheet-stepped, plain-sheet}
 use Rattle.auditor.proofs.ReadCalls.{read-charge}
 use Rattle.claims.proofs.Shown.{shown-refusal, shown-energy, shown-charged, charged-number}
 
-module _ (c : Card) (b : Battery) (o : Own 1 c b) (sum : Float) (same : T (eq sum (b .charged))) (l : Line) (call : Call) (laid : Laid 1 c l call)
-    (a : agrees (shown c l) (stepOf 1 b call) ≡ true) where
+module _ (version : ℕ) (c : Card) (b : Battery) (o : Own version c b) (sum : Float) (same : T (eq sum (b .charged))) (l : Line) (call : Call) (laid : Laid version c l call)
+    (a : agrees sameNumber (shown version c l) (stepOf version b call) ≡ true) where
   abbrev own : Answer
-  own = stepOf 1 b call
+  own = stepOf version b call
 
-  charges : answeredCharge c l ≡ (isCharge call && eqb (own .refusal) 0)
+  charges : answeredCharge version c l ≡ (isCharge call && eqb (own .refusal) 0)
   unfolding answeredCharge
-  charges = ap₂ (λ (x : Bool) (r : ℕ). x && eqb r 0) (sym (read-charge (l .call) call (laid .reads))) (shown-refusal c l own a)
+  charges = ap₂ (λ (x : Bool) (r : ℕ). x && eqb r 0) (sym (read-charge version (l .call) call (laid .reads))) (shown-refusal version c l own a)
 
   -- the sum on the sheet is the steps' total
-  by-charge : (t : Bool) → (isCharge call && eqb (own .refusal) 0) ≡ t → T (eq (cond t (sum ⊕ shown c l .energy) sum) (own .battery .charged))
+  by-charge : (t : Bool) → (isCharge call && eqb (own .refusal) 0) ≡ t → T (eq (cond t (sum ⊕ shown version c l .energy) sum) (own .battery .charged))
   by-charge true h =
       let p = and-true (isCharge call) (eqb (own .refusal) 0) h in
-      let e : own .battery .charged ≡ b .charged ⊕ own .energy = charge-adds-energy 1 b call (p .0) (eqb-true (own .refusal) 0 (p .1)) in
-      let n : T (number (b .charged ⊕ own .energy)) = rw e at (charged-number 1 b call (o .good)) in
+      let e : own .battery .charged ≡ b .charged ⊕ own .energy = charge-adds-energy version b call (p .0) (eqb-true (own .refusal) 0 (p .1)) in
+      let n : T (number (b .charged ⊕ own .energy)) = rw e at (charged-number version b call (o .good)) in
       rw e
-      (eq-sym (b .charged ⊕ own .energy) (sum ⊕ shown c l .energy)
-      (add-respects binary64 (b .charged) sum (own .energy) (shown c l .energy) (eq-sym sum (b .charged) same) (eq-sym (shown c l .energy) (own .energy) (shown-energy c l own a)) n))
-  by-charge false h = rw (charged-stays 1 b call (λ p q. no-both (sym (rw (p, q)) ∙ h))) same
+      (eq-sym (b .charged ⊕ own .energy) (sum ⊕ shown version c l .energy)
+      (add-respects binary64 (b .charged) sum (own .energy) (shown version c l .energy) (eq-sym sum (b .charged) same) (eq-sym (shown version c l .energy) (own .energy) (shown-energy version c l own a)) n))
+  by-charge false h = rw (charged-stays version b call (λ p q. no-both (sym (rw (p, q)) ∙ h))) same
 
-  pub kept : T (eq (sumAfter c sum l) (own .battery .charged))
+  pub kept : T (eq (sumAfter version c sum l) (own .battery .charged))
   unfolding sumAfter
   kept = rw charges (by-charge (isCharge call && eqb (own .refusal) 0) refl)
 
-  pub summed : eq (shown c l .battery .charged) (sumAfter c sum l) ≡ true
+  pub summed : eq (shown version c l .battery .charged) (sumAfter version c sum l) ≡ true
   summed =
-      is-true (eq (shown c l .battery .charged) (sumAfter c sum l))
-      (eq-trans (shown c l .battery .charged) (own .battery .charged) (sumAfter c sum l) (shown-charged c l own a) (eq-sym (sumAfter c sum l) (own .battery .charged) kept))
+      is-true (eq (shown version c l .battery .charged) (sumAfter version c sum l))
+      (eq-trans (shown version c l .battery .charged) (own .battery .charged) (sumAfter version c sum l) (shown-charged version c l own a) (eq-sym (sumAfter version c sum l) (own .battery .charged) kept))
 
-all-summed : (c : Card) (ls : List Line) (calls : List Call) (b : Battery) → Own 1 c b → (sum : Float) → T (eq sum (b .charged)) → Stepped 1 c b ls calls → AllSummed c sum ls
-all-summed c [] [] b o sum same s = tt
-all-summed c [] (call ∷ calls) b o sum same s = absurd s
-all-summed c (l ∷ ls) [] b o sum same s = absurd s
-all-summed c (l ∷ ls) (call ∷ calls) b o sum same s = (
-  summed c b o sum same l call (s .0) (s .1),
-  all-summed c ls calls (stepOf 1 b call .battery) (next-own 1 c b o call) (sumAfter c sum l) (kept c b o sum same l call (s .0) (s .1)) (s .2),
+all-summed : (version : ℕ) (c : Card) (ls : List Line) (calls : List Call) (b : Battery) → Own version c b → (sum : Float) → T (eq sum (b .charged)) → Stepped sameNumber version c b ls calls → AllSummed version c sum ls
+all-summed version c [] [] b o sum same s = tt
+all-summed version c [] (call ∷ calls) b o sum same s = absurd s
+all-summed version c (l ∷ ls) [] b o sum same s = absurd s
+all-summed version c (l ∷ ls) (call ∷ calls) b o sum same s = (
+  summed version c b o sum same l call (s .0) (s .1),
+  all-summed version c ls calls (stepOf version b call .battery) (next-own version c b o call) (sumAfter version c sum l) (kept version c b o sum same l call (s .0) (s .1)) (s .2),
 )
 
--- 'The charged sum starts at 0'
-pub charged-total : (bs : List ℕ) (n : ℕ) (s : Sheet bs n) → AllSummed (cardAt 1 (s .card)) zero (s .lines)
+total : (bs : List ℕ) (n : ℕ) (s : Sheet plain bs n) → AllSummed (s .version) (cardAt (s .version) (s .card)) zero (s .lines)
 unfolding fresh ofBits eq
-charged-total bs n s =
-    let c = cardAt 1 (s .card) in
-    all-summed c (s .lines) (s .calls) (fresh c) (fresh-own (s .card) (s .accepted)) zero tt (sheet-stepped bs n s)
+total bs n s =
+    let c = cardAt (s .version) (s .card) in
+    all-summed (s .version) c (s .lines) (s .calls) (fresh c) (fresh-own (s .version) (s .card) (s .accepted)) zero tt (sheet-stepped plain bs n s)
+
+-- 'The charged sum starts at 0'
+pub charged-total : (rules : Rules) → NoLooser rules → (bs : List ℕ) (n : ℕ) (s : Sheet rules bs n) → AllSummed (s .version) (cardAt (s .version) (s .card)) zero (s .lines)
+unfolding plain-sheet
+charged-total rules more bs n s = total bs n (plain-sheet rules more bs n s)

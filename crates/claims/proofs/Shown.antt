@@ -36,22 +36,22 @@ same-number x y h = holds h
 abbrev pub SameZones : Card → (ℕ → Float) → Battery → Type 0
 SameZones c zones b = (i : ℕ) → i < c .layers → T (eq (zones i) (getD (b .zones) i nan))
 
-module _ (c : Card) (l : Line) (own : Answer) (a : agrees (shown c l) own ≡ true) where
-  parts : Agreed (shown c l) own
-  parts = agreed (shown c l) own a
+module _ (version : ℕ) (c : Card) (l : Line) (own : Answer) (a : agrees sameNumber (shown version c l) own ≡ true) where
+  parts : Agreed sameNumber (shown version c l) own
+  parts = agreed sameNumber (shown version c l) own a
 
-  pub shown-refusal : shown c l .refusal ≡ own .refusal
+  pub shown-refusal : shown version c l .refusal ≡ own .refusal
   shown-refusal = parts .refusal
 
-  pub shown-energy : T (eq (shown c l .energy) (own .energy))
-  shown-energy = same-number (shown c l .energy) (own .energy) (parts .energy)
+  pub shown-energy : T (eq (shown version c l .energy) (own .energy))
+  shown-energy = same-number (shown version c l .energy) (own .energy) (parts .energy)
 
-  pub shown-charged : T (eq (shown c l .battery .charged) (own .battery .charged))
-  shown-charged = same-number (shown c l .battery .charged) (own .battery .charged) (parts .charged)
+  pub shown-charged : T (eq (shown version c l .battery .charged) (own .battery .charged))
+  shown-charged = same-number (shown version c l .battery .charged) (own .battery .charged) (parts .charged)
 
-  pub shown-zones : SameZones c (zonesIn c l) (own .battery)
+  pub shown-zones : SameZones c (zonesIn version c l) (own .battery)
   unfolding answerAt stateAt
-  shown-zones i k = same-number (zonesIn c l i) (getD (own .battery .zones) i nan) (parts .zones i k)
+  shown-zones i k = same-number (zonesIn version c l i) (getD (own .battery .zones) i nan) (parts .zones i k)
 
 -- the steps' charged total is a number
 pub charged-number : (version : ℕ) (b : Battery) (call : Call) → GoodBattery version b → T (number (stepOf version b call .battery .charged))

@@ -17,15 +17,15 @@ use Rattle.auditor.specs.Sheet.{Line}
 abbrev pub kindIn : Line → ℕ
 kindIn l = getD (l .call) 0 0
 
-abbrev pub shown : Card → Line → Answer
-shown c l = answerAt 1 c (l .answer)
+abbrev pub shown : ℕ → Card → Line → Answer
+shown version c l = answerAt version c (l .answer)
 
-abbrev pub zonesIn : Card → Line → ℕ → Float
-zonesIn c l i = getD (shown c l .battery .zones) i nan
+abbrev pub zonesIn : ℕ → Card → Line → ℕ → Float
+zonesIn version c l i = getD (shown version c l .battery .zones) i nan
 
 -- 'a trial line is kind 1 with commit 0'
-abbrev pub IsTrial : Line → Type 0
-IsTrial l = (kindIn l ≡ 1) × (getD (l .call) commitPlace 0 ≡ 0)
+abbrev pub IsTrial : ℕ → Line → Type 0
+IsTrial version l = (kindIn l ≡ 1) × (getD (l .call) (commitPlace version) 0 ≡ 0)
 
 -- ---- Directions: 'Warmer, cooler and altered compare each zone, as f64, with the line before; on the first call line, with the start temperature.'
 
@@ -39,27 +39,27 @@ abbrev pub NoneAltered : Card → (ℕ → Float) → (ℕ → Float) → Type 0
 NoneAltered c before after = (i : ℕ) → i < c .layers → eq (after i) (before i) ≡ true
 
 -- 'no zone is warmer after a standing loss, none cooler after an electric charge, and none altered by a refused or trial line'
-pub record Directed (c : Card) (l : Line) (before after : ℕ → Float) : Type 0 where
+pub record Directed (version : ℕ) (c : Card) (l : Line) (before after : ℕ → Float) : Type 0 where
   pub loss : kindIn l ≡ 4 → NoneWarmer c before after
   pub electric : kindIn l ≡ 2 → NoneCooler c before after
-  pub refused : (shown c l .refusal ≡ 0 → ⊥) → NoneAltered c before after
-  pub trial : IsTrial l → NoneAltered c before after
+  pub refused : (shown version c l .refusal ≡ 0 → ⊥) → NoneAltered c before after
+  pub trial : IsTrial version l → NoneAltered c before after
 
 -- line after line, from the zones before the first
-abbrev pub AllDirected : Card → (ℕ → Float) → List Line → Type 0
-AllDirected c before [] = Unit
-AllDirected c before (l ∷ ls) = Directed c l before (zonesIn c l) × AllDirected c (zonesIn c l) ls
+abbrev pub AllDirected : ℕ → Card → (ℕ → Float) → List Line → Type 0
+AllDirected version c before [] = Unit
+AllDirected version c before (l ∷ ls) = Directed version c l before (zonesIn version c l) × AllDirected version c (zonesIn version c l) ls
 
 -- ---- Charged total: 'Charge lines are kinds 2 and 3'
 
-unfoldable pub answeredCharge : Card → Line → Bool
-answeredCharge c l = (eqb (kindIn l) 2 || eqb (kindIn l) 3) && eqb (shown c l .refusal) 0
+unfoldable pub answeredCharge : ℕ → Card → Line → Bool
+answeredCharge version c l = (eqb (kindIn l) 2 || eqb (kindIn l) 3) && eqb (shown version c l .refusal) 0
 
--- the sum behind a line: the line's energy, as written, is added where it is an answered charge line
-unfoldable pub sumAfter : Card → Float → Line → Float
-sumAfter c sum l = cond (answeredCharge c l) (sum ⊕ shown c l .energy) sum
+-- the sum after a line: the line's energy, as written, is added where it is an answered charge line
+unfoldable pub sumAfter : ℕ → Card → Float → Line → Float
+sumAfter version c sum l = cond (answeredCharge version c l) (sum ⊕ shown version c l .energy) sum
 
 -- 'On each of its call lines the charged total is the f64 sum, in line order, of the energies of the answered charge lines up to it', by f64 equality
-abbrev pub AllSummed : Card → Float → List Line → Type 0
-AllSummed c sum [] = Unit
-AllSummed c sum (l ∷ ls) = (eq (shown c l .battery .charged) (sumAfter c sum l) ≡ true) × AllSummed c (sumAfter c sum l) ls
+abbrev pub AllSummed : ℕ → Card → Float → List Line → Type 0
+AllSummed version c sum [] = Unit
+AllSummed version c sum (l ∷ ls) = (eq (shown version c l .battery .charged) (sumAfter version c sum l) ≡ true) × AllSummed version c (sumAfter version c sum l) ls

@@ -6,6 +6,7 @@ use lib.ListN.{getD, replicate}
 use lib.Ieee.{binary64, ofBits, fits, nan}
 use Rattle.floats.specs.Constants.{zero}
 use Rattle.floats.specs.Standins.{finite64}
+use Rattle.card.specs.Version.{onlyVersion}
 use Rattle.battery.specs.Battery.{zonesFinite}
 use Rattle.battery.specs.Ledger.{totalsFinite}
 use Rattle.battery.specs.Answer.{plainAnswer, numbersFinite, answerFinite}
@@ -23,7 +24,7 @@ module _ (b : Battery) (layers : b .card .layers ≡ 1) (zone : getD (b .zones) 
   unfolding answerFinite numbersFinite plainAnswer closedBattery zonesFinite totalsFinite finite64 fits ofBits
   closed-finite = rw (layers, zone, charged, electric)
 
-  closed-answer : stepOf 1 b CloseTimestep ≡ plainAnswer zero (closedBattery b)
+  closed-answer : stepOf onlyVersion b CloseTimestep ≡ plainAnswer zero (closedBattery b)
   unfolding stepOf checked
   closed-answer = rw closed-finite
 
@@ -32,6 +33,6 @@ module _ (b : Battery) (layers : b .card .layers ≡ 1) (zone : getD (b .zones) 
   closed = record { layers = layers; zone = zone; total = refl; pump = refl; direct = refl; charged = charged; electric = electric }
 
   -- '`004f`, `05`, 30 zero bytes, `404e000000000000`, 40 zero bytes'
-  pub closing-line : lineBytes 1 (5 ∷ []) (stepOf 1 b CloseTimestep)
+  pub closing-line : lineBytes onlyVersion (5 ∷ []) (stepOf onlyVersion b CloseTimestep)
       ≡ 0x00 ∷ 0x4f ∷ 0x05 ∷ (replicate 30 0 ++ (0x40 ∷ 0x4e ∷ 0x00 ∷ 0x00 ∷ 0x00 ∷ 0x00 ∷ 0x00 ∷ 0x00 ∷ replicate 40 0))
-  closing-line = ap (lineBytes 1 (5 ∷ [])) closed-answer ∙ sheet.closing-line (closedBattery b) closed
+  closing-line = ap (lineBytes onlyVersion (5 ∷ [])) closed-answer ∙ sheet.closing-line (closedBattery b) closed

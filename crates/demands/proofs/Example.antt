@@ -11,6 +11,7 @@ use Rattle.ranges.specs.Ranges.{within, isSubstep, isTimestep, isTemperature, i
 use Rattle.update.specs.Update.{retrievingFromBelow, retrieving, newZoneTemperature}
 use Rattle.charging.specs.Charging.{counted, chargingWithdrawn, chargingAdded, zoneSimultaneousCharging}
 use Rattle.water.specs.Water.{zoneProperties}
+use Rattle.card.specs.Version.{onlyVersion, knownVersion}
 use Rattle.card.specs.Card.{countsInRange, timesInRange, temperaturesInRange, capacitiesInRange, exchangerInRange, powersInRange, cardInRange, cardVerdict, verdictNumber, cardRefusal}
 use Rattle.card.specs.Derived.{saltOf, energyAt, derived}
 use Rattle.battery.specs.Answer.{refusedWith, plainAnswer, numbersFinite, answerFinite}
@@ -22,23 +23,24 @@ use Rattle.runs.specs.Charge.{electricDrive, electricEnded, chargeElectric, cha
 use Rattle.runs.specs.Runs.{faultEnd, endRefusal, timeAvailable}
 use Rattle.replies.specs.Replies.{checked, unlessRefused, chargedBattery, runAnswer}
 use Rattle.engine.specs.Steps.{demandGiven, demandEnergy, charge, stepOf, advanceOf}
-use Rattle.calls.specs.Calls.{callLength, markOk, givenAt, demandAt, demandCall, callBy, callOf}
+use Rattle.calls.specs.Calls.{commitPlace, callLength, markOk, givenAt, demandAt, demandCall, callBy, callOf}
 use Rattle.records.specs.Cards.{cardLength, cardAt}
 use Rattle.records.specs.Records.{zonesAt, zonesBytes, totalsBytes, stateLength, stateAt, stateBytes, recordLength, recordOf, recordBytes}
 use Rattle.sheet.specs.Answers.{headLength, answerLength, answerAt, headBytes, answerBytes, marksOk, sameNumber, sameZones, sameTotals, agrees}
 use Rattle.sheet.specs.Lines.{lineLength, lineSize, lineBytes, openingLength, openingBytes}
 use Rattle.entry.specs.Entry.{openOf, renewed, lineAfter, recordLaid}
 use Rattle.front.specs.Front.{callPart, answerPart, behind, headOk, lineCall}
-use Rattle.auditor.specs.Audit.{judge, auditLine, auditFrom, cardLineOk, auditLines, auditOf}
+use Rattle.auditor.specs.Audit.{judge, auditLine, auditFrom, cardLineOk, auditLines, auditCard, auditOf}
+use Rattle.auditor.specs.Rules.{plain}
 use Rattle.heat_battery.specs.Entries.{entryRead, entryOf}
 use Rattle.auditor.specs.declared.Verdict.the-variants.{Accepted}
 use Rattle.demands.specs.Example.{exampleCard, freshRecord, exampleOpening, exampleCharge, chargeLine, chargedRecord, exampleDemand, refusedLine, exampleSheet}
 
 -- A opens with this card; the first call is answered and the second refused, and they write these bytes; B accepts the sheet
 pub example :
-    (openOf 1 exampleCard (replicate 206 0) (replicate 161 0) ≡ record { code = 0; record' = freshRecord; sheet = exampleOpening })
-    × (entryOf 1 freshRecord exampleCharge (replicate 97 0) ≡ record { code = 0; record' = chargedRecord; sheet = chargeLine })
-    × (entryOf 1 chargedRecord exampleDemand (replicate 109 0) ≡ record { code = 20; record' = chargedRecord; sheet = refusedLine })
-    × (auditOf exampleSheet ≡ Accepted 2)
-unfolding finite64 magnitude larger nearlyEqual maxZero sum2Step sum2After sum2 be beBytes f64Of f64Bytes over kilowattHours kilojoules layerEnergyStored tempAt socToTemp zoneSalt zoneEnergyRequired within isSubstep isTimestep isTemperature isCapacity isVelocity isDiameter isCoefficient isFlow isPower retrievingFromBelow retrieving newZoneTemperature counted chargingWithdrawn chargingAdded zoneSimultaneousCharging zoneProperties countsInRange timesInRange temperaturesInRange capacitiesInRange exchangerInRange powersInRange cardInRange cardVerdict verdictNumber cardRefusal saltOf energyAt derived refusedWith plainAnswer numbersFinite answerFinite freshZones fresh zonesFinite totalsFinite batteryAccepted isLevel isGivenTemperature demandInRange callInRange zoneIndex zoneCharge zoneStep zoneAt zonesAfter zoneTransfer courseOf chargerHeat passFrom passFinite passFault outcomeOf substepFrom withTransfer processHeatBatteryZones electricDrive electricEnded chargeElectric chargeBattery faultEnd endRefusal timeAvailable checked unlessRefused chargedBattery runAnswer demandGiven demandEnergy charge stepOf advanceOf callLength markOk givenAt demandAt demandCall callBy callOf cardLength cardAt zonesAt zonesBytes totalsBytes stateLength stateAt stateBytes recordLength recordOf recordBytes headLength answerLength answerAt headBytes answerBytes marksOk sameNumber sameZones sameTotals agrees lineLength lineSize lineBytes openingLength openingBytes openOf renewed lineAfter recordLaid callPart answerPart behind headOk lineCall judge auditLine auditFrom cardLineOk auditLines auditOf entryRead entryOf ofBits toBits ofInt add sub mul div neg lt le eq fits
+    (openOf onlyVersion exampleCard (replicate 206 0) (replicate 161 0) ≡ record { code = 0; record' = freshRecord; sheet = exampleOpening })
+    × (entryOf onlyVersion freshRecord exampleCharge (replicate 97 0) ≡ record { code = 0; record' = chargedRecord; sheet = chargeLine })
+    × (entryOf onlyVersion chargedRecord exampleDemand (replicate 109 0) ≡ record { code = 20; record' = chargedRecord; sheet = refusedLine })
+    × (auditOf plain exampleSheet ≡ Accepted 2)
+unfolding knownVersion finite64 magnitude larger nearlyEqual maxZero sum2Step sum2After sum2 be beBytes f64Of f64Bytes over kilowattHours kilojoules layerEnergyStored tempAt socToTemp zoneSalt zoneEnergyRequired within isSubstep isTimestep isTemperature isCapacity isVelocity isDiameter isCoefficient isFlow isPower retrievingFromBelow retrieving newZoneTemperature counted chargingWithdrawn chargingAdded zoneSimultaneousCharging zoneProperties countsInRange timesInRange temperaturesInRange capacitiesInRange exchangerInRange powersInRange cardInRange cardVerdict verdictNumber cardRefusal saltOf energyAt derived refusedWith plainAnswer numbersFinite answerFinite freshZones fresh zonesFinite totalsFinite batteryAccepted isLevel isGivenTemperature demandInRange callInRange zoneIndex zoneCharge zoneStep zoneAt zonesAfter zoneTransfer courseOf chargerHeat passFrom passFinite passFault outcomeOf substepFrom withTransfer processHeatBatteryZones electricDrive electricEnded chargeElectric chargeBattery faultEnd endRefusal timeAvailable checked unlessRefused chargedBattery runAnswer demandGiven demandEnergy charge stepOf advanceOf commitPlace callLength markOk givenAt demandAt demandCall callBy callOf cardLength cardAt zonesAt zonesBytes totalsBytes stateLength stateAt stateBytes recordLength recordOf recordBytes headLength answerLength answerAt headBytes answerBytes marksOk sameNumber sameZones sameTotals agrees lineLength lineSize lineBytes openingLength openingBytes openOf renewed lineAfter recordLaid callPart answerPart behind headOk lineCall judge auditLine auditFrom cardLineOk auditLines auditCard auditOf entryRead entryOf ofBits toBits ofInt add sub mul div neg lt le eq fits
 example = (refl, refl, refl, refl)

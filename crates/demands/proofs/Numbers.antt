@@ -4,8 +4,8 @@ use native.Mathlib.Omega.{arith}
 use native.Mathlib.Decide.{ℕ-discrete}
 use mathlib.Core.Path.{_≡_}
 use mathlib.Core.Logic.{_⊎_, inl, inr}
-use mathlib.Core.List.{List, [], _∷_}
-use Rattle.demands.specs.Promises.{OneOf}
+use mathlib.Core.List.{[], _∷_}
+use Rattle.card.specs.Card.{OneOf}
 
 -- a number from 20 to 25
 late : (n : ℕ) → 20 ≤ n → n ≤ 25 → OneOf (20 ∷ 21 ∷ 22 ∷ 23 ∷ 24 ∷ 25 ∷ []) n
@@ -18,21 +18,6 @@ late n low high = on (ℕ-discrete n 20) (ℕ-discrete n 21) (ℕ-discrete n 22)
     on (no a) (no b) (no c) (yes e) f = inr (inr (inr (inl e)))
     on (no a) (no b) (no c) (no d) (yes e) = inr (inr (inr (inr (inl e))))
     on (no a) (no b) (no c) (no d) (no f) = inr (inr (inr (inr (inr (inl (omega arith))))))
-
-early : (n : ℕ) (others : List ℕ) → n ≤ 4 → OneOf (0 ∷ 1 ∷ 2 ∷ 3 ∷ 4 ∷ others) n
-early n others h = on (ℕ-discrete n 0) (ℕ-discrete n 1) (ℕ-discrete n 2) (ℕ-discrete n 3)
-  where
-    on : Dec (n ≡ 0) → Dec (n ≡ 1) → Dec (n ≡ 2) → Dec (n ≡ 3) → OneOf (0 ∷ 1 ∷ 2 ∷ 3 ∷ 4 ∷ others) n
-    on (yes e) b c d = inl e
-    on (no a) (yes e) c d = inr (inl e)
-    on (no a) (no b) (yes e) d = inr (inr (inl e))
-    on (no a) (no b) (no c) (yes e) = inr (inr (inr (inl e)))
-    on (no a) (no b) (no c) (no d) = inr (inr (inr (inr (inl (omega arith)))))
-
-pub among-opening : (n : ℕ) → (n ≤ 4) ⊎ ((n ≡ 10) ⊎ (n ≡ 11)) → OneOf (0 ∷ 1 ∷ 2 ∷ 3 ∷ 4 ∷ 10 ∷ 11 ∷ []) n
-among-opening n (inl h) = early n (10 ∷ 11 ∷ []) h
-among-opening n (inr (inl h)) = inr (inr (inr (inr (inr (inl h)))))
-among-opening n (inr (inr h)) = inr (inr (inr (inr (inr (inr (inl h))))))
 
 pub among-call : (n : ℕ) → ((n ≡ 10) ⊎ (n ≡ 11)) ⊎ ((n ≡ 0) ⊎ ((20 ≤ n) × (n ≤ 25))) → OneOf (0 ∷ 10 ∷ 11 ∷ 20 ∷ 21 ∷ 22 ∷ 23 ∷ 24 ∷ 25 ∷ []) n
 among-call n (inl (inl h)) = inr (inl h)

@@ -20,24 +20,24 @@ use Rattle.heat_battery.proofs.Encodings.{lined, Entered, kept-10, kept-11, ste
 use Rattle.heat_battery.proofs.EqualSteps.{spared-more, nothing-used}
 
 -- each of the calls is read, and its fields are in range
-abbrev pub AllGood : Card → List (List ℕ) → Type 0
-AllGood c [] = Unit
-AllGood c (call ∷ calls) = ((d : Call) × (callOf 1 call ≡ Good d) × (callInRange 1 c d ≡ true)) × AllGood c calls
+abbrev pub AllGood : ℕ → Card → List (List ℕ) → Type 0
+AllGood version c [] = Unit
+AllGood version c (call ∷ calls) = ((d : Call) × (callOf version call ≡ Good d) × (callInRange version c d ≡ true)) × AllGood version c calls
 
-module _ (card : List ℕ) where
-  pub spared-good : (calls : List (List ℕ)) (b : Battery) (rec free : List ℕ) → Encoded 1 card b rec → AllGood (b .card) (spared 1 rec free calls)
+module _ (version : ℕ) (card : List ℕ) where
+  pub spared-good : (calls : List (List ℕ)) (b : Battery) (rec free : List ℕ) → Encoded version card b rec → AllGood version (b .card) (spared version rec free calls)
   unfolding spared noLine
   spared-good [] b rec free e = tt
-  spared-good (call ∷ calls) b rec free e = on (λ b′ rec′ free′ h. spared-good calls b′ rec′ free′ h) (entry-on-encoding 1 card b rec e call free)
+  spared-good (call ∷ calls) b rec free e = on (λ b′ rec′ free′ h. spared-good calls b′ rec′ free′ h) (entry-on-encoding version card b rec e call free)
     where
-      on : ((b′ : Battery) (rec′ free′ : List ℕ) → Encoded 1 card b′ rec′ → AllGood (b′ .card) (spared 1 rec′ free′ calls)) → Entered 1 card b rec call free
-          → AllGood (b .card) (spared 1 rec free (call ∷ calls))
-      on ih (kept-10 h) = rw (spared-more 1 rec call free calls (unchanged 10 rec free) h, nothing-used rec free 10 refl) (ih b rec free e)
-      on ih (kept-11 h) = rw (spared-more 1 rec call free calls (unchanged 11 rec free) h, nothing-used rec free 11 refl) (ih b rec free e)
+      on : ((b′ : Battery) (rec′ free′ : List ℕ) → Encoded version card b′ rec′ → AllGood version (b′ .card) (spared version rec′ free′ calls)) → Entered version card b rec call free
+          → AllGood version (b .card) (spared version rec free (call ∷ calls))
+      on ih (kept-10 h) = rw (spared-more version rec call free calls (unchanged 10 rec free) h, nothing-used rec free 10 refl) (ih b rec free e)
+      on ih (kept-11 h) = rw (spared-more version rec call free calls (unchanged 11 rec free) h, nothing-used rec free 11 refl) (ih b rec free e)
       on ih (stepped d k i h room) =
-          let s = stepOf 1 b d in
-          let rec′ = recordBytes 1 card (s .battery) in
-          let free′ = drop (length (lineBytes 1 call s)) free in
-          let others : AllGood (b .card) (spared 1 rec′ free′ calls) =
-          subst (λ (x : Card). AllGood x (spared 1 rec′ free′ calls)) (step-keeps-card 1 b d) (ih (s .battery) rec′ free′ (step-encoded 1 card b rec e d)) in
-          rw (spared-more 1 rec call free calls (lined 1 card call free s) h, gets-line 1 card b rec e call free d k, free-behind 1 card b rec e call free d k) ((d, k, i), others)
+          let s = stepOf version b d in
+          let rec′ = recordBytes version card (s .battery) in
+          let free′ = drop (length (lineBytes version call s)) free in
+          let others : AllGood version (b .card) (spared version rec′ free′ calls) =
+          subst (λ (x : Card). AllGood version x (spared version rec′ free′ calls)) (step-keeps-card version b d) (ih (s .battery) rec′ free′ (step-encoded version card b rec e d)) in
+          rw (spared-more version rec call free calls (lined version card call free s) h, gets-line version card b rec e call free d k, free-behind version card b rec e call free d k) ((d, k, i), others)

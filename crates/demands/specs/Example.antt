@@ -3,6 +3,7 @@ use Prim.Native.Nat.{ℕ}
 use mathlib.Core.List.{List, _∷_, _++_}
 use lib.ListN.{replicate}
 use Rattle.codec.specs.Bytes.{beBytes}
+use Rattle.card.specs.Version.{onlyVersion}
 
 -- an f64 by its bits
 abbrev num : ℕ → List ℕ
@@ -27,7 +28,7 @@ freshRecord = recordAt 0x4044000000000000 0
 
 -- what opening writes: the version and line 0
 abbrev pub exampleOpening : List ℕ
-exampleOpening = 1 ∷ (beBytes 2 158 ++ exampleCard)
+exampleOpening = onlyVersion ∷ (beBytes 2 158 ++ exampleCard)
 
 -- an electric charge of 0.08 kW to level 1: answered, the zone at 56 °C, 0.08 kWh charged
 abbrev pub exampleCharge : List ℕ

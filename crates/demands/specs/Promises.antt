@@ -1,12 +1,15 @@
 -- The promises: what the demands ask, each under its sentence, in the words of the crates below (the entries' openOf, entryOf and advancedOf, the auditor's
--- auditOf). Each is a theorem of crates/demands/proofs/Promises.antt under the same name.
+-- auditOf), for every known version: what A does takes it, and a sheet has its own. Each is a theorem of crates/demands/proofs/Promises.antt under the same name.
 use Prim.Native.Nat.{ℕ, _+_, _*_, _<_, _≤_}
 use mathlib.Core.Path.{_≡_}
+use mathlib.Core.Bool.{true}
 use mathlib.Core.Logic.{_⊎_, _↔_}
 use mathlib.Core.List.{List, [], _∷_, _++_}
 use lib.ListN.{length, drop}
 use Rattle.floats.specs.Constants.{zero}
 use Rattle.codec.specs.Bytes.{over}
+use Rattle.card.specs.Version.{knownVersion}
+use Rattle.card.specs.Card.{OneOf, cardRefusals}
 use Rattle.battery.specs.Answer.{refusedWith}
 use Rattle.battery.specs.Battery.{fresh}
 use Rattle.battery.specs.Places.{SameAbove}
@@ -14,6 +17,7 @@ use Rattle.battery.specs.declared.Battery.{Battery}
 use Rattle.engine.specs.Cases.{Case20, Case21, Case22, Case23, Case24, Case25}
 use Rattle.records.specs.Cards.{cardAt}
 use Rattle.records.specs.Records.{recordOf}
+use Rattle.sheet.specs.Answers.{AcceptsItself}
 use Rattle.sheet.specs.Lines.{lineBytes, openingBytes}
 use Rattle.entry.specs.Entry.{unchanged, openOf}
 use Rattle.own_record.specs.Record.{advancedOf}
@@ -21,149 +25,165 @@ use Rattle.heat_battery.specs.Entries.{entryOf}
 use Rattle.heat_battery.specs.Cases.{OpenCase1, OpenCase2, OpenCase3, OpenCase4, OpenCase10, OpenCase11, Opens, CallCase10, CallCase11, LineCase, OwnCase10, OwnCase}
 use Rattle.heat_battery.specs.Lists.{sheetOf, behindSheet, sparedOf, stepLines, SheetOfSteps}
 use Rattle.auditor.specs.declared.Verdict.the-variants.{Accepted, Refused}
+use Rattle.auditor.specs.Rules.{Rules, plain, NoLooser}
 use Rattle.auditor.specs.Audit.{limit, auditOf, limitedAuditOf, verdictWord, verdictFields}
 use Rattle.auditor.specs.Sheet.{Sheet}
-use Rattle.auditor.specs.Cases.{NoVersion, NoCard, BadLine, Disagrees, Known, Given}
+use Rattle.auditor.specs.Cases.{NoVersion, NoCard, CardNotTaken, BadLine, Disagrees, Known, Given}
 use Rattle.claims.specs.Claims.{AllDirected, AllSummed}
 
--- one of these numbers
-abbrev pub OneOf : List ℕ → ℕ → Type 0
-OneOf [] n = ⊥
-OneOf (x ∷ xs) n = (n ≡ x) ⊎ OneOf xs n
-
 -- ---- 1: 'A caller of any entry, with any numbers and any bytes, gets an answer or a refusal of document 01': the contracts of the five C entries
--- (crates/heat_battery/src/lib.rt) equate what each returns and leaves with openOf, entryOf, advancedOf, limitedAuditOf and auditOf; these are their numbers, 0 for an answer
+-- (crates/heat_battery/src/lib.rt) equate what each returns and leaves with openOf, entryOf and advancedOf of the version that they write, and with limitedAuditOf and auditOf of `plain`; these are their numbers, 0 for an answer
 
 abbrev pub OpeningNumbers : Type 0
-OpeningNumbers = (card rec free : List ℕ) → OneOf (0 ∷ 1 ∷ 2 ∷ 3 ∷ 4 ∷ 10 ∷ 11 ∷ []) (openOf 1 card rec free .code)
+OpeningNumbers = (version : ℕ) → knownVersion version ≡ true → (card rec free : List ℕ) → OneOf (0 ∷ 10 ∷ 11 ∷ cardRefusals) (openOf version card rec free .code)
 
 abbrev pub CallNumbers : Type 0
-CallNumbers = (rec call free : List ℕ) → OneOf (0 ∷ 10 ∷ 11 ∷ 20 ∷ 21 ∷ 22 ∷ 23 ∷ 24 ∷ 25 ∷ []) (entryOf 1 rec call free .code)
+CallNumbers =
+    (version : ℕ) → knownVersion version ≡ true → (rec call free : List ℕ) → OneOf (0 ∷ 10 ∷ 11 ∷ 20 ∷ 21 ∷ 22 ∷ 23 ∷ 24 ∷ 25 ∷ []) (entryOf version rec call free .code)
 
 abbrev pub OwnRecordNumbers : Type 0
-OwnRecordNumbers = (b : Battery) (call : List ℕ) → OneOf (0 ∷ 10 ∷ 20 ∷ 21 ∷ 22 ∷ 23 ∷ 24 ∷ 25 ∷ []) (advancedOf 1 b call .shown .refusal)
+OwnRecordNumbers =
+    (version : ℕ) → knownVersion version ≡ true → (b : Battery) (call : List ℕ) → OneOf (0 ∷ 10 ∷ 20 ∷ 21 ∷ 22 ∷ 23 ∷ 24 ∷ 25 ∷ []) (advancedOf version b call .shown .refusal)
 
 -- accepted, 40 or 41 at line 0, 42 or 43 at a call line, or 44 at line 0
 abbrev pub AuditVerdicts : Type 0
-AuditVerdicts = (bs : List ℕ) → Given (limitedAuditOf bs)
+AuditVerdicts = (bs : List ℕ) → Given (limitedAuditOf plain bs)
 
 -- the auditor without a limit of length: the same without 44
 abbrev pub AuditorVerdicts : Type 0
-AuditorVerdicts = (bs : List ℕ) (r i : ℕ) → auditOf bs ≡ Refused r i → Known r i
+AuditorVerdicts = (bs : List ℕ) (r i : ℕ) → auditOf plain bs ≡ Refused r i → Known r i
 
 -- 'and a refused call changes no battery, total or byte that 01 doesn't name'
 
 abbrev pub RefusedOpeningChangesNothing : Type 0
-RefusedOpeningChangesNothing = (card rec free : List ℕ) → (openOf 1 card rec free .code ≡ 0 → ⊥) → openOf 1 card rec free ≡ unchanged (openOf 1 card rec free .code) rec free
+RefusedOpeningChangesNothing =
+    (version : ℕ) → knownVersion version ≡ true → (card rec free : List ℕ) → (openOf version card rec free .code ≡ 0 → ⊥) → openOf version card rec free ≡ unchanged (openOf version card rec free .code) rec free
 
 abbrev pub TenAndElevenChangeNothing : Type 0
 TenAndElevenChangeNothing =
-    (rec call free : List ℕ) → (entryOf 1 rec call free .code ≡ 10) ⊎ (entryOf 1 rec call free .code ≡ 11)
-    → entryOf 1 rec call free ≡ unchanged (entryOf 1 rec call free .code) rec free
+    (version : ℕ) → knownVersion version ≡ true → (rec call free : List ℕ) → (entryOf version rec call free .code ≡ 10) ⊎ (entryOf version rec call free .code ≡ 11)
+    → entryOf version rec call free ≡ unchanged (entryOf version rec call free .code) rec free
 
 -- 20 to 25: 'A refusal line shows energy 0, outlet absent, time 0, substeps 0, and zones and totals as before'
 abbrev pub RefusalLineLeavesTheRecord : Type 0
 RefusalLineLeavesTheRecord =
-    (rec call free : List ℕ) → 20 ≤ entryOf 1 rec call free .code → entryOf 1 rec call free .code ≤ 25
-    → (entryOf 1 rec call free .record' ≡ rec)
-    × (entryOf 1 rec call free .sheet ≡ over (lineBytes 1 call (refusedWith (entryOf 1 rec call free .code) (recordOf 1 rec))) free)
+    (version : ℕ) → knownVersion version ≡ true → (rec call free : List ℕ) → 20 ≤ entryOf version rec call free .code → entryOf version rec call free .code ≤ 25
+    → (entryOf version rec call free .record' ≡ rec)
+    × (entryOf version rec call free .sheet ≡ over (lineBytes version call (refusedWith (entryOf version rec call free .code) (recordOf version rec))) free)
 
 abbrev pub RefusedOwnRecordStays : Type 0
-RefusedOwnRecordStays = (b : Battery) (call : List ℕ) → (advancedOf 1 b call .shown .refusal ≡ 0 → ⊥) → advancedOf 1 b call .battery ≡ b
+RefusedOwnRecordStays =
+    (version : ℕ) → knownVersion version ≡ true → (b : Battery) (call : List ℕ) → (advancedOf version b call .shown .refusal ≡ 0 → ⊥) → advancedOf version b call .battery ≡ b
 
 -- 'places above the count .. are never written': whatever the caller's own record holds there stays, answered or refused
 abbrev pub PlacesAboveTheCountStay : Type 0
-PlacesAboveTheCountStay = (b : Battery) (call : List ℕ) → SameAbove (b .card .layers) (b .zones) (advancedOf 1 b call .battery .zones)
+PlacesAboveTheCountStay =
+    (version : ℕ) → knownVersion version ≡ true → (b : Battery) (call : List ℕ) → SameAbove (b .card .layers) (b .zones) (advancedOf version b call .battery .zones)
 
 -- ---- 2: 'engine, sheet writer and sheet reader are proved against 01's steps'
 
 -- after every list of calls the record and each line are the encodings of the steps' state and answer
 abbrev pub EqualToTheSteps : Type 0
-EqualToTheSteps = (card rec free : List ℕ) → Opens 1 card rec free → (calls : List (List ℕ)) → SheetOfSteps 1 card rec free calls
+EqualToTheSteps =
+    (version : ℕ) → knownVersion version ≡ true → (card rec free : List ℕ) → Opens version card rec free → (calls : List (List ℕ)) → SheetOfSteps version card rec free calls
 
 -- ---- 3: 'For every accepted card that opens A's sheet'
 
 abbrev pub Opening : Type 0
-Opening = (card rec free : List ℕ) → (openOf 1 card rec free .code ≡ 0) ↔ Opens 1 card rec free
+Opening = (version : ℕ) → knownVersion version ≡ true → (card rec free : List ℕ) → (openOf version card rec free .code ≡ 0) ↔ Opens version card rec free
 
 -- 'and every list of calls from a fresh battery (any kind, any fields, refused ones included), B accepts the sheet that A then has, however few bytes were free.'
 -- `free` is the lent buffer, `calls` are any bytes whatsoever.
-pub record AList (card rec free : List ℕ) (calls : List (List ℕ)) : Type 0 where
+pub record AList (rules : Rules) (version : ℕ) (card rec free : List ℕ) (calls : List (List ℕ)) : Type 0 where
   -- as many lines as calls that 10 and 11 spared
-  pub verdict : auditOf (sheetOf 1 card rec free calls) ≡ Accepted (length (sparedOf 1 card rec free calls))
+  pub verdict : auditOf rules (sheetOf version card rec free calls) ≡ Accepted (length (sparedOf version card rec free calls))
   -- the version, line 0 and, for each such call in order, a line with the call's own bytes and the steps' answer
-  pub bytes : sheetOf 1 card rec free calls ≡ openingBytes 1 card ++ stepLines 1 (fresh (cardAt 1 card)) (sparedOf 1 card rec free calls)
+  pub bytes : sheetOf version card rec free calls ≡ openingBytes version card ++ stepLines version (fresh (cardAt version card)) (sparedOf version card rec free calls)
   -- within the buffer
-  pub fits : length (sheetOf 1 card rec free calls) ≤ length free
-  -- the bytes behind are as before
-  pub behind : behindSheet 1 card rec free calls ≡ drop (length (sheetOf 1 card rec free calls)) free
+  pub fits : length (sheetOf version card rec free calls) ≤ length free
+  -- the bytes after it are as before
+  pub behind : behindSheet version card rec free calls ≡ drop (length (sheetOf version card rec free calls)) free
 
 abbrev pub AcceptsAList : Type 0
-AcceptsAList = (card rec free : List ℕ) (calls : List (List ℕ)) → openOf 1 card rec free .code ≡ 0 → AList card rec free calls
+AcceptsAList =
+    (version : ℕ) → knownVersion version ≡ true → (card rec free : List ℕ) (calls : List (List ℕ)) → openOf version card rec free .code ≡ 0
+    → AList plain version card rec free calls
+
+-- the same of every audit whose comparison accepts a finite number beside itself, and which takes the card
+abbrev pub AcceptsAListByRules : Type 0
+AcceptsAListByRules =
+    (rules : Rules) → AcceptsItself (rules .same) → (version : ℕ) → knownVersion version ≡ true → (card rec free : List ℕ) (calls : List (List ℕ))
+    → rules .test version (cardAt version card) ≡ true → openOf version card rec free .code ≡ 0 → AList rules version card rec free calls
 
 -- 'Whatever bytes B is handed, it accepts them exactly when they have 01's layout, their card is accepted and every call line agrees with 01's steps for the calls up to it.'
+-- Of every comparison and card test: document 01's are `plain`.
 abbrev pub ExactlyWhen : Type 0
-ExactlyWhen = (bs : List ℕ) (n : ℕ) → (auditOf bs ≡ Accepted n) ↔ Sheet bs n
+ExactlyWhen = (rules : Rules) (bs : List ℕ) (n : ℕ) → (auditOf rules bs ≡ Accepted n) ↔ Sheet rules bs n
 
 -- the same of the number that the C audit returns, for at most 65,536 bytes
 abbrev pub ExactlyWhenInC : Type 0
-ExactlyWhenInC = (bs : List ℕ) (n : ℕ) → length bs ≤ limit → (verdictWord (limitedAuditOf bs) ≡ n * 256) ↔ Sheet bs n
+ExactlyWhenInC = (bs : List ℕ) (n : ℕ) → length bs ≤ limit → (verdictWord (limitedAuditOf plain bs) ≡ n * 256) ↔ Sheet plain bs n
 
 -- and that number tells the verdict
 abbrev pub WordTellsTheVerdict : Type 0
-WordTellsTheVerdict = (bs cs : List ℕ) → verdictWord (limitedAuditOf bs) ≡ verdictWord (limitedAuditOf cs) → limitedAuditOf bs ≡ limitedAuditOf cs
+WordTellsTheVerdict = (bs cs : List ℕ) → verdictWord (limitedAuditOf plain bs) ≡ verdictWord (limitedAuditOf plain cs) → limitedAuditOf plain bs ≡ limitedAuditOf plain cs
 
 -- the same of the refusal and the line that the C audit without a limit returns, for any length
 abbrev pub ExactlyWhenOfAnyLength : Type 0
 ExactlyWhenOfAnyLength =
-    (bs : List ℕ) (n : ℕ) → ((verdictFields (auditOf bs) .refusal ≡ 0) × (verdictFields (auditOf bs) .line ≡ n)) ↔ Sheet bs n
+    (bs : List ℕ) (n : ℕ) → ((verdictFields (auditOf plain bs) .refusal ≡ 0) × (verdictFields (auditOf plain bs) .line ≡ n)) ↔ Sheet plain bs n
 
 -- and these two tell the verdict
 abbrev pub FieldsTellTheVerdict : Type 0
 FieldsTellTheVerdict =
-    (bs : List ℕ) (r i : ℕ) → 1 ≤ r → ((verdictFields (auditOf bs) .refusal ≡ r) × (verdictFields (auditOf bs) .line ≡ i)) ↔ (auditOf bs ≡ Refused r i)
+    (bs : List ℕ) (r i : ℕ) → 1 ≤ r → ((verdictFields (auditOf plain bs) .refusal ≡ r) × (verdictFields (auditOf plain bs) .line ≡ i)) ↔ (auditOf plain bs ≡ Refused r i)
 
 -- where both audits look at the lines, they say the same
 abbrev pub BothAuditsAgree : Type 0
 BothAuditsAgree =
-    (bs : List ℕ) → length bs ≤ limit → verdictWord (limitedAuditOf bs) ≡ verdictFields (auditOf bs) .line * 256 + verdictFields (auditOf bs) .refusal
+    (bs : List ℕ) → length bs ≤ limit → verdictWord (limitedAuditOf plain bs) ≡ verdictFields (auditOf plain bs) .line * 256 + verdictFields (auditOf plain bs) .refusal
 
 -- 'In each accepted sheet no zone is warmer after a standing loss, none cooler after an electric charge, and none altered by a refused or trial line.'
+-- This and the next of every audit whose comparison accepts no more than f64 equality, as document 01's.
 abbrev pub ZonesMoveTheRightWay : Type 0
-ZonesMoveTheRightWay = (bs : List ℕ) (n : ℕ) (s : Sheet bs n) → AllDirected (cardAt 1 (s .card)) (λ i. cardAt 1 (s .card) .start) (s .lines)
+ZonesMoveTheRightWay =
+    (rules : Rules) → NoLooser rules → (bs : List ℕ) (n : ℕ) (s : Sheet rules bs n)
+    → AllDirected (s .version) (cardAt (s .version) (s .card)) (λ i. cardAt (s .version) (s .card) .start) (s .lines)
 
 -- 'On each of its call lines the charged total is the f64 sum, in line order, of the energies of the answered charge lines up to it.'
 abbrev pub ChargedTotalAddsUp : Type 0
-ChargedTotalAddsUp = (bs : List ℕ) (n : ℕ) (s : Sheet bs n) → AllSummed (cardAt 1 (s .card)) zero (s .lines)
+ChargedTotalAddsUp =
+    (rules : Rules) → NoLooser rules → (bs : List ℕ) (n : ℕ) (s : Sheet rules bs n) → AllSummed (s .version) (cardAt (s .version) (s .card)) zero (s .lines)
 
 -- ---- document 01: 'Each is given only in its case', and in its case it is given
 
 abbrev pub OpeningRefusals : Type 0
 OpeningRefusals =
-    (card rec free : List ℕ)
-    → ((openOf 1 card rec free .code ≡ 1) ↔ OpenCase1 1 card) × ((openOf 1 card rec free .code ≡ 2) ↔ OpenCase2 1 card)
-    × ((openOf 1 card rec free .code ≡ 3) ↔ OpenCase3 1 card) × ((openOf 1 card rec free .code ≡ 4) ↔ OpenCase4 1 card)
-    × ((openOf 1 card rec free .code ≡ 10) ↔ OpenCase10 1 card rec) × ((openOf 1 card rec free .code ≡ 11) ↔ OpenCase11 1 card rec free)
+    (version : ℕ) → knownVersion version ≡ true → (card rec free : List ℕ)
+    → ((openOf version card rec free .code ≡ 1) ↔ OpenCase1 version card) × ((openOf version card rec free .code ≡ 2) ↔ OpenCase2 version card)
+    × ((openOf version card rec free .code ≡ 3) ↔ OpenCase3 version card) × ((openOf version card rec free .code ≡ 4) ↔ OpenCase4 version card)
+    × ((openOf version card rec free .code ≡ 10) ↔ OpenCase10 version card rec) × ((openOf version card rec free .code ≡ 11) ↔ OpenCase11 version card rec free)
 
 abbrev pub CallRefusals : Type 0
 CallRefusals =
-    (rec call free : List ℕ)
-    → ((entryOf 1 rec call free .code ≡ 10) ↔ CallCase10 1 rec call) × ((entryOf 1 rec call free .code ≡ 11) ↔ CallCase11 1 rec call free)
-    × ((entryOf 1 rec call free .code ≡ 20) ↔ LineCase Case20 1 rec call free) × ((entryOf 1 rec call free .code ≡ 21) ↔ LineCase Case21 1 rec call free)
-    × ((entryOf 1 rec call free .code ≡ 22) ↔ LineCase Case22 1 rec call free) × ((entryOf 1 rec call free .code ≡ 23) ↔ LineCase Case23 1 rec call free)
-    × ((entryOf 1 rec call free .code ≡ 24) ↔ LineCase Case24 1 rec call free) × ((entryOf 1 rec call free .code ≡ 25) ↔ LineCase Case25 1 rec call free)
+    (version : ℕ) → knownVersion version ≡ true → (rec call free : List ℕ)
+    → ((entryOf version rec call free .code ≡ 10) ↔ CallCase10 version rec call) × ((entryOf version rec call free .code ≡ 11) ↔ CallCase11 version rec call free)
+    × ((entryOf version rec call free .code ≡ 20) ↔ LineCase Case20 version rec call free) × ((entryOf version rec call free .code ≡ 21) ↔ LineCase Case21 version rec call free)
+    × ((entryOf version rec call free .code ≡ 22) ↔ LineCase Case22 version rec call free) × ((entryOf version rec call free .code ≡ 23) ↔ LineCase Case23 version rec call free)
+    × ((entryOf version rec call free .code ≡ 24) ↔ LineCase Case24 version rec call free) × ((entryOf version rec call free .code ≡ 25) ↔ LineCase Case25 version rec call free)
 
 abbrev pub OwnRecordRefusals : Type 0
 OwnRecordRefusals =
-    (b : Battery) (call : List ℕ)
-    → ((advancedOf 1 b call .shown .refusal ≡ 10) ↔ OwnCase10 1 b call)
-    × ((advancedOf 1 b call .shown .refusal ≡ 20) ↔ OwnCase Case20 1 b call) × ((advancedOf 1 b call .shown .refusal ≡ 21) ↔ OwnCase Case21 1 b call)
-    × ((advancedOf 1 b call .shown .refusal ≡ 22) ↔ OwnCase Case22 1 b call) × ((advancedOf 1 b call .shown .refusal ≡ 23) ↔ OwnCase Case23 1 b call)
-    × ((advancedOf 1 b call .shown .refusal ≡ 24) ↔ OwnCase Case24 1 b call) × ((advancedOf 1 b call .shown .refusal ≡ 25) ↔ OwnCase Case25 1 b call)
+    (version : ℕ) → knownVersion version ≡ true → (b : Battery) (call : List ℕ)
+    → ((advancedOf version b call .shown .refusal ≡ 10) ↔ OwnCase10 version b call)
+    × ((advancedOf version b call .shown .refusal ≡ 20) ↔ OwnCase Case20 version b call) × ((advancedOf version b call .shown .refusal ≡ 21) ↔ OwnCase Case21 version b call)
+    × ((advancedOf version b call .shown .refusal ≡ 22) ↔ OwnCase Case22 version b call) × ((advancedOf version b call .shown .refusal ≡ 23) ↔ OwnCase Case23 version b call)
+    × ((advancedOf version b call .shown .refusal ≡ 24) ↔ OwnCase Case24 version b call) × ((advancedOf version b call .shown .refusal ≡ 25) ↔ OwnCase Case25 version b call)
 
+-- 70 is given by no audit that takes every card, as document 01's (AuditorVerdicts)
 abbrev pub AuditRefusals : Type 0
 AuditRefusals =
-    (bs : List ℕ) (k : ℕ)
-    → ((auditOf bs ≡ Refused 40 0) ↔ NoVersion bs) × ((auditOf bs ≡ Refused 41 0) ↔ NoCard bs)
-    × ((auditOf bs ≡ Refused 42 (k + 1)) ↔ BadLine bs k) × ((auditOf bs ≡ Refused 43 (k + 1)) ↔ Disagrees bs k)
-    × ((limitedAuditOf bs ≡ Refused 44 0) ↔ (limit < length bs))
+    (rules : Rules) (bs : List ℕ) (k : ℕ)
+    → ((auditOf rules bs ≡ Refused 40 0) ↔ NoVersion bs) × ((auditOf rules bs ≡ Refused 41 0) ↔ NoCard bs) × ((auditOf rules bs ≡ Refused 70 0) ↔ CardNotTaken rules bs)
+    × ((auditOf rules bs ≡ Refused 42 (k + 1)) ↔ BadLine rules bs k) × ((auditOf rules bs ≡ Refused 43 (k + 1)) ↔ Disagrees rules bs k)
+    × ((limitedAuditOf rules bs ≡ Refused 44 0) ↔ (limit < length bs))

@@ -50,23 +50,23 @@ module _ (version : ℕ) (rec call free : List ℕ) (a : Answer) where
 
       pub line-answered : a .refusal ≡ 0
           → lineAfter version rec call free a
-          ≡ record { code = 0; record' = recordBytes version (take (cardLength version) rec) (a .battery); sheet = over (lineBytes version call a) free }
+          ≡ record { code = 0; record' = recordBytes version (take (cardLength version rec) rec) (a .battery); sheet = over (lineBytes version call a) free }
       unfolding lineAfter renewed
       line-answered h = rw (le-leb (lineSize version (a .battery .card) (length call)) (length free) r, h)
 
 -- ---- a record's layout
 
 pub record LaidRecord (version : ℕ) (rec : List ℕ) : Type 0 where
-  pub card-there : cardLength version ≤ length rec
+  pub card-there : cardLength version rec ≤ length rec
   pub card-accepted : cardRefusal version (cardAt version rec) ≡ 0
-  pub long : length rec ≡ recordLength version (cardAt version rec)
+  pub long : length rec ≡ recordLength version rec
 
 module _ (version : ℕ) (rec : List ℕ) where
   pub record-laid : recordLaid version rec ≡ true → LaidRecord version rec
   unfolding recordLaid
   record-laid h =
       let w =
-      three-tests (leb (cardLength version) (length rec)) (eqb (cardRefusal version (cardAt version rec)) 0) (eqb (length rec) (recordLength version (cardAt version rec))) h in
+      three-tests (leb (cardLength version rec) (length rec)) (eqb (cardRefusal version (cardAt version rec)) 0) (eqb (length rec) (recordLength version rec)) h in
       record { card-there = leb-true _ _ (w .0); card-accepted = eqb-true _ _ (w .1); long = eqb-true _ _ (w .2) }
 
   pub laid-record : LaidRecord version rec → recordLaid version rec ≡ true

@@ -11,28 +11,28 @@ use Rattle.sheet.specs.Lines.{openingLength}
 use Rattle.entry.specs.Entry.{unchanged, openedWith, openOf}
 
 module _ (version : ℕ) (card rec free : List ℕ) where
-  pub open-length : (length card ≡ cardLength version → ⊥) → openOf version card rec free ≡ unchanged 1 rec free
+  pub open-length : (length card ≡ cardLength version card → ⊥) → openOf version card rec free ≡ unchanged 1 rec free
   unfolding openOf
-  open-length h = rw (ne-eqb (length card) (cardLength version) h)
+  open-length h = rw (ne-eqb (length card) (cardLength version card) h)
 
-  module _ (l : length card ≡ cardLength version) where
+  module _ (l : length card ≡ cardLength version card) where
     pub open-card : (cardRefusal version (cardAt version card) ≡ 0 → ⊥) → openOf version card rec free ≡ unchanged (cardRefusal version (cardAt version card)) rec free
     unfolding openOf
-    open-card h = rw (eq-eqb (length card) (cardLength version) l, ne-eqb (cardRefusal version (cardAt version card)) 0 h)
+    open-card h = rw (eq-eqb (length card) (cardLength version card) l, ne-eqb (cardRefusal version (cardAt version card)) 0 h)
 
     module _ (a : cardRefusal version (cardAt version card) ≡ 0) where
-      pub open-record : (length rec ≡ recordLength version (cardAt version card) → ⊥) → openOf version card rec free ≡ unchanged 10 rec free
+      pub open-record : (length rec ≡ recordLength version card → ⊥) → openOf version card rec free ≡ unchanged 10 rec free
       unfolding openOf
       open-record h =
-          rw (eq-eqb (length card) (cardLength version) l, eq-eqb (cardRefusal version (cardAt version card)) 0 a, ne-eqb (length rec) (recordLength version (cardAt version card)) h)
+          rw (eq-eqb (length card) (cardLength version card) l, eq-eqb (cardRefusal version (cardAt version card)) 0 a, ne-eqb (length rec) (recordLength version card) h)
 
-      module _ (k : length rec ≡ recordLength version (cardAt version card)) where
-        pub open-room : length free < openingLength version → openOf version card rec free ≡ unchanged 11 rec free
+      module _ (k : length rec ≡ recordLength version card) where
+        pub open-room : length free < openingLength version card → openOf version card rec free ≡ unchanged 11 rec free
         unfolding openOf
         open-room h =
-            rw (eq-eqb (length card) (cardLength version) l, eq-eqb (cardRefusal version (cardAt version card)) 0 a, eq-eqb (length rec) (recordLength version (cardAt version card)) k, lt-leb (openingLength version) (length free) h)
+            rw (eq-eqb (length card) (cardLength version card) l, eq-eqb (cardRefusal version (cardAt version card)) 0 a, eq-eqb (length rec) (recordLength version card) k, lt-leb (openingLength version card) (length free) h)
 
-        pub opened : openingLength version ≤ length free → openOf version card rec free ≡ openedWith version card free
+        pub opened : openingLength version card ≤ length free → openOf version card rec free ≡ openedWith version card free
         unfolding openOf
         opened h =
-            rw (eq-eqb (length card) (cardLength version) l, eq-eqb (cardRefusal version (cardAt version card)) 0 a, eq-eqb (length rec) (recordLength version (cardAt version card)) k, le-leb (openingLength version) (length free) h)
+            rw (eq-eqb (length card) (cardLength version card) l, eq-eqb (cardRefusal version (cardAt version card)) 0 a, eq-eqb (length rec) (recordLength version card) k, le-leb (openingLength version card) (length free) h)

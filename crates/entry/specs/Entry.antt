@@ -39,10 +39,10 @@ openedWith version card free =
 unfoldable pub openOf : ℕ → List ℕ → List ℕ → List ℕ → After
 openOf version card rec free =
     let c = cardAt version card in
-    cond (eqb (length card) (cardLength version))
+    cond (eqb (length card) (cardLength version card))
     (cond (eqb (cardRefusal version c) 0)
-    (cond (eqb (length rec) (recordLength version c))
-    (cond (leb (openingLength version) (length free))
+    (cond (eqb (length rec) (recordLength version card))
+    (cond (leb (openingLength version card) (length free))
     (openedWith version card free)
     (unchanged 11 rec free))
     (unchanged 10 rec free))
@@ -51,7 +51,7 @@ openOf version card rec free =
 
 -- the record renewed; a refused call leaves zones and totals as they are
 unfoldable pub renewed : ℕ → List ℕ → Answer → List ℕ
-renewed version rec a = cond (eqb (a .refusal) 0) (recordBytes version (take (cardLength version) rec) (a .battery)) rec
+renewed version rec a = cond (eqb (a .refusal) 0) (recordBytes version (take (cardLength version rec) rec) (a .battery)) rec
 
 -- 'The line goes to the front of the lent part of the sheet, the battery's bytes are renewed, and the entry returns the refusal'
 abbrev pub entered : ℕ → List ℕ → List ℕ → List ℕ → Answer → After
@@ -69,8 +69,8 @@ lineAfter version rec call free a =
 -- a record of a length that its accepted card gives
 unfoldable pub recordLaid : ℕ → List ℕ → Bool
 recordLaid version rec =
-    cond (leb (cardLength version) (length rec))
+    cond (leb (cardLength version rec) (length rec))
     (cond (eqb (cardRefusal version (cardAt version rec)) 0)
-    (eqb (length rec) (recordLength version (cardAt version rec)))
+    (eqb (length rec) (recordLength version rec))
     false)
     false

@@ -1,46 +1,44 @@
 // What A's entries write: the opening, a call's line and the record.
 use battery::Answer;
 ghost use mathlib.Core.Path.{_≡_};
-ghost use Prim.Native.Nat.{_≤_, _<_};
+ghost use Prim.Native.Nat.{_+_, _≤_, _<_};
 ghost use lib.ListN.{length};
-ghost use Rattle.records.specs.Records.{recordLength};
+ghost use Rattle.records.specs.Cards.{cardLength};
+ghost use Rattle.records.specs.Records.{stateLength};
 ghost use Rattle.entry.specs.Entry.{WasAfter, openOf, lineAfter, recordLaid};
 
-// The version of the sheets that these entries write.
-const VERSION: u8 = 1;
-
 // Opens a sheet: its version and card line, and a fresh battery.
-pub fn open(card: &[u8], record: &mut [u8], sheet: &mut [u8]) -> u8
-    ensures { λ r. ⌜ WasAfter (openOf 1 (now (card .entry)) (now («record» .entry)) (now (sheet .entry))) r (now («record» .exit)) (now (sheet .exit)) ⌝ }
+pub fn open(version: u8, card: &[u8], record: &mut [u8], sheet: &mut [u8]) -> u8
+    ensures { λ r. ⌜ WasAfter (openOf version (now (card .entry)) (now («record» .entry)) (now (sheet .entry))) r (now («record» .exit)) (now (sheet .exit)) ⌝ }
 {
-    if card.len() != records::cards::card_length(VERSION) {
+    if card.len() != records::cards::card_length(version, card) {
         return 1;
     }
-    let c = records::cards::read_card(VERSION, card);
-    let refusal = card_verdict::refusal(VERSION, c);
+    let c = records::cards::read_card(version, card);
+    let refusal = card_verdict::refusal(version, c);
     if refusal != 0 {
         return refusal;
     }
-    if record.len() != records::record_length(VERSION, c) {
+    if record.len() != records::record_length(version, c, card) {
         return 10;
     }
-    if sheet.len() < sheet::lines::opening_length(VERSION) {
+    if sheet.len() < sheet::lines::opening_length(version, card) {
         return 11;
     }
     let b = battery::fresh(c);
-    records::put_record(VERSION, record, card, b);
-    sheet::lines::put_opening(VERSION, sheet, card);
+    records::put_record(version, record, card, b);
+    sheet::lines::put_opening(version, sheet, card);
     0
 }
 
 // Whether a record has the length that its accepted card gives.
-pub fn record_laid(record: &[u8]) -> bool
-    ensures { λ r. ⌜ r ≡ recordLaid 1 (now («record» .entry)) ⌝ }
+pub fn record_laid(version: u8, record: &[u8]) -> bool
+    ensures { λ r. ⌜ r ≡ recordLaid version (now («record» .entry)) ⌝ }
 {
-    if records::cards::card_length(VERSION) <= record.len() {
-        let c = records::cards::read_card(VERSION, record);
-        if card_verdict::refusal(VERSION, c) == 0 {
-            return record.len() == records::record_length(VERSION, c);
+    if records::cards::card_length(version, record) <= record.len() {
+        let c = records::cards::read_card(version, record);
+        if card_verdict::refusal(version, c) == 0 {
+            return record.len() == records::record_length(version, c, record);
         }
         return false;
     }
@@ -48,22 +46,22 @@ pub fn record_laid(record: &[u8]) -> bool
 }
 
 // The line of an answer, and the record renewed; 10 and 11 leave every byte.
-pub fn enter(record: &mut [u8], call: &[u8], sheet: &mut [u8], a: Answer) -> u8
-    requires { ⌜ (a .battery .card .layers ≤ 64) × (length (now call) < 65536) × (length (now «record») ≡ recordLength 1 (a .battery .card)) ⌝ }
-    ensures { λ r. ⌜ WasAfter (lineAfter 1 (now («record» .entry)) (now (call .entry)) (now (sheet .entry)) a) r (now («record» .exit)) (now (sheet .exit)) ⌝ }
+pub fn enter(version: u8, record: &mut [u8], call: &[u8], sheet: &mut [u8], a: Answer) -> u8
+    requires { ⌜ (a .battery .card .layers ≤ 64) × (length (now call) < 65536) × (length (now «record») ≡ cardLength version (now «record») + stateLength version (a .battery .card)) ⌝ }
+    ensures { λ r. ⌜ WasAfter (lineAfter version (now («record» .entry)) (now (call .entry)) (now (sheet .entry)) a) r (now («record» .exit)) (now (sheet .exit)) ⌝ }
 {
     if a.refusal == 10 {
         return 10;
     }
     let card = a.battery.card;
-    if sheet.len() < sheet::lines::line_size(VERSION, card, call.len()) {
+    if sheet.len() < sheet::lines::line_size(version, card, call.len()) {
         return 11;
     }
-    sheet::lines::put_line(VERSION, sheet, call, a);
+    sheet::lines::put_line(version, sheet, call, a);
     if a.refusal != 0 {
         return a.refusal;
     }
     let b = a.battery;
-    records::renew_record(VERSION, record, b);
+    records::renew_record(version, record, b);
     0
 }

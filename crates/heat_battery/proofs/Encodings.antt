@@ -23,8 +23,10 @@ use Rattle.sheet.specs.Lines.{lineLength, lineSize, lineBytes}
 use Rattle.calls.specs.declared.ReadCall.the-variants.{Good}
 use Rattle.sheet.proofs.Lengths.{length-lineBytes}
 use Rattle.battery.proofs.GoodParts.{good-layers}
-use Rattle.sheet.proofs.AnswerBack.{record-back, card-front}
-use Rattle.calls.proofs.CallLaws.{call-length, call-short}
+use Rattle.sheet.proofs.AnswerBack.{record-back}
+use Rattle.records.proofs.CardLaws.{card-length-front, card-at-front}
+use Rattle.calls.proofs.CallLaws.{call-length}
+use Rattle.calls.proofs.Places.{call-short}
 use Rattle.sheet.proofs.LineLaws.{line-fits, line-says, line-behind}
 use Rattle.entry.specs.Entry.{After, unchanged, renewed, entered}
 use Rattle.heat_battery.specs.Entries.{entryOf}
@@ -47,16 +49,25 @@ module _ (version : ℕ) (card : List ℕ) (b : Battery) (rec : List ℕ) (e : E
   read-back : recordOf version rec ≡ b
   read-back = ap (recordOf version) (e .bytes) ∙ record-back version card b (e .long) (e .card-read) (e .good)
 
-  -- the record's card is the battery's
+  whole : cardLength version card ≤ length card
+  whole = let l = e .long in omega arith
+
+  -- the record's card is the battery's, in its own bytes
   card-is : cardAt version rec ≡ b .card
   unfolding recordBytes
-  card-is = ap (cardAt version) (e .bytes) ∙ card-front version card (stateBytes version b) (e .long) ∙ e .card-read
+  card-is = ap (cardAt version) (e .bytes) ∙ card-at-front version card (stateBytes version b) whole ∙ e .card-read
+
+  card-size : cardLength version rec ≡ cardLength version card
+  unfolding recordBytes
+  card-size = ap (cardLength version) (e .bytes) ∙ card-length-front version card (stateBytes version b) whole
 
   renewed-is : (c : Call) → renewed version rec (stepOf version b c) ≡ recordBytes version card (stepOf version b c .battery)
   renewed-is c = on (ℕ-discrete (stepOf version b c .refusal) 0)
     where
-      front : take (cardLength version) rec ≡ card
-      front = ap (take (cardLength version)) (e .bytes) ∙ (unfold recordBytes in take-at card (stateBytes version b) (cardLength version) (e .long))
+      front : take (cardLength version rec) rec ≡ card
+      front =
+          ap (λ (n : ℕ). take n rec) card-size ∙ ap (take (cardLength version card)) (e .bytes)
+          ∙ (unfold recordBytes in take-at card (stateBytes version b) (cardLength version card) (e .long))
 
       on : Dec (stepOf version b c .refusal ≡ 0) → renewed version rec (stepOf version b c) ≡ recordBytes version card (stepOf version b c .battery)
       on (yes z) = unfold renewed in rw (eq-eqb (stepOf version b c .refusal) 0 z, front)

@@ -143,11 +143,11 @@ module _ (version : ℕ) (card rec free : List ℕ) (h : Opens version card rec 
   is-opened : openOf version card rec free ≡ openedWith version card free
   is-opened = opened version card rec free (h .card-good .long) (h .card-good .accepted) (h .long) (h .room)
 
-  opening-taken : take (openingLength version) (over first free) ≡ first
+  opening-taken : take (openingLength version card) (over first free) ≡ first
   unfolding over
-  opening-taken = take-at first (drop (length first) free) (openingLength version) (length-openingBytes version card (h .card-good .long))
+  opening-taken = take-at first (drop (length first) free) (openingLength version card) (length-openingBytes version card (h .card-good .long))
 
-  opening-left : drop (openingLength version) (over first free) ≡ drop (length first) free
+  opening-left : drop (openingLength version card) (over first free) ≡ drop (length first) free
   unfolding over
   opening-left = opening-behind version card (drop (length first) free) (h .card-good .long)
 

@@ -52,17 +52,17 @@ module _ (version : ℕ) (rec : List ℕ) (l : LaidRecord version rec) where
         card-there = l .card-there;
         card-accepted = l .card-accepted;
         long = l .long;
-        zones = λ i k. ap finite64 (sym (zonesAt-below rec (cardLength version) n i few k)) ∙ zones-finite-at (zonesAt rec (cardLength version) n) n (a .zones) i k;
+        zones = λ i k. ap finite64 (sym (zonesAt-below rec (cardLength version rec) n i few k)) ∙ zones-finite-at (zonesAt rec (cardLength version rec) n) n (a .zones) i k;
         totals =
-            five (λ (i : ℕ). finite64 (nthF64 rec (cardLength version + 8 * n) i) ≡ true) (t .total) (t .pump) (t .direct) (t .charged) (t .electric);
+            five (λ (i : ℕ). finite64 (nthF64 rec (cardLength version rec + 8 * n) i) ≡ true) (t .total) (t .pump) (t .direct) (t .charged) (t .electric);
       }
 
   pub good-accepted : GoodRecord version rec → batteryAccepted version (recordOf version rec) ≡ true
   unfolding recordOf stateAt batteryAccepted totalsFinite
   good-accepted g =
-      let t : (i : ℕ) → i < 5 → finite64 (nthF64 rec (cardLength version + 8 * n) i) ≡ true = g .totals in
-      let z : zonesFinite (zonesAt rec (cardLength version) n) n ≡ true =
-      zones-finite-of (zonesAt rec (cardLength version) n) n (λ i k. ap finite64 (zonesAt-below rec (cardLength version) n i few k) ∙ g .zones i k) in
+      let t : (i : ℕ) → i < 5 → finite64 (nthF64 rec (cardLength version rec + 8 * n) i) ≡ true = g .totals in
+      let z : zonesFinite (zonesAt rec (cardLength version rec) n) n ≡ true =
+      zones-finite-of (zonesAt rec (cardLength version rec) n) n (λ i k. ap finite64 (zonesAt-below rec (cardLength version rec) n i few k) ∙ g .zones i k) in
       rw (
         eq-eqb (cardRefusal version (cardAt version rec)) 0 (l .card-accepted),
         eq-eqb n n refl,

@@ -1,5 +1,5 @@
 -- Opening: each refusal is given exactly in its case, and leaves every byte.
-use mathlib.Core.Path.{_≡_, sym, _∙_}
+use mathlib.Core.Path.{_≡_, refl, sym, ap, _∙_, subst}
 use mathlib.Core.Logic.{_⊎_, _↔_, inl, inr}
 use mathlib.Core.List.{List}
 use mathlib.Core.Bool.{false}
@@ -7,7 +7,8 @@ use Prim.Native.Nat.{ℕ, _≤_, _<_}
 use native.Mathlib.Decide.{ℕ-discrete, decLe}
 use native.Mathlib.Omega.{arith}
 use lib.ListN.{length}
-use Rattle.card.specs.Card.{cardInRange, cardRefusal}
+use Rattle.card.specs.Card.{cardInRange, cardRefusal, CardRefusal}
+use Rattle.card.proofs.Refusals.{card-refusal, card-refusal-own}
 use Rattle.card.specs.declared.Card.{Card}
 use Rattle.records.specs.Cards.{cardLength, cardAt}
 use Rattle.records.specs.Records.{recordLength}
@@ -20,8 +21,8 @@ use Rattle.heat_battery.proofs.CardCases.{CardWay, out-of-range, lower-
 
 -- which way opening goes
 data OpenWay (version : ℕ) (card rec free : List ℕ) (a : After) : Type 0 where
-  other-card : (length card ≡ cardLength version → ⊥) → a ≡ unchanged 1 rec free → OpenWay version card rec free a
-  refused : length card ≡ cardLength version → (cardRefusal version (cardAt version card) ≡ 0 → ⊥) → a ≡ unchanged (cardRefusal version (cardAt version card)) rec free
+  other-card : (length card ≡ cardLength version card → ⊥) → a ≡ unchanged 1 rec free → OpenWay version card rec free a
+  refused : length card ≡ cardLength version card → (cardRefusal version (cardAt version card) ≡ 0 → ⊥) → a ≡ unchanged (cardRefusal version (cardAt version card)) rec free
       → OpenWay version card rec free a
   other-record : OpenCase10 version card rec → a ≡ unchanged 10 rec free → OpenWay version card rec free a
   no-room : OpenCase11 version card rec free → a ≡ unchanged 11 rec free → OpenWay version card rec free a
@@ -31,19 +32,19 @@ data OpenWay (version : ℕ) (card rec free : List ℕ) (a : After) : Type 0 whe
 
 open-way : (version : ℕ) (card rec free : List ℕ) → OpenWay version card rec free (openOf version card rec free)
 open-way version card rec free =
-    on (ℕ-discrete (length card) (cardLength version)) (ℕ-discrete (cardRefusal version c) 0) (ℕ-discrete (length rec) (recordLength version c)) (decLe (openingLength version) (length free))
+    on (ℕ-discrete (length card) (cardLength version card)) (ℕ-discrete (cardRefusal version c) 0) (ℕ-discrete (length rec) (recordLength version card)) (decLe (openingLength version card) (length free))
   where
     c : Card
     c = cardAt version card
 
-    on : Dec (length card ≡ cardLength version) → Dec (cardRefusal version c ≡ 0) → Dec (length rec ≡ recordLength version c) → Dec (openingLength version ≤ length free)
+    on : Dec (length card ≡ cardLength version card) → Dec (cardRefusal version c ≡ 0) → Dec (length rec ≡ recordLength version card) → Dec (openingLength version card ≤ length free)
         → OpenWay version card rec free (openOf version card rec free)
     on (no l) a k r = other-card l (open-length version card rec free l)
     on (yes l) (no a) k r = refused l a (open-card version card rec free l a)
     on (yes l) (yes a) (no k) r =
         other-record (record { card-good = record { long = l; accepted = a }; other-length = k }) (open-record version card rec free l a k)
     on (yes l) (yes a) (yes k) (no r) =
-        let h : length free < openingLength version = omega arith in
+        let h : length free < openingLength version card = omega arith in
         no-room (record { card-good = record { long = l; accepted = a }; long = k; no-room = h }) (open-room version card rec free l a k h)
     on (yes l) (yes a) (yes k) (yes r) =
         opens (record { card-good = record { long = l; accepted = a }; long = k; room = r }) (opened version card rec free l a k r)
@@ -55,22 +56,22 @@ module _ (version : ℕ) (card rec free : List ℕ) where
   abbrev o : After
   o = openOf version card rec free
 
-  -- a number from 1 to 4 is the card's
-  by-card : o .code ≤ 4 → (o .code ≡ 0 → ⊥) → ((length card ≡ cardLength version → ⊥) × (o .code ≡ 1)) ⊎ ((length card ≡ cardLength version) × (cardRefusal version c ≡ o .code))
-  by-card h z = on (open-way version card rec free)
+  -- a number that is neither 0 nor 10 nor 11 is the card's
+  by-card : (o .code ≡ 0 → ⊥) → (o .code ≡ 10 → ⊥) → (o .code ≡ 11 → ⊥) → ((length card ≡ cardLength version card → ⊥) × (o .code ≡ 1)) ⊎ ((length card ≡ cardLength version card) × (cardRefusal version c ≡ o .code))
+  by-card z ten eleven = on (open-way version card rec free)
     where
-      on : OpenWay version card rec free o → ((length card ≡ cardLength version → ⊥) × (o .code ≡ 1)) ⊎ ((length card ≡ cardLength version) × (cardRefusal version c ≡ o .code))
+      on : OpenWay version card rec free o → ((length card ≡ cardLength version card → ⊥) × (o .code ≡ 1)) ⊎ ((length card ≡ cardLength version card) × (cardRefusal version c ≡ o .code))
       on (other-card l e) = inl (l, code-of (unchanged 1 rec free) e)
       on (refused l a e) = inr (l, sym (code-of (unchanged (cardRefusal version c) rec free) e))
-      on (other-record x e) = let n = code-of (unchanged 10 rec free) e in absurd (omega arith)
-      on (no-room x e) = let n = code-of (unchanged 11 rec free) e in absurd (omega arith)
+      on (other-record x e) = absurd (ten (code-of (unchanged 10 rec free) e))
+      on (no-room x e) = absurd (eleven (code-of (unchanged 11 rec free) e))
       on (opens x e) = absurd (z (code-of (openedWith version card free) e))
 
-  card-code : length card ≡ cardLength version → (cardRefusal version c ≡ 0 → ⊥) → o .code ≡ cardRefusal version c
+  card-code : length card ≡ cardLength version card → (cardRefusal version c ≡ 0 → ⊥) → o .code ≡ cardRefusal version c
   card-code l h = code-of (unchanged (cardRefusal version c) rec free) (open-card version card rec free l h)
 
   pub open-1 : (openOf version card rec free .code ≡ 1) ↔ OpenCase1 version card
-  open-1 = (λ h. on h (by-card (omega arith) (λ z. omega arith)), back)
+  open-1 = (λ h. on h (by-card (λ z. omega arith) (λ z. omega arith) (λ z. omega arith)), back)
     where
       by : cardRefusal version c ≡ 1 → CardWay c (cardRefusal version c) → OpenCase1 version card
       by h (out-of-range k e) = inr k
@@ -79,29 +80,29 @@ module _ (version : ℕ) (card rec free : List ℕ) where
       by h (nothing k l m s e) = absurd (omega arith)
       by h (accepted e) = absurd (omega arith)
 
-      on : o .code ≡ 1 → ((length card ≡ cardLength version → ⊥) × (o .code ≡ 1)) ⊎ ((length card ≡ cardLength version) × (cardRefusal version c ≡ o .code)) → OpenCase1 version card
+      on : o .code ≡ 1 → ((length card ≡ cardLength version card → ⊥) × (o .code ≡ 1)) ⊎ ((length card ≡ cardLength version card) × (cardRefusal version c ≡ o .code)) → OpenCase1 version card
       on h (inl x) = inl (x .0)
       on h (inr x) = by (x .1 ∙ h) (card-way version c)
 
-      long : cardInRange c ≡ false → Dec (length card ≡ cardLength version) → o .code ≡ 1
+      long : cardInRange c ≡ false → Dec (length card ≡ cardLength version card) → o .code ≡ 1
       long k (yes l) = let r = card-1 version c k in card-code l (λ z. omega arith) ∙ r
       long k (no l) = code-of (unchanged 1 rec free) (open-length version card rec free l)
 
       back : OpenCase1 version card → o .code ≡ 1
       back (inl l) = code-of (unchanged 1 rec free) (open-length version card rec free l)
-      back (inr k) = long k (ℕ-discrete (length card) (cardLength version))
+      back (inr k) = long k (ℕ-discrete (length card) (cardLength version card))
 
   pub open-2 : (openOf version card rec free .code ≡ 2) ↔ OpenCase2 version card
-  open-2 = (λ h. on h (by-card (omega arith) (λ z. omega arith)), back)
+  open-2 = (λ h. on h (by-card (λ z. omega arith) (λ z. omega arith) (λ z. omega arith)), back)
     where
-      by : length card ≡ cardLength version → cardRefusal version c ≡ 2 → CardWay c (cardRefusal version c) → OpenCase2 version card
+      by : length card ≡ cardLength version card → cardRefusal version c ≡ 2 → CardWay c (cardRefusal version c) → OpenCase2 version card
       by x h (out-of-range k e) = absurd (omega arith)
       by x h (lower-above k l e) = record { in-range = record { long = x; fields = k }; lower-above = lower-above-is c k .0 l }
       by x h (max-low k l m e) = absurd (omega arith)
       by x h (nothing k l m s e) = absurd (omega arith)
       by x h (accepted e) = absurd (omega arith)
 
-      on : o .code ≡ 2 → ((length card ≡ cardLength version → ⊥) × (o .code ≡ 1)) ⊎ ((length card ≡ cardLength version) × (cardRefusal version c ≡ o .code)) → OpenCase2 version card
+      on : o .code ≡ 2 → ((length card ≡ cardLength version card → ⊥) × (o .code ≡ 1)) ⊎ ((length card ≡ cardLength version card) × (cardRefusal version c ≡ o .code)) → OpenCase2 version card
       on h (inl x) = absurd (omega arith)
       on h (inr x) = by (x .0) (x .1 ∙ h) (card-way version c)
 
@@ -112,16 +113,16 @@ module _ (version : ℕ) (card rec free : List ℕ) where
           card-code (x .in-range .long) (λ z. omega arith) ∙ r
 
   pub open-3 : (openOf version card rec free .code ≡ 3) ↔ OpenCase3 version card
-  open-3 = (λ h. on h (by-card (omega arith) (λ z. omega arith)), back)
+  open-3 = (λ h. on h (by-card (λ z. omega arith) (λ z. omega arith) (λ z. omega arith)), back)
     where
-      by : length card ≡ cardLength version → cardRefusal version c ≡ 3 → CardWay c (cardRefusal version c) → OpenCase3 version card
+      by : length card ≡ cardLength version card → cardRefusal version c ≡ 3 → CardWay c (cardRefusal version c) → OpenCase3 version card
       by x h (out-of-range k e) = absurd (omega arith)
       by x h (lower-above k l e) = absurd (omega arith)
       by x h (max-low k l m e) = record { in-range = record { long = x; fields = k }; ordered = l; max-low = m }
       by x h (nothing k l m s e) = absurd (omega arith)
       by x h (accepted e) = absurd (omega arith)
 
-      on : o .code ≡ 3 → ((length card ≡ cardLength version → ⊥) × (o .code ≡ 1)) ⊎ ((length card ≡ cardLength version) × (cardRefusal version c ≡ o .code)) → OpenCase3 version card
+      on : o .code ≡ 3 → ((length card ≡ cardLength version card → ⊥) × (o .code ≡ 1)) ⊎ ((length card ≡ cardLength version card) × (cardRefusal version c ≡ o .code)) → OpenCase3 version card
       on h (inl x) = absurd (omega arith)
       on h (inr x) = by (x .0) (x .1 ∙ h) (card-way version c)
 
@@ -131,16 +132,16 @@ module _ (version : ℕ) (card rec free : List ℕ) where
           card-code (x .in-range .long) (λ z. omega arith) ∙ r
 
   pub open-4 : (openOf version card rec free .code ≡ 4) ↔ OpenCase4 version card
-  open-4 = (λ h. on h (by-card (omega arith) (λ z. omega arith)), back)
+  open-4 = (λ h. on h (by-card (λ z. omega arith) (λ z. omega arith) (λ z. omega arith)), back)
     where
-      by : length card ≡ cardLength version → cardRefusal version c ≡ 4 → CardWay c (cardRefusal version c) → OpenCase4 version card
+      by : length card ≡ cardLength version card → cardRefusal version c ≡ 4 → CardWay c (cardRefusal version c) → OpenCase4 version card
       by x h (out-of-range k e) = absurd (omega arith)
       by x h (lower-above k l e) = absurd (omega arith)
       by x h (max-low k l m e) = absurd (omega arith)
       by x h (nothing k l m s e) = record { in-range = record { long = x; fields = k }; ordered = l; warm = max-above-is c k .0 m; nothing-to-store = s }
       by x h (accepted e) = absurd (omega arith)
 
-      on : o .code ≡ 4 → ((length card ≡ cardLength version → ⊥) × (o .code ≡ 1)) ⊎ ((length card ≡ cardLength version) × (cardRefusal version c ≡ o .code)) → OpenCase4 version card
+      on : o .code ≡ 4 → ((length card ≡ cardLength version card → ⊥) × (o .code ≡ 1)) ⊎ ((length card ≡ cardLength version card) × (cardRefusal version c ≡ o .code)) → OpenCase4 version card
       on h (inl x) = absurd (omega arith)
       on h (inr x) = by (x .0) (x .1 ∙ h) (card-way version c)
 
@@ -150,20 +151,17 @@ module _ (version : ℕ) (card rec free : List ℕ) where
           let r = card-4 version c k (x .ordered) (max-above-is c k .1 (x .warm)) (x .nothing-to-store) in
           card-code (x .in-range .long) (λ z. omega arith) ∙ r
 
-  -- no card has another number
-  card-small : CardWay c (cardRefusal version c) → cardRefusal version c ≤ 4
-  card-small (out-of-range k e) = omega arith
-  card-small (lower-above k l e) = omega arith
-  card-small (max-low k l m e) = omega arith
-  card-small (nothing k l m s e) = omega arith
-  card-small (accepted e) = omega arith
+  -- a refused card's number is a card's
+  refused-number : (cardRefusal version c ≡ 0 → ⊥) → (n : ℕ) → o ≡ unchanged (cardRefusal version c) rec free → o .code ≡ n → CardRefusal n
+  refused-number a n e h =
+      subst CardRefusal (sym (code-of (unchanged (cardRefusal version c) rec free) e) ∙ h) (card-refusal version c a)
 
   pub open-10 : (openOf version card rec free .code ≡ 10) ↔ OpenCase10 version card rec
   open-10 = (on (open-way version card rec free), λ x. code-of (unchanged 10 rec free) (open-record version card rec free (x .card-good .long) (x .card-good .accepted) (x .other-length)))
     where
       on : OpenWay version card rec free o → o .code ≡ 10 → OpenCase10 version card rec
       on (other-card l e) h = let n = code-of (unchanged 1 rec free) e in absurd (omega arith)
-      on (refused l a e) h = let n = code-of (unchanged (cardRefusal version c) rec free) e in let s = card-small (card-way version c) in absurd (omega arith)
+      on (refused l a e) h = absurd (card-refusal-own 10 (refused-number a 10 e h) .1 refl)
       on (other-record x e) h = x
       on (no-room x e) h = let n = code-of (unchanged 11 rec free) e in absurd (omega arith)
       on (opens x e) h = let n = code-of (openedWith version card free) e in absurd (omega arith)
@@ -173,12 +171,12 @@ module _ (version : ℕ) (card rec free : List ℕ) where
     where
       on : OpenWay version card rec free o → o .code ≡ 11 → OpenCase11 version card rec free
       on (other-card l e) h = let n = code-of (unchanged 1 rec free) e in absurd (omega arith)
-      on (refused l a e) h = let n = code-of (unchanged (cardRefusal version c) rec free) e in let s = card-small (card-way version c) in absurd (omega arith)
+      on (refused l a e) h = absurd (card-refusal-own 11 (refused-number a 11 e h) .2 refl)
       on (other-record x e) h = let n = code-of (unchanged 10 rec free) e in absurd (omega arith)
       on (no-room x e) h = x
       on (opens x e) h = let n = code-of (openedWith version card free) e in absurd (omega arith)
 
-  -- 0 exactly when the card has 158 bytes, 1 to 4 don't apply, the record has its length and 161 bytes are free
+  -- 0 exactly when the card has its length, 1 to 4 don't apply, the record has its length and there is room for the version and line 0
   pub open-0 : (openOf version card rec free .code ≡ 0) ↔ Opens version card rec free
   open-0 = (on (open-way version card rec free), λ x. code-of (openedWith version card free) (opened version card rec free (x .card-good .long) (x .card-good .accepted) (x .long) (x .room)))
     where
@@ -201,12 +199,12 @@ module _ (version : ℕ) (card rec free : List ℕ) where
       on (opens x e) = absurd (h (code-of (openedWith version card free) e))
 
   -- opening gives no other number
-  pub open-codes : (openOf version card rec free .code ≤ 4) ⊎ ((openOf version card rec free .code ≡ 10) ⊎ (openOf version card rec free .code ≡ 11))
+  pub open-codes : (openOf version card rec free .code ≡ 0) ⊎ ((openOf version card rec free .code ≡ 10) ⊎ ((openOf version card rec free .code ≡ 11) ⊎ CardRefusal (openOf version card rec free .code)))
   open-codes = on (open-way version card rec free)
     where
-      on : OpenWay version card rec free o → (o .code ≤ 4) ⊎ ((o .code ≡ 10) ⊎ (o .code ≡ 11))
-      on (other-card l e) = let n = code-of (unchanged 1 rec free) e in inl (omega arith)
-      on (refused l a e) = let n = code-of (unchanged (cardRefusal version c) rec free) e in let s = card-small (card-way version c) in inl (omega arith)
+      on : OpenWay version card rec free o → (o .code ≡ 0) ⊎ ((o .code ≡ 10) ⊎ ((o .code ≡ 11) ⊎ CardRefusal (o .code)))
+      on (other-card l e) = inr (inr (inr (inl (code-of (unchanged 1 rec free) e))))
+      on (refused l a e) = inr (inr (inr (refused-number a (o .code) e refl)))
       on (other-record x e) = inr (inl (code-of (unchanged 10 rec free) e))
-      on (no-room x e) = inr (inr (code-of (unchanged 11 rec free) e))
-      on (opens x e) = let n = code-of (openedWith version card free) e in inl (omega arith)
+      on (no-room x e) = inr (inr (inl (code-of (unchanged 11 rec free) e)))
+      on (opens x e) = inl (code-of (openedWith version card free) e)

@@ -1,4 +1,4 @@
--- The record behind a call, as its machine values and as the callees say: with the totals stored where the call is answered, else with its zones alone.
+-- The record after a call, as its machine values and as the callees say: with the totals stored where the call is answered, else with its zones alone.
 use mathlib.Core.Path.{_≡_, sym, _∙_, ap, subst}
 use mathlib.Core.Bool.{not}
 use Prim.Native.Nat.{ℕ}
@@ -56,14 +56,14 @@ kept-is h zs was are =
     LL.owes T.the-type T′.the-laws (kept h zs) (w .0, (are, w .1 .1))
 
 -- what the callees say, of the record itself
-pub told : (h : Battery) (l : Ledger) (r : Renewed) (zs : List Float) (call : List ℕ) → l ≡ ledgerOf h → renewedWith l r zs ≡ advancedOf 1 (wholeOf l (spread (h .zones))) call
-    → renewedWith (ledgerOf h) r zs ≡ advancedOf 1 h call
-told h l r zs call e said =
-    subst (λ (ys : List Float). renewedWith (ledgerOf h) r zs ≡ advancedOf 1 (wholeOf (ledgerOf h) ys) call) (map-id (h .zones))
-    (subst (λ (m : Ledger). renewedWith m r zs ≡ advancedOf 1 (wholeOf m (spread (h .zones))) call) e said)
+pub told : (version : ℕ) (h : Battery) (l : Ledger) (r : Renewed) (zs : List Float) (call : List ℕ) → l ≡ ledgerOf h → renewedWith l r zs ≡ advancedOf version (wholeOf l (spread (h .zones))) call
+    → renewedWith (ledgerOf h) r zs ≡ advancedOf version h call
+told version h l r zs call e said =
+    subst (λ (ys : List Float). renewedWith (ledgerOf h) r zs ≡ advancedOf version (wholeOf (ledgerOf h) ys) call) (map-id (h .zones))
+    (subst (λ (m : Ledger). renewedWith m r zs ≡ advancedOf version (wholeOf m (spread (h .zones))) call) e said)
 
 -- a refused call leaves the record with the zones that it has
-pub left : (h : Battery) (r : Renewed) (zs : List Float) (call : List ℕ) → renewedWith (ledgerOf h) r zs ≡ advancedOf 1 h call → Holds (not (eqb (r .shown .refusal) 0)) → kept h zs ≡ advancedOf 1 h call .battery
-left h r zs call e refused =
-    let stays : advancedOf 1 h call .battery ≡ h = refused-record-stays 1 h call (λ z. subst (λ (n : ℕ). Holds (not (eqb n 0))) (ap (λ (x : Advanced). x .shown .refusal) e ∙ z) refused) in
+pub left : (version : ℕ) (h : Battery) (r : Renewed) (zs : List Float) (call : List ℕ) → renewedWith (ledgerOf h) r zs ≡ advancedOf version h call → Holds (not (eqb (r .shown .refusal) 0)) → kept h zs ≡ advancedOf version h call .battery
+left version h r zs call e refused =
+    let stays : advancedOf version h call .battery ≡ h = refused-record-stays version h call (λ z. subst (λ (n : ℕ). Holds (not (eqb n 0))) (ap (λ (x : Advanced). x .shown .refusal) e ∙ z) refused) in
     ap (kept h) (ap (λ (x : Advanced). x .battery .zones) e ∙ ap (λ (x : Battery). x .zones) stays) ∙ sym stays

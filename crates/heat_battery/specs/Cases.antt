@@ -25,11 +25,11 @@ use Rattle.calls.specs.declared.ReadCall.the-variants.{Good}
 
 -- '1 a field not finite or out of range'
 abbrev pub OpenCase1 : ℕ → List ℕ → Type 0
-OpenCase1 version card = (length card ≡ cardLength version → ⊥) ⊎ (cardInRange (cardAt version card) ≡ false)
+OpenCase1 version card = (length card ≡ cardLength version card → ⊥) ⊎ (cardInRange (cardAt version card) ≡ false)
 
 -- a card of its length whose fields are in range
 pub record InRange (version : ℕ) (card : List ℕ) : Type 0 where
-  pub long : length card ≡ cardLength version
+  pub long : length card ≡ cardLength version card
   pub fields : cardInRange (cardAt version card) ≡ true
 
 -- '2 lower above upper'
@@ -54,35 +54,35 @@ pub record OpenCase4 (version : ℕ) (card : List ℕ) : Type 0 where
 
 -- 1 to 4 don't apply
 pub record AcceptedBytes (version : ℕ) (card : List ℕ) : Type 0 where
-  pub long : length card ≡ cardLength version
+  pub long : length card ≡ cardLength version card
   pub accepted : cardRefusal version (cardAt version card) ≡ 0
 
 -- 'another length of either is 10, on opening after 1 to 4'
 pub record OpenCase10 (version : ℕ) (card rec : List ℕ) : Type 0 where
   pub card-good : AcceptedBytes version card
-  pub other-length : length rec ≡ recordLength version (cardAt version card) → ⊥
+  pub other-length : length rec ≡ recordLength version card → ⊥
 
 -- '11 fewer free sheet bytes than the line needs (for line 0 the version byte too, after 1 to 4)'
 pub record OpenCase11 (version : ℕ) (card rec free : List ℕ) : Type 0 where
   pub card-good : AcceptedBytes version card
-  pub long : length rec ≡ recordLength version (cardAt version card)
-  pub no-room : length free < openingLength version
+  pub long : length rec ≡ recordLength version card
+  pub no-room : length free < openingLength version card
 
 -- none of them
 pub record Opens (version : ℕ) (card rec free : List ℕ) : Type 0 where
   pub card-good : AcceptedBytes version card
-  pub long : length rec ≡ recordLength version (cardAt version card)
-  pub room : openingLength version ≤ length free
+  pub long : length rec ≡ recordLength version card
+  pub room : openingLength version card ≤ length free
 
 -- ---- a call
 
 -- a battery handed in that 10 lets through: 'its card, zones and totals as in the lines'
 pub record GoodRecord (version : ℕ) (rec : List ℕ) : Type 0 where
-  pub card-there : cardLength version ≤ length rec
+  pub card-there : cardLength version rec ≤ length rec
   pub card-accepted : cardRefusal version (cardAt version rec) ≡ 0
-  pub long : length rec ≡ recordLength version (cardAt version rec)
-  pub zones : (i : ℕ) → i < cardAt version rec .layers → finite64 (nthF64 rec (cardLength version) i) ≡ true
-  pub totals : (i : ℕ) → i < 5 → finite64 (nthF64 rec (cardLength version + 8 * cardAt version rec .layers) i) ≡ true
+  pub long : length rec ≡ recordLength version rec
+  pub zones : (i : ℕ) → i < cardAt version rec .layers → finite64 (nthF64 rec (cardLength version rec) i) ≡ true
+  pub totals : (i : ℕ) → i < 5 → finite64 (nthF64 rec (cardLength version rec + 8 * cardAt version rec .layers) i) ≡ true
 
 -- a call that 10 lets through: laid out as its kind, and its fields in their ranges
 pub record GoodCall (version : ℕ) (card : Card) (call : List ℕ) : Type 0 where

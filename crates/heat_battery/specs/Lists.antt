@@ -66,24 +66,24 @@ spared version rec free (call ∷ calls) =
 unfoldable pub sheetOf : ℕ → List ℕ → List ℕ → List ℕ → List (List ℕ) → List ℕ
 sheetOf version card rec free calls =
     let o = openOf version card rec free in
-    take (openingLength version) (o .sheet) ++ written version (o .record') (drop (openingLength version) (o .sheet)) calls
+    take (openingLength version card) (o .sheet) ++ written version (o .record') (drop (openingLength version card) (o .sheet)) calls
 
 unfoldable pub behindSheet : ℕ → List ℕ → List ℕ → List ℕ → List (List ℕ) → List ℕ
 behindSheet version card rec free calls =
     let o = openOf version card rec free in
-    freeAfter version (o .record') (drop (openingLength version) (o .sheet)) calls
+    freeAfter version (o .record') (drop (openingLength version card) (o .sheet)) calls
 
 -- the record that A keeps then
 unfoldable pub lastRecord : ℕ → List ℕ → List ℕ → List ℕ → List (List ℕ) → List ℕ
 lastRecord version card rec free calls =
     let o = openOf version card rec free in
-    recordAfter version (o .record') (drop (openingLength version) (o .sheet)) calls
+    recordAfter version (o .record') (drop (openingLength version card) (o .sheet)) calls
 
 -- the calls of the list that got a line
 unfoldable pub sparedOf : ℕ → List ℕ → List ℕ → List ℕ → List (List ℕ) → List (List ℕ)
 sparedOf version card rec free calls =
     let o = openOf version card rec free in
-    spared version (o .record') (drop (openingLength version) (o .sheet)) calls
+    spared version (o .record') (drop (openingLength version card) (o .sheet)) calls
 
 -- ---- the steps, fed a call's kind and fields, never an answer
 
@@ -107,7 +107,7 @@ stepLines version b (call ∷ calls) = lineBytes version call (answerTo version 
 
 -- a record that is the encoding of a good battery, with the bytes of its card
 pub record Encoded (version : ℕ) (card : List ℕ) (b : Battery) (rec : List ℕ) : Type 0 where
-  pub long : length card ≡ cardLength version
+  pub long : length card ≡ cardLength version card
   pub card-read : cardAt version card ≡ b .card
   pub good : GoodBattery version b
   pub bytes : rec ≡ recordBytes version card b

@@ -4,39 +4,39 @@
 use auditor::AuditVerdict;
 use battery::Battery;
 use calls::ReadCall;
+use card::version::ONLY_VERSION;
 use own_record::Shown;
 ghost use mathlib.Core.Path.{_≡_};
 ghost use mathlib.Core.Bool.{true};
 ghost use Rattle.calls.specs.Calls.{callOf};
+ghost use Rattle.card.specs.Version.{onlyVersion};
+ghost use Rattle.auditor.specs.Rules.{plain};
 ghost use Rattle.auditor.specs.Audit.{verdictWord, verdictFields, auditOf, limitedAuditOf};
 ghost use Rattle.own_record.specs.Record.{advancedOf};
 ghost use Rattle.entry.specs.Entry.{WasAfter, openOf, recordLaid};
 ghost use Rattle.heat_battery.specs.Entries.{entryRead, entryOf};
 
-// The version of the sheets that these entries write.
-const VERSION: u8 = 1;
-
 // Opens a sheet: its version and card line, and a fresh battery.
 #[no_mangle]
 pub extern "C" fn heat_battery_open(card: &[u8], record: &mut [u8], sheet: &mut [u8]) -> u8
-    ensures { λ r. ⌜ WasAfter (openOf 1 (now (card .entry)) (now («record» .entry)) (now (sheet .entry))) r (now («record» .exit)) (now (sheet .exit)) ⌝ }
+    ensures { λ r. ⌜ WasAfter (openOf onlyVersion (now (card .entry)) (now («record» .entry)) (now (sheet .entry))) r (now («record» .exit)) (now (sheet .exit)) ⌝ }
 {
-    entry::open(card, record, sheet)
+    entry::open(ONLY_VERSION, card, record, sheet)
 }
 
 // A call on a record that is laid out: read, advanced, entered.
-fn advance(record: &mut [u8], call: &[u8], sheet: &mut [u8]) -> u8
-    requires { ⌜ recordLaid 1 (now «record») ≡ true ⌝ }
-    ensures { λ r. ⌜ WasAfter (entryRead 1 (now («record» .entry)) (now (call .entry)) (now (sheet .entry)) (callOf 1 (now (call .entry)))) r (now («record» .exit)) (now (sheet .exit)) ⌝ }
+fn advance(version: u8, record: &mut [u8], call: &[u8], sheet: &mut [u8]) -> u8
+    requires { ⌜ recordLaid version (now «record») ≡ true ⌝ }
+    ensures { λ r. ⌜ WasAfter (entryRead version (now («record» .entry)) (now (call .entry)) (now (sheet .entry)) (callOf version (now (call .entry)))) r (now («record» .exit)) (now (sheet .exit)) ⌝ }
 {
-    let read = calls::read_call(VERSION, call);
+    let read = calls::read_call(version, call);
     match read {
         ReadCall::Bad => 10,
         ReadCall::Good(c) => {
-            let card = records::cards::read_card(VERSION, record);
-            let b = records::read_record(VERSION, card, record);
-            let a = engine::steps::advance(VERSION, b, c);
-            entry::enter(record, call, sheet, a)
+            let card = records::cards::read_card(version, record);
+            let b = records::read_record(version, card, record);
+            let a = engine::steps::advance(version, b, c);
+            entry::enter(version, record, call, sheet, a)
         }
     }
 }
@@ -44,10 +44,10 @@ fn advance(record: &mut [u8], call: &[u8], sheet: &mut [u8]) -> u8
 // One call on a battery record: its line at the front of the lent part of the sheet, and the record renewed.
 #[no_mangle]
 pub extern "C" fn heat_battery_call(record: &mut [u8], call: &[u8], sheet: &mut [u8]) -> u8
-    ensures { λ r. ⌜ WasAfter (entryOf 1 (now («record» .entry)) (now (call .entry)) (now (sheet .entry))) r (now («record» .exit)) (now (sheet .exit)) ⌝ }
+    ensures { λ r. ⌜ WasAfter (entryOf onlyVersion (now («record» .entry)) (now (call .entry)) (now (sheet .entry))) r (now («record» .exit)) (now (sheet .exit)) ⌝ }
 {
-    if entry::record_laid(record) {
-        return advance(record, call, sheet);
+    if entry::record_laid(ONLY_VERSION, record) {
+        return advance(ONLY_VERSION, record, call, sheet);
     }
     10
 }
@@ -55,7 +55,7 @@ pub extern "C" fn heat_battery_call(record: &mut [u8], call: &[u8], sheet: &mut 
 // Audits a sheet: line × 256 + refusal, or lines × 256 where it is accepted; 44 above 65,536 bytes.
 #[no_mangle]
 pub extern "C" fn heat_battery_audit(sheet: &[u8]) -> u64
-    ensures { λ r. ⌜ r ≡ verdictWord (limitedAuditOf (now (sheet .entry))) ⌝ }
+    ensures { λ r. ⌜ r ≡ verdictWord (limitedAuditOf plain (now (sheet .entry))) ⌝ }
 {
     auditor::limited_audit_word(sheet)
 }
@@ -63,7 +63,7 @@ pub extern "C" fn heat_battery_audit(sheet: &[u8]) -> u64
 // Audits a sheet of any length: the refusal and its line, or 0 and the number of call lines.
 #[no_mangle]
 pub extern "C" fn heat_battery_audit_whole(sheet: &[u8]) -> AuditVerdict
-    ensures { λ r. ⌜ r ≡ verdictFields (auditOf (now (sheet .entry))) ⌝ }
+    ensures { λ r. ⌜ r ≡ verdictFields (auditOf plain (now (sheet .entry))) ⌝ }
 {
     auditor::audit_fields(sheet)
 }
@@ -71,10 +71,10 @@ pub extern "C" fn heat_battery_audit_whole(sheet: &[u8]) -> AuditVerdict
 // Advances the caller's own battery by a call: 10, or the steps. Answered, its first `count` zones and five totals are stored; refused, nothing is.
 #[no_mangle]
 pub extern "C" fn heat_battery_advance(b: &mut Battery, call: &[u8]) -> Shown
-    ensures { λ r. ⌜ (r ≡ advancedOf 1 (now (b .entry)) (now (call .entry)) .shown) × (now (b .exit) ≡ advancedOf 1 (now (b .entry)) (now (call .entry)) .battery) ⌝ }
+    ensures { λ r. ⌜ (r ≡ advancedOf onlyVersion (now (b .entry)) (now (call .entry)) .shown) × (now (b .exit) ≡ advancedOf onlyVersion (now (b .entry)) (now (call .entry)) .battery) ⌝ }
 {
     let l = battery::ledger_of(*b);
-    let out = own_record::advance_apart(l, call, &mut b.zones);
+    let out = own_record::advance_apart(ONLY_VERSION, l, call, &mut b.zones);
     if out.shown.refusal == 0 {
         b.total = out.totals.total;
         b.pump = out.totals.pump;

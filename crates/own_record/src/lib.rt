@@ -8,9 +8,6 @@ ghost use Prim.Native.Nat.{_≤_};
 ghost use Rattle.battery.specs.Ledger.{whole};
 ghost use Rattle.own_record.specs.Record.{replyShown, refusedShown, renewedWith, renewedZones, advancedOf};
 
-// The version of the calls' bytes.
-const VERSION: u8 = 1;
-
 // What a call answers, without the battery.
 #[repr(C)]
 pub struct Shown {
@@ -71,10 +68,10 @@ fn renew_zones(zones: &mut [f64; 64], own: &[f64; 64], n: usize)
 }
 
 // A call's bytes on a battery whose zones lie apart. It runs on a copy of them: answered, the first `count` are stored, and refused, none.
-pub fn advance_apart(l: Ledger, call: &[u8], zones: &mut [f64; 64]) -> Renewed
-    ensures { λ r. ⌜ renewedWith l r (now (zones .exit)) ≡ advancedOf 1 (whole l (now (zones .entry))) (now (call .entry)) ⌝ }
+pub fn advance_apart(version: u8, l: Ledger, call: &[u8], zones: &mut [f64; 64]) -> Renewed
+    ensures { λ r. ⌜ renewedWith l r (now (zones .exit)) ≡ advancedOf version (whole l (now (zones .entry))) (now (call .entry)) ⌝ }
 {
-    let read = calls::read_call(VERSION, call);
+    let read = calls::read_call(version, call);
     match read {
         ReadCall::Bad => {
             let totals = l.totals;
@@ -83,7 +80,7 @@ pub fn advance_apart(l: Ledger, call: &[u8], zones: &mut [f64; 64]) -> Renewed
         }
         ReadCall::Good(c) => {
             let mut own = *zones;
-            let a = engine::steps::advance_in_place(VERSION, l, c, &mut own);
+            let a = engine::steps::advance_in_place(version, l, c, &mut own);
             if a.refusal == 0 {
                 let n = l.count as usize;
                 renew_zones(zones, &own, n);

@@ -1,14 +1,13 @@
 -- The length of a record's encodings.
 use mathlib.Core.Path.{_≡_, refl}
 use mathlib.Core.List.{List}
-use Prim.Native.Nat.{ℕ, zero, suc, _*_}
+use Prim.Native.Nat.{ℕ, zero, suc, _+_, _*_}
 use native.Mathlib.Omega.{arith}
 use lib.ListN.{length, length-append}
 use lib.Ieee.{Float}
 use Rattle.codec.proofs.Laws.{length-f64Bytes}
 use Rattle.battery.specs.declared.Battery.{Battery}
-use Rattle.records.specs.Cards.{cardLength}
-use Rattle.records.specs.Records.{zonesBytes, totalsBytes, stateLength, stateBytes, recordLength, recordBytes}
+use Rattle.records.specs.Records.{zonesBytes, totalsBytes, stateLength, stateBytes, recordBytes}
 
 pub length-zonesBytes : (zones : List Float) (n : ℕ) → length (zonesBytes zones n) ≡ 8 * n
 unfolding zonesBytes
@@ -23,7 +22,6 @@ pub length-stateBytes : (version : ℕ) (b : Battery) → length (stateBytes ver
 unfolding stateBytes stateLength
 length-stateBytes version b = simp (length-append, length-zonesBytes, length-totalsBytes)
 
-pub length-recordBytes : (version : ℕ) (card : List ℕ) (b : Battery) → length card ≡ cardLength version
-    → length (recordBytes version card b) ≡ recordLength version (b .card)
-unfolding recordBytes recordLength
-length-recordBytes version card b h = simp (length-append, length-stateBytes) (omega arith)
+pub length-recordBytes : (version : ℕ) (card : List ℕ) (b : Battery) → length (recordBytes version card b) ≡ length card + stateLength version (b .card)
+unfolding recordBytes
+length-recordBytes version card b = simp (length-append, length-stateBytes)

@@ -1,12 +1,13 @@
--- Document 01, 'Line 0: the card, 158 bytes'. The version is the sheet's; 1 is the only one known.
+-- Document 01, 'Line 0: the card, 158 bytes'. The version is the sheet's.
 use Prim.Native.Nat.{ℕ}
 use mathlib.Core.List.{List}
 use lib.ListN.{getD}
 use Rattle.codec.specs.Bytes.{beAt, nthF64}
 use Rattle.card.specs.declared.Card.{Card}
 
-unfoldable pub cardLength : ℕ → ℕ
-cardLength version = 158
+-- the length of the card at the front of bs, by the version and the card's own bytes
+unfoldable pub cardLength : ℕ → List ℕ → ℕ
+cardLength version bs = 158
 
 -- the place of the first f64
 abbrev pub cardNumbers : ℕ

@@ -48,12 +48,12 @@ stateAt version card bs at =
 unfoldable pub stateBytes : ℕ → Battery → List ℕ
 stateBytes version b = zonesBytes (b .zones) (b .card .layers) ++ totalsBytes b
 
--- a battery record: the bytes of its card, then its state
-unfoldable pub recordLength : ℕ → Card → ℕ
-recordLength version card = cardLength version + stateLength version card
+-- a battery record: the bytes of its card, then its state; its length by the card at the front of bs
+unfoldable pub recordLength : ℕ → List ℕ → ℕ
+recordLength version bs = cardLength version bs + stateLength version (cardAt version bs)
 
 unfoldable pub recordOf : ℕ → List ℕ → Battery
-recordOf version bs = stateAt version (cardAt version bs) bs (cardLength version)
+recordOf version bs = stateAt version (cardAt version bs) bs (cardLength version bs)
 
 unfoldable pub recordBytes : ℕ → List ℕ → Battery → List ℕ
 recordBytes version card b = card ++ stateBytes version b

@@ -8,14 +8,16 @@ ghost use Rattle.records.specs.Cards.{cardLength, cardAt};
 // Place of the first of the card's f64.
 const NUMBERS: usize = 6;
 
-pub fn card_length(version: u8) -> usize
-    ensures { λ r. ⌜ r ≡ cardLength version ⌝ }
+// The length of the card at the front of the bytes.
+pub fn card_length(version: u8, bytes: &[u8]) -> usize
+    ensures { λ r. ⌜ r ≡ cardLength version (now (bytes .entry)) ⌝ }
 {
     158
 }
 
+// That card.
 pub fn read_card(version: u8, bytes: &[u8]) -> Card
-    requires { ⌜ cardLength version ≤ length (now bytes) ⌝ }
+    requires { ⌜ cardLength version (now bytes) ≤ length (now bytes) ⌝ }
     ensures { λ r. ⌜ r ≡ cardAt version (now (bytes .entry)) ⌝ }
 {
     Card {

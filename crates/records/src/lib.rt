@@ -19,10 +19,12 @@ pub fn state_length(version: u8, card: Card) -> usize
     8 * (card.layers as usize) + TOTALS
 }
 
-pub fn record_length(version: u8, card: Card) -> usize
-    ensures { λ r. ⌜ r ≡ recordLength version card ⌝ }
+// The length of the record whose card stands at the front of the bytes, read already.
+pub fn record_length(version: u8, card: Card, bytes: &[u8]) -> usize
+    requires { ⌜ card ≡ cardAt version (now bytes) ⌝ }
+    ensures { λ r. ⌜ r ≡ recordLength version (now (bytes .entry)) ⌝ }
 {
-    cards::card_length(version) + state_length(version, card)
+    cards::card_length(version, bytes) + state_length(version, card)
 }
 
 fn read_zones(bytes: &[u8], at: usize, n: usize) -> [f64; 64]
@@ -58,10 +60,10 @@ pub fn read_state(version: u8, card: Card, bytes: &[u8], at: usize) -> Battery
 
 // The battery of a record whose card was read and accepted.
 pub fn read_record(version: u8, card: Card, bytes: &[u8]) -> Battery
-    requires { ⌜ (card ≡ cardAt version (now bytes)) × (card .layers ≤ 64) × (recordLength version card ≤ length (now bytes)) ⌝ }
+    requires { ⌜ (card ≡ cardAt version (now bytes)) × (card .layers ≤ 64) × (recordLength version (now bytes) ≤ length (now bytes)) ⌝ }
     ensures { λ r. ⌜ r ≡ recordOf version (now (bytes .entry)) ⌝ }
 {
-    let at = cards::card_length(version);
+    let at = cards::card_length(version, bytes);
     read_state(version, card, bytes, at)
 }
 
@@ -102,7 +104,7 @@ pub fn put_state(version: u8, s: &mut [u8], at: usize, b: Battery) -> usize
 
 // Writes a whole record, with the caller's own card bytes.
 pub fn put_record(version: u8, bytes: &mut [u8], card: &[u8], b: Battery)
-    requires { ⌜ (b .card .layers ≤ 64) × (length (now card) ≡ cardLength version) × (length (now bytes) ≡ recordLength version (b .card)) ⌝ }
+    requires { ⌜ (b .card .layers ≤ 64) × (length (now bytes) ≡ length (now card) + stateLength version (b .card)) ⌝ }
     ensures { λ r. ⌜ now (bytes .exit) ≡ recordBytes version (now (card .entry)) b ⌝ }
 {
     let p = codec::put_bytes(bytes, 0, card);
@@ -111,9 +113,9 @@ pub fn put_record(version: u8, bytes: &mut [u8], card: &[u8], b: Battery)
 
 // Writes zones and totals into a record; its card's bytes stay.
 pub fn renew_record(version: u8, bytes: &mut [u8], b: Battery)
-    requires { ⌜ (b .card .layers ≤ 64) × (length (now bytes) ≡ recordLength version (b .card)) ⌝ }
-    ensures { λ r. ⌜ now (bytes .exit) ≡ recordBytes version (take (cardLength version) (now (bytes .entry))) b ⌝ }
+    requires { ⌜ (b .card .layers ≤ 64) × (length (now bytes) ≡ cardLength version (now bytes) + stateLength version (b .card)) ⌝ }
+    ensures { λ r. ⌜ now (bytes .exit) ≡ recordBytes version (take (cardLength version (now (bytes .entry))) (now (bytes .entry))) b ⌝ }
 {
-    let at = cards::card_length(version);
+    let at = cards::card_length(version, bytes);
     put_state(version, bytes, at, b);
 }

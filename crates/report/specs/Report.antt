@@ -3,6 +3,7 @@ use Prim.Native.Nat.{ℕ, zero, suc, _+_, _/_, _%_}
 use mathlib.Core.Bool.{cond}
 use mathlib.Core.List.{List, [], _∷_, _++_}
 use lib.Dec.{ltb}
+use Rattle.auditor.specs.Rules.{plain}
 use Rattle.auditor.specs.Audit.{limitedAuditOf}
 use Rattle.auditor.specs.declared.Verdict.{Verdict}
 use Rattle.auditor.specs.declared.Verdict.the-variants.{Accepted, Refused}
@@ -42,4 +43,4 @@ says (Refused r k) = saysRefused r k
 
 -- what is printed for a sheet
 abbrev pub reportOf : List ℕ → List ℕ
-reportOf sheet = says (limitedAuditOf sheet)
+reportOf sheet = says (limitedAuditOf plain sheet)

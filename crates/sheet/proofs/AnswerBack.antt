@@ -3,19 +3,20 @@ use mathlib.Core.Path.{_≡_, refl, ap, _∙_}
 use mathlib.Core.List.{List, [], _++_, append-assoc, append-nil}
 use mathlib.Core.Bool.{true, cond}
 use mathlib.Core.Logic.{_⊎_, inl, inr}
-use Prim.Native.Nat.{ℕ, zero, _+_, _*_, _≤_, _<_}
+use Prim.Native.Nat.{ℕ, zero, _≤_}
 use native.Mathlib.Omega.{arith}
 use lib.Dec.{eqb}
-use lib.ListN.{length, take, drop, getD, List·getD-append, length-append}
+use lib.ListN.{length, take, drop, getD, length-append}
 use lib.Ieee.{Float, toBits, ofBits}
 use Rattle.floats.specs.Constants as Constants
-use Rattle.codec.specs.Bytes.{be, beAt, f64At, beBytes, nthF64, f64Of, f64Bytes}
+use Rattle.codec.specs.Bytes.{be, beAt, f64At, beBytes, f64Bytes}
 use Rattle.codec.proofs.Laws.{length-beBytes, length-f64Bytes}
-use Rattle.codec.proofs.Places.{bytes-here, number-here, byte-here, f64-here, in-front}
+use Rattle.codec.proofs.Places.{bytes-here, number-here, byte-here, f64-here}
 use Rattle.battery.specs.declared.Battery.{Battery}
 use Rattle.battery.specs.declared.Answer.{Answer}
 use Rattle.battery.specs.Battery.{GoodBattery}
 use Rattle.records.specs.Cards.{cardLength, cardAt}
+use Rattle.records.proofs.CardLaws.{card-length-front, card-at-front}
 use Rattle.records.specs.Records.{stateAt, stateBytes, recordOf, recordBytes}
 use Rattle.calls.specs.Calls.{markOk}
 use Rattle.sheet.specs.Answers.{headLength, headBytes, answerAt, answerBytes, marksOk, GoodAnswer}
@@ -25,47 +26,16 @@ use Rattle.sheet.proofs.Back.{state-back}
 
 -- ---- a record
 
--- a card is read from its own bytes, whatever stands behind them
-pub card-front : (version : ℕ) (card r : List ℕ) → length card ≡ cardLength version → cardAt version (card ++ r) ≡ cardAt version card
-unfolding cardAt cardLength
-card-front version card r h =
-    let byte : (i : ℕ) → i < 158 → getD (card ++ r) i 0 ≡ getD card i 0 = λ i l. List·getD-append card r 0 i (omega arith) in
-    let two : (at : ℕ) → at + 2 ≤ 158 → beAt (card ++ r) at 2 ≡ beAt card at 2 = λ at l. ap be (in-front card r at 2 (omega arith)) in
-    let f : (k : ℕ) → k < 19 → nthF64 (card ++ r) 6 k ≡ nthF64 card 6 k = λ k l. ap f64Of (in-front card r (6 + 8 * k) 8 (omega arith)) in
-    λ i. record {
-      layers = byte 0 (omega arith) i;
-      units = two 1 (omega arith) i;
-      simultaneous = byte 3 (omega arith) i;
-      budget = two 4 (omega arith) i;
-      substep = f 0 (omega arith) i;
-      timestep = f 1 (omega arith) i;
-      inlet = f 2 (omega arith) i;
-      outlet = f 3 (omega arith) i;
-      max = f 4 (omega arith) i;
-      reference = f 5 (omega arith) i;
-      lower = f 6 (omega arith) i;
-      upper = f 7 (omega arith) i;
-      below = f 8 (omega arith) i;
-      during = f 9 (omega arith) i;
-      above = f 10 (omega arith) i;
-      velocity = f 11 (omega arith) i;
-      diameter = f 12 (omega arith) i;
-      a = f 13 (omega arith) i;
-      b = f 14 (omega arith) i;
-      flow = f 15 (omega arith) i;
-      losses = f 16 (omega arith) i;
-      start = f 17 (omega arith) i;
-      power = f 18 (omega arith) i;
-    }
-
 -- the battery comes back from a record with its card's bytes
-pub record-back : (version : ℕ) (card : List ℕ) (b : Battery) → length card ≡ cardLength version → cardAt version card ≡ b .card → GoodBattery version b
+pub record-back : (version : ℕ) (card : List ℕ) (b : Battery) → length card ≡ cardLength version card → cardAt version card ≡ b .card → GoodBattery version b
     → recordOf version (recordBytes version card b) ≡ b
 unfolding recordOf recordBytes
 record-back version card b h e g =
-    let c : cardAt version (card ++ stateBytes version b) ≡ b .card = card-front version card (stateBytes version b) h ∙ e in
+    let long : cardLength version card ≤ length card = omega arith in
+    let n : cardLength version (card ++ stateBytes version b) ≡ cardLength version card = card-length-front version card (stateBytes version b) long in
+    let c : cardAt version (card ++ stateBytes version b) ≡ b .card = card-at-front version card (stateBytes version b) long ∙ e in
     let m : card ++ stateBytes version b ≡ card ++ (stateBytes version b ++ []) = simp append-nil in
-    rw (c, m) (state-back version b card [] (cardLength version) g h)
+    rw (n, c, m) (state-back version b card [] (cardLength version card) g h)
 
 -- ---- an answer
 

@@ -23,6 +23,6 @@ pub length-lineBytes : (version : ℕ) (call : List ℕ) (a : Answer) → length
 unfolding lineBytes lineSize lineLength
 length-lineBytes version call a = simp (length-append, length-beBytes, length-answerBytes) (omega arith)
 
-pub length-openingBytes : (version : ℕ) (card : List ℕ) → length card ≡ cardLength version → length (openingBytes version card) ≡ openingLength version
+pub length-openingBytes : (version : ℕ) (card : List ℕ) → length card ≡ cardLength version card → length (openingBytes version card) ≡ openingLength version card
 unfolding openingBytes openingLength
 length-openingBytes version card h = simp (length-append, length-beBytes) (omega arith)

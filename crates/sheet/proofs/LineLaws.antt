@@ -1,7 +1,7 @@
 -- The parts of a line and of the opening are found again at their places; 01's closing line.
 use mathlib.Core.Path.{_≡_, refl, ap, _∙_}
 use mathlib.Core.List.{List, [], _∷_, _++_, append-assoc}
-use Prim.Native.Nat.{ℕ, _+_, _≤_, _<_}
+use Prim.Native.Nat.{ℕ, _+_, _%_, _≤_, _<_}
 use native.Mathlib.Omega.{arith}
 use lib.ListN.{length, take, drop, getD, replicate, List·getD-append, length-append}
 use lib.Seq.{drop-at, getD-append-add}
@@ -10,6 +10,7 @@ use Rattle.floats.specs.Constants as Constants
 use Rattle.codec.specs.Bytes.{beAt, beBytes, f64Bytes}
 use Rattle.codec.proofs.Laws.{length-beBytes}
 use Rattle.codec.proofs.Places.{bytes-here, number-here, byte-here}
+use Rattle.card.specs.Version.{onlyVersion}
 use Rattle.card.specs.declared.Card.{Card}
 use Rattle.battery.specs.declared.Battery.{Battery}
 use Rattle.battery.specs.declared.Answer.{Answer}
@@ -17,6 +18,7 @@ use Rattle.battery.specs.declared.Call.the-variants.{CloseTimestep}
 use Rattle.battery.specs.Answer.{plainAnswer}
 use Rattle.calls.specs.declared.ReadCall.the-variants.{Good}
 use Rattle.records.specs.Cards.{cardLength}
+use Rattle.records.proofs.CardLaws.{card-below}
 use Rattle.records.specs.Records.{stateLength, zonesBytes, totalsBytes, stateBytes}
 use Rattle.calls.specs.Calls.{callLength, bareCall, callBy, callOf}
 use Rattle.sheet.specs.Answers.{headLength, headBytes, answerLength, answerBytes}
@@ -60,30 +62,37 @@ module _ (version : ℕ) (call : List ℕ) (a : Answer) (r : List ℕ) where
   pub line-behind : drop (lineSize version (a .battery .card) (length call)) (lineBytes version call a ++ r) ≡ r
   line-behind = drop-at (lineBytes version call a) r (lineSize version (a .battery .card) (length call)) (length-lineBytes version call a)
 
+-- a number below 256 is one byte
+one-byte : (x : ℕ) → x < 256 → beBytes 1 x ≡ x ∷ []
+unfolding beBytes
+one-byte x h = let e : x % 256 ≡ x = omega arith in ap (λ (n : ℕ). n ∷ []) e
+
 -- the version and line 0, with r behind them
 module _ (version : ℕ) (card r : List ℕ) where
-  head : openingBytes version card ++ r ≡ beBytes 1 version ++ (beBytes 2 (cardLength version) ++ (card ++ r))
+  head : openingBytes version card ++ r ≡ beBytes 1 version ++ (beBytes 2 (cardLength version card) ++ (card ++ r))
   unfolding openingBytes
   head = simp append-assoc
 
-  head-card : openingBytes version card ++ r ≡ (beBytes 1 version ++ beBytes 2 (cardLength version)) ++ (card ++ r)
+  head-card : openingBytes version card ++ r ≡ (beBytes 1 version ++ beBytes 2 (cardLength version card)) ++ (card ++ r)
   unfolding openingBytes
   head-card = simp append-assoc
+
+  pub opening-starts : version < 256 → openingBytes version card ++ r ≡ version ∷ (beBytes 2 (cardLength version card) ++ (card ++ r))
+  opening-starts h = head ∙ ap (λ (x : List ℕ). x ++ (beBytes 2 (cardLength version card) ++ (card ++ r))) (one-byte version h)
 
   pub opening-version : version < 256 → getD (openingBytes version card ++ r) 0 0 ≡ version
   opening-version h = byte-here (openingBytes version card ++ r) [] _ 0 version head refl h
 
-  pub opening-says : beAt (openingBytes version card ++ r) 1 2 ≡ cardLength version
-  unfolding cardLength
-  opening-says = number-here (openingBytes version card ++ r) (beBytes 1 version) _ 1 2 (cardLength version) head (length-beBytes 1 version) (omega arith)
+  pub opening-says : beAt (openingBytes version card ++ r) 1 2 ≡ cardLength version card
+  opening-says = number-here (openingBytes version card ++ r) (beBytes 1 version) _ 1 2 (cardLength version card) head (length-beBytes 1 version) (card-below version card)
 
-  pub opening-card : length card ≡ cardLength version → take (cardLength version) (drop 3 (openingBytes version card ++ r)) ≡ card
+  pub opening-card : length card ≡ cardLength version card → take (cardLength version card) (drop 3 (openingBytes version card ++ r)) ≡ card
   opening-card h =
-      bytes-here (openingBytes version card ++ r) (beBytes 1 version ++ beBytes 2 (cardLength version)) card r 3 (cardLength version) head-card
+      bytes-here (openingBytes version card ++ r) (beBytes 1 version ++ beBytes 2 (cardLength version card)) card r 3 (cardLength version card) head-card
       (simp (length-append, length-beBytes)) h
 
-  pub opening-behind : length card ≡ cardLength version → drop (openingLength version) (openingBytes version card ++ r) ≡ r
-  opening-behind h = drop-at (openingBytes version card) r (openingLength version) (length-openingBytes version card h)
+  pub opening-behind : length card ≡ cardLength version card → drop (openingLength version card) (openingBytes version card ++ r) ≡ r
+  opening-behind h = drop-at (openingBytes version card) r (openingLength version card) (length-openingBytes version card h)
 
 -- 'Closing a timestep, one layer at 60 °C, totals 0': 81 bytes with the length
 pub record Closing (b : Battery) : Type 0 where
@@ -95,13 +104,13 @@ pub record Closing (b : Battery) : Type 0 where
   pub charged : b .charged ≡ Constants.zero
   pub electric : b .electric ≡ Constants.zero
 
-pub closing-line : (b : Battery) → Closing b → lineBytes 1 (5 ∷ []) (plainAnswer Constants.zero b)
+pub closing-line : (b : Battery) → Closing b → lineBytes onlyVersion (5 ∷ []) (plainAnswer Constants.zero b)
     ≡ 0x00 ∷ 0x4f ∷ 5 ∷ (replicate 30 0 ++ (0x40 ∷ 0x4e ∷ replicate 46 0))
 unfolding lineBytes lineLength plainAnswer answerLength headLength stateLength answerBytes headBytes stateBytes zonesBytes totalsBytes f64Bytes beBytes toBits ofBits
 closing-line b c = rw (c .layers, c .zone, c .total, c .pump, c .direct, c .charged, c .electric)
 
 -- and its call is the closing of a timestep
-pub closing-call : callOf 1 (5 ∷ []) ≡ Good CloseTimestep
+pub closing-call : callOf onlyVersion (5 ∷ []) ≡ Good CloseTimestep
 unfolding callOf callLength callBy bareCall
 closing-call = refl
 

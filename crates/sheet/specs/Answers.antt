@@ -52,25 +52,29 @@ answerBytes version a = headBytes a ++ stateBytes version (a .battery)
 unfoldable pub marksOk : ℕ → List ℕ → Bool
 marksOk version bs = markOk bs markPlace
 
--- 'Numbers agree when f64 equality holds'
+-- document 01's comparison: 'Numbers agree when f64 equality holds'
 unfoldable pub sameNumber : Float → Float → Bool
 sameNumber x y = eq x y
 
+-- a comparison that accepts every finite number beside itself
+abbrev pub AcceptsItself : (Float → Float → Bool) → Type 0
+AcceptsItself same = (x : Float) → finite64 x ≡ true → same x x ≡ true
+
 -- the first n zones agree
-unfoldable pub sameZones : List Float → List Float → ℕ → Bool
-sameZones xs ys zero = true
-sameZones xs ys (suc n) = sameZones xs ys n && sameNumber (getD xs n nan) (getD ys n nan)
+unfoldable pub sameZones : (Float → Float → Bool) → List Float → List Float → ℕ → Bool
+sameZones same xs ys zero = true
+sameZones same xs ys (suc n) = sameZones same xs ys n && same (getD xs n nan) (getD ys n nan)
 
-unfoldable pub sameTotals : Battery → Battery → Bool
-sameTotals x y =
-    sameNumber (x .total) (y .total) && (sameNumber (x .pump) (y .pump) && (sameNumber (x .direct) (y .direct) && (sameNumber (x .charged) (y .charged) && sameNumber (x .electric) (y .electric))))
+unfoldable pub sameTotals : (Float → Float → Bool) → Battery → Battery → Bool
+sameTotals same x y =
+    same (x .total) (y .total) && (same (x .pump) (y .pump) && (same (x .direct) (y .direct) && (same (x .charged) (y .charged) && same (x .electric) (y .electric))))
 
--- 'A call line agrees when its refusal, mark, substeps and f64 agree with those of the steps'
-unfoldable pub agrees : Answer → Answer → Bool
-agrees x y =
-    eqb (x .refusal) (y .refusal) && (sameNumber (x .energy) (y .energy) && (eqb (x .mark) (y .mark) && (sameNumber (x .outlet) (y .outlet)
-    && (sameNumber (x .time) (y .time) && (eqb (x .substeps) (y .substeps)
-    && (sameZones (x .battery .zones) (y .battery .zones) (x .battery .card .layers) && sameTotals (x .battery) (y .battery)))))))
+-- 'A call line agrees when its refusal, mark, substeps and f64 agree with those of the steps', its f64 by a comparison
+unfoldable pub agrees : (Float → Float → Bool) → Answer → Answer → Bool
+agrees same x y =
+    eqb (x .refusal) (y .refusal) && (same (x .energy) (y .energy) && (eqb (x .mark) (y .mark) && (same (x .outlet) (y .outlet)
+    && (same (x .time) (y .time) && (eqb (x .substeps) (y .substeps)
+    && (sameZones same (x .battery .zones) (y .battery .zones) (x .battery .card .layers) && sameTotals same (x .battery) (y .battery)))))))
 
 -- What a line can show: numbers that fit their fields, an absent outlet with zero bytes, a good battery.
 pub record GoodAnswer (version : ℕ) (a : Answer) : Type 0 where

@@ -19,9 +19,9 @@ lineSize version card n = 2 + lineLength version card n
 unfoldable pub lineBytes : ℕ → List ℕ → Answer → List ℕ
 lineBytes version call a = beBytes 2 (lineLength version (a .battery .card) (length call)) ++ call ++ answerBytes version a
 
--- the version byte and line 0
-unfoldable pub openingLength : ℕ → ℕ
-openingLength version = 3 + cardLength version
+-- the version byte and line 0, with the card at the front of bs
+unfoldable pub openingLength : ℕ → List ℕ → ℕ
+openingLength version bs = 3 + cardLength version bs
 
 unfoldable pub openingBytes : ℕ → List ℕ → List ℕ
-openingBytes version card = beBytes 1 version ++ beBytes 2 (cardLength version) ++ card
+openingBytes version card = beBytes 1 version ++ beBytes 2 (cardLength version card) ++ card

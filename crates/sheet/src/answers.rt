@@ -79,7 +79,7 @@ fn same_number(x: f64, y: f64) -> bool
 
 fn same_zones(x: [f64; 64], y: [f64; 64], n: usize) -> bool
     requires { ⌜ n ≤ 64 ⌝ }
-    ensures { λ r. ⌜ r ≡ sameZones x y n ⌝ }
+    ensures { λ r. ⌜ r ≡ sameZones sameNumber x y n ⌝ }
 {
     let mut ok = true;
     for k in 0..n {
@@ -89,7 +89,7 @@ fn same_zones(x: [f64; 64], y: [f64; 64], n: usize) -> bool
 }
 
 fn same_totals(x: Battery, y: Battery) -> bool
-    ensures { λ r. ⌜ r ≡ sameTotals x y ⌝ }
+    ensures { λ r. ⌜ r ≡ sameTotals sameNumber x y ⌝ }
 {
     logic::both(
         same_number(x.total, y.total),
@@ -109,7 +109,7 @@ fn same_totals(x: Battery, y: Battery) -> bool
 // Whether two answers agree; the zones compared are those of the first one's layers.
 pub fn answers_agree(x: Answer, y: Answer) -> bool
     requires { ⌜ x .battery .card .layers ≤ 64 ⌝ }
-    ensures { λ r. ⌜ r ≡ agrees x y ⌝ }
+    ensures { λ r. ⌜ r ≡ agrees sameNumber x y ⌝ }
 {
     let b = x.battery;
     let c = y.battery;

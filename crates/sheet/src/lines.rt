@@ -36,18 +36,19 @@ pub fn put_line(version: u8, sheet: &mut [u8], call: &[u8], a: Answer)
     crate::answers::put_answer(version, sheet, p2, a);
 }
 
-pub fn opening_length(version: u8) -> usize
-    ensures { λ r. ⌜ r ≡ openingLength version ⌝ }
+// The bytes of the version and line 0, with the card at the front of the bytes.
+pub fn opening_length(version: u8, bytes: &[u8]) -> usize
+    ensures { λ r. ⌜ r ≡ openingLength version (now (bytes .entry)) ⌝ }
 {
-    3 + records::cards::card_length(version)
+    3 + records::cards::card_length(version, bytes)
 }
 
 // The version and line 0, with the caller's own card bytes, at the front of a memory that has room for them.
 pub fn put_opening(version: u8, sheet: &mut [u8], card: &[u8])
-    requires { ⌜ (length (now card) ≡ cardLength version) × (openingLength version ≤ length (now sheet)) ⌝ }
+    requires { ⌜ (length (now card) ≡ cardLength version (now card)) × (openingLength version (now card) ≤ length (now sheet)) ⌝ }
     ensures { λ r. ⌜ now (sheet .exit) ≡ over (openingBytes version (now (card .entry))) (now (sheet .entry)) ⌝ }
 {
-    let n = records::cards::card_length(version);
+    let n = records::cards::card_length(version, card);
     let p1 = codec::put_u8(sheet, 0, version);
     let p2 = codec::put_be(sheet, p1, 2, n as u64);
     codec::put_bytes(sheet, p2, card);

@@ -1,7 +1,8 @@
 // Cards of 23 words.
 use card::Card;
 
-pub const VERSION: u8 = 1;
+// The version of the cards and calls in words.
+pub const VERSION: u8 = card::version::ONLY_VERSION;
 
 // The card of the first 23 words.
 pub fn read(s: &[u8]) -> Card {

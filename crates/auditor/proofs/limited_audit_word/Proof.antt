@@ -9,7 +9,7 @@ audit-limited-requires : tie.Need-audit-limited-requires
 audit-limited-requires c κs = search needs
 
 verdict-word-requires : tie.Need-verdict-word-requires
-verdict-word-requires c κs = rw (c .audit-limited .ensures) (most-limited (c .before .before .args .sheet .now))
+verdict-word-requires c κs = rw (c .audit-limited .ensures) (most-limited _ (c .before .before .args .sheet .now))
 
 returns : tie.Need-returns
 returns c = c .verdict-word .ensures ∙ ap verdictWord (c .before .audit-limited .ensures)

@@ -1,6 +1,7 @@
 use native.Mathlib.Omega.{arith}
 use Rattle.calls.specs.Calls.{callLength, callBy}
 use mathlib.Core.Path.{ap, refl}
+use Rattle.calls.proofs.Places.{electric-length}
 use Rattle.logic.proofs.Branch.{via-true, via-false}
 use borrow.Author.Tests.{eq-eqb, ne-eqb}
 use borrow.Author.Needs.{needs}
@@ -8,7 +9,6 @@ use Rattle.calls.proofs.call_by.Statement.{statement}
 use Rattle.calls.proofs.call_by.Tie as tie
 
 demand-call-requires : tie.Need-demand-call-requires
-unfolding callLength
 demand-call-requires c κs = omega (arith, c .before .before .pre, ap (callLength (c .before .before .args .version)) (c .if1 .taken))
 
 returns : tie.Need-returns
@@ -16,19 +16,16 @@ unfolding callBy
 returns c = rw (← (c .demand-call .ensures)) (via-true _ _ (eq-eqb _ _ (c .before .if1 .taken)) refl)
 
 nth-f64-requires : tie.Need-nth-f64-requires
-unfolding callLength
-nth-f64-requires c κs = omega (arith, c .before .before .before .pre, ap (callLength (c .before .before .before .args .version)) (c .if2 .taken))
+nth-f64-requires c κs = omega (arith, c .before .before .before .pre, ap (callLength (c .before .before .before .args .version)) (c .if2 .taken), electric-length (c .before .before .before .args .version))
 
 nth-f64-requires-2 : tie.Need-nth-f64-requires-2
-unfolding callLength
-nth-f64-requires-2 c κs = omega (arith, c .before .before .before .before .pre, ap (callLength (c .before .before .before .before .args .version)) (c .before .if2 .taken))
+nth-f64-requires-2 c κs = omega (arith, c .before .before .before .before .pre, ap (callLength (c .before .before .before .before .args .version)) (c .before .if2 .taken), electric-length (c .before .before .before .before .args .version))
 
 returns-2 : tie.Need-returns-2
 unfolding callBy
 returns-2 c = rw (← (c .before .nth-f64 .ensures), ← (c .nth-f642 .ensures)) (via-false _ _ (ne-eqb _ _ (c .before .before .before .if1 .left)) (via-true _ _ (eq-eqb _ _ (c .before .before .if2 .taken)) refl))
 
 read-hydronic-requires : tie.Need-read-hydronic-requires
-unfolding callLength
 read-hydronic-requires c κs = omega (arith, c .before .before .before .before .pre, ap (callLength (c .before .before .before .before .args .version)) (c .if3 .taken))
 
 returns-3 : tie.Need-returns-3
@@ -36,7 +33,6 @@ unfolding callBy
 returns-3 c = rw (← (c .read-hydronic .ensures)) (via-false _ _ (ne-eqb _ _ (c .before .before .before .if1 .left)) (via-false _ _ (ne-eqb _ _ (c .before .before .if2 .left)) (via-true _ _ (eq-eqb _ _ (c .before .if3 .taken)) refl)))
 
 charge-demand-call-requires : tie.Need-charge-demand-call-requires
-unfolding callLength
 charge-demand-call-requires c κs = omega (arith, c .before .before .before .before .before .pre, ap (callLength (c .before .before .before .before .before .args .version)) (c .if4 .taken))
 
 returns-4 : tie.Need-returns-4

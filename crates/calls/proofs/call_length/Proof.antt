@@ -1,13 +1,25 @@
 use mathlib.Core.Path.{refl}
 use Rattle.logic.proofs.Branch.{via-true, via-false}
 use borrow.Author.Tests.{eq-eqb, ne-eqb}
+use native.Mathlib.Omega.{arith}
+use borrow.Author.Needs.{needs}
 use Rattle.calls.specs.Calls.{callLength}
+use Rattle.calls.proofs.Places.{commit-place}
 use Rattle.calls.proofs.call_length.Statement.{statement}
 use Rattle.calls.proofs.call_length.Tie as tie
 
+commit-place-requires : tie.Need-commit-place-requires
+commit-place-requires c = search needs
+
+add-result : tie.Need-add-result
+add-result c = omega (arith, c .commit-place .ensures, commit-place (c .before .before .args .version) .1)
+
+add-result-2 : tie.Need-add-result-2
+add-result-2 c = omega (arith, c .commit-place .ensures, commit-place (c .before .before .args .version) .1)
+
 returns : tie.Need-returns
 unfolding callLength
-returns c = via-true _ _ (eq-eqb _ _ (c .if1 .taken)) refl
+returns c = rw (← (c .commit-place .ensures)) (via-true _ _ (eq-eqb _ _ (c .before .if1 .taken)) refl)
 
 returns-2 : tie.Need-returns-2
 unfolding callLength
@@ -40,4 +52,4 @@ returns-8 c = via-false _ _ (ne-eqb _ _ (c .before .before .before .before .befo
 pub call-length-spec : {M : Type 1} → statement M
 call-length-spec =
     tie.close
-    (tie.spec returns returns-2 returns-3 returns-4 returns-5 returns-6 returns-7 returns-8)
+    (tie.spec commit-place-requires add-result add-result-2 returns returns-2 returns-3 returns-4 returns-5 returns-6 returns-7 returns-8)

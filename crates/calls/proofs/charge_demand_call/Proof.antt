@@ -1,21 +1,19 @@
-use borrow.Author.Needs.{needs}
-use Rattle.calls.specs.Calls.{callLength, chargeDemandCall}
+use native.Mathlib.Omega.{arith}
+use Rattle.calls.specs.Calls.{chargeDemandCall}
+use Rattle.calls.proofs.Places.{charge-demand-length}
 use mathlib.Core.Path.{refl}
 use Rattle.logic.proofs.Branch.{via-true, via-false}
 use Rattle.calls.proofs.charge_demand_call.Statement.{statement}
 use Rattle.calls.proofs.charge_demand_call.Tie as tie
 
 mark-ok-requires : tie.Need-mark-ok-requires
-unfolding callLength
-mark-ok-requires c κs = search needs
+mark-ok-requires c κs = omega (arith, c .before .pre, charge-demand-length (c .before .args .version))
 
 read-given-requires : tie.Need-read-given-requires
-unfolding callLength
-read-given-requires c κs = search needs
+read-given-requires c κs = omega (arith, c .before .before .before .pre, charge-demand-length (c .before .before .before .args .version))
 
 read-f64-requires : tie.Need-read-f64-requires
-unfolding callLength
-read-f64-requires c κs = search needs
+read-f64-requires c κs = omega (arith, c .before .before .before .before .pre, charge-demand-length (c .before .before .before .before .args .version))
 
 returns : tie.Need-returns
 unfolding chargeDemandCall

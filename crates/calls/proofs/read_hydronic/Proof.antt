@@ -1,43 +1,35 @@
-use borrow.Author.Needs.{needs}
-use Rattle.calls.specs.Calls.{callLength, hydronicAt}
+use native.Mathlib.Omega.{arith}
+use Rattle.calls.specs.Calls.{hydronicAt}
+use Rattle.calls.proofs.Places.{hydronic-length}
 use Rattle.calls.proofs.read_hydronic.Statement.{statement}
 use Rattle.calls.proofs.read_hydronic.Tie as tie
 
 nth-f64-requires : tie.Need-nth-f64-requires
-unfolding callLength
-nth-f64-requires c κs = search needs
+nth-f64-requires c κs = omega (arith, c .before .pre, hydronic-length (c .before .args .version))
 
 nth-f64-requires-2 : tie.Need-nth-f64-requires-2
-unfolding callLength
-nth-f64-requires-2 c κs = search needs
+nth-f64-requires-2 c κs = omega (arith, c .before .before .pre, hydronic-length (c .before .before .args .version))
 
 nth-f64-requires-3 : tie.Need-nth-f64-requires-3
-unfolding callLength
-nth-f64-requires-3 c κs = search needs
+nth-f64-requires-3 c κs = omega (arith, c .before .before .before .pre, hydronic-length (c .before .before .before .args .version))
 
 nth-f64-requires-4 : tie.Need-nth-f64-requires-4
-unfolding callLength
-nth-f64-requires-4 c κs = search needs
+nth-f64-requires-4 c κs = omega (arith, c .before .before .before .before .pre, hydronic-length (c .before .before .before .before .args .version))
 
 nth-f64-requires-5 : tie.Need-nth-f64-requires-5
-unfolding callLength
-nth-f64-requires-5 c κs = search needs
+nth-f64-requires-5 c κs = omega (arith, c .before .before .before .before .before .pre, hydronic-length (c .before .before .before .before .before .args .version))
 
 nth-f64-requires-6 : tie.Need-nth-f64-requires-6
-unfolding callLength
-nth-f64-requires-6 c κs = search needs
+nth-f64-requires-6 c κs = omega (arith, c .before .before .before .before .before .before .pre, hydronic-length (c .before .before .before .before .before .before .args .version))
 
 nth-f64-requires-7 : tie.Need-nth-f64-requires-7
-unfolding callLength
-nth-f64-requires-7 c κs = search needs
+nth-f64-requires-7 c κs = omega (arith, c .before .before .before .before .before .before .before .pre, hydronic-length (c .before .before .before .before .before .before .before .args .version))
 
 nth-f64-requires-8 : tie.Need-nth-f64-requires-8
-unfolding callLength
-nth-f64-requires-8 c κs = search needs
+nth-f64-requires-8 c κs = omega (arith, c .before .before .before .before .before .before .before .before .pre, hydronic-length (c .before .before .before .before .before .before .before .before .args .version))
 
 nth-f64-requires-9 : tie.Need-nth-f64-requires-9
-unfolding callLength
-nth-f64-requires-9 c κs = search needs
+nth-f64-requires-9 c κs = omega (arith, c .before .before .before .before .before .before .before .before .before .pre, hydronic-length (c .before .before .before .before .before .before .before .before .before .args .version))
 
 returns : tie.Need-returns
 unfolding hydronicAt

@@ -5,7 +5,7 @@ use Rattle.card.proofs.Accepted.{accepted-layers}
 use Rattle.battery.specs.Battery.{fresh}
 use Rattle.battery.specs.declared.Battery.{Battery}
 use Rattle.records.specs.Cards.{cardAt}
-use Rattle.records.specs.Records.{recordLength, recordBytes}
+use Rattle.records.specs.Records.{stateLength, recordLength, recordBytes}
 use Rattle.entry.proofs.Opening.{open-length, open-card, open-record, open-room, opened}
 use borrow.Author.Needs.{needs}
 use Rattle.entry.proofs.open.Statement.{statement}
@@ -17,7 +17,7 @@ card-length-requires c κs = search needs
 returns : tie.Need-returns
 returns c =
     let s = c .before .before .before .before .before .args in
-    rw (open-length 1 (s .card .now) (s .«record» .now) (s .sheet .now) (λ e. c .if1 .taken (e ∙ sym (c .before .card-length .ensures))))
+    rw (open-length (s .version) (s .card .now) (s .«record» .now) (s .sheet .now) (λ e. c .if1 .taken (e ∙ sym (c .before .card-length .ensures))))
     (record { code-is = refl; record-is = refl; sheet-is = refl })
 
 read-card-requires : tie.Need-read-card-requires
@@ -29,8 +29,8 @@ refusal-requires c κs = search needs
 returns-2 : tie.Need-returns-2
 returns-2 c =
     let s = c .before .before .before .before .before .before .before .before .args in
-    let e : c .before .refusal .result ≡ cardRefusal 1 (cardAt 1 (s .card .now)) = c .before .refusal .ensures ∙ ap (cardRefusal 1) (c .before .before .read-card .ensures) in
-    rw (open-card 1 (s .card .now) (s .«record» .now) (s .sheet .now) (c .before .before .before .if1 .left ∙ c .before .before .before .before .card-length .ensures) (λ z. c .if2 .taken (e ∙ z)))
+    let e : c .before .refusal .result ≡ cardRefusal (s .version) (cardAt (s .version) (s .card .now)) = c .before .refusal .ensures ∙ ap (cardRefusal (s .version)) (c .before .before .read-card .ensures) in
+    rw (open-card (s .version) (s .card .now) (s .«record» .now) (s .sheet .now) (c .before .before .before .if1 .left ∙ c .before .before .before .before .card-length .ensures) (λ z. c .if2 .taken (e ∙ z)))
     (record { code-is = e; record-is = refl; sheet-is = refl })
 
 record-length-requires : tie.Need-record-length-requires
@@ -41,9 +41,9 @@ returns-3 c =
     let s = c .before .before .before .before .before .before .before .before .before .before .args in
     let e = c .before .before .before .before .read-card .ensures in
     rw (
-    open-record 1 (s .card .now) (s .«record» .now) (s .sheet .now) (c .before .before .before .before .before .if1 .left ∙ c .before .before .before .before .before .before .card-length .ensures)
-    (sym (c .before .before .before .refusal .ensures ∙ ap (cardRefusal 1) e) ∙ c .before .before .if2 .left)
-    (λ z. c .if3 .taken (z ∙ sym (c .before .record-length .ensures ∙ ap (recordLength 1) e)))
+    open-record (s .version) (s .card .now) (s .«record» .now) (s .sheet .now) (c .before .before .before .before .before .if1 .left ∙ c .before .before .before .before .before .before .card-length .ensures)
+    (sym (c .before .before .before .refusal .ensures ∙ ap (cardRefusal (s .version)) e) ∙ c .before .before .if2 .left)
+    (λ z. c .if3 .taken (z ∙ sym (c .before .record-length .ensures)))
     )
     (record { code-is = refl; record-is = refl; sheet-is = refl })
 
@@ -55,23 +55,25 @@ returns-4 c =
     let s = c .before .before .before .before .before .before .before .before .before .before .before .before .args in
     let e = c .before .before .before .before .before .before .read-card .ensures in
     rw (
-    open-room 1 (s .card .now) (s .«record» .now) (s .sheet .now) (c .before .before .before .before .before .before .before .if1 .left ∙ c .before .before .before .before .before .before .before .before .card-length .ensures)
-    (sym (c .before .before .before .before .before .refusal .ensures ∙ ap (cardRefusal 1) e) ∙ c .before .before .before .before .if2 .left)
-    (c .before .before .if3 .left ∙ c .before .before .before .record-length .ensures ∙ ap (recordLength 1) e)
+    open-room (s .version) (s .card .now) (s .«record» .now) (s .sheet .now) (c .before .before .before .before .before .before .before .if1 .left ∙ c .before .before .before .before .before .before .before .before .card-length .ensures)
+    (sym (c .before .before .before .before .before .refusal .ensures ∙ ap (cardRefusal (s .version)) e) ∙ c .before .before .before .before .if2 .left)
+    (c .before .before .if3 .left ∙ c .before .before .before .record-length .ensures)
     (omega (arith, c .if4 .taken, c .before .opening-length .ensures))
     )
     (record { code-is = refl; record-is = refl; sheet-is = refl })
 
 fresh-requires : tie.Need-fresh-requires
-fresh-requires c κs = accepted-layers 1 (c .before .before .before .before .before .before .read-card .result) (sym (c .before .before .before .before .before .refusal .ensures) ∙ c .before .before .before .before .if2 .left) .1
+fresh-requires c κs = accepted-layers _ (c .before .before .before .before .before .before .read-card .result) (sym (c .before .before .before .before .before .refusal .ensures) ∙ c .before .before .before .before .if2 .left) .1
 
 put-record-requires : tie.Need-put-record-requires
-unfolding fresh
+unfolding fresh recordLength
 put-record-requires c κs =
-    let e : c .before .fresh .result .card ≡ c .before .before .before .before .before .before .before .before .read-card .result = ap (λ (x : Battery). x .card) (c .before .fresh .ensures) in (
-      rw e (accepted-layers 1 (c .before .before .before .before .before .before .before .before .read-card .result) (sym (c .before .before .before .before .before .before .before .refusal .ensures) ∙ c .before .before .before .before .before .before .if2 .left) .1),
-      c .before .before .before .before .before .before .before .before .before .if1 .left ∙ c .before .before .before .before .before .before .before .before .before .before .card-length .ensures,
-      c .before .before .before .before .if3 .left ∙ c .before .before .before .before .before .record-length .ensures ∙ ap (recordLength 1) (sym e),
+    let s = c .before .before .before .before .before .before .before .before .before .before .before .before .before .before .args in
+    let read = c .before .before .before .before .before .before .before .before .read-card in
+    let e : c .before .fresh .result .card ≡ read .result = ap (λ (x : Battery). x .card) (c .before .fresh .ensures) in
+    let l : stateLength (s .version) (c .before .fresh .result .card) ≡ stateLength (s .version) (cardAt (s .version) (s .card .now)) = ap (stateLength (s .version)) (e ∙ read .ensures) in (
+      rw e (accepted-layers _ (read .result) (sym (c .before .before .before .before .before .before .before .refusal .ensures) ∙ c .before .before .before .before .before .before .if2 .left) .1),
+      omega (arith, c .before .before .before .before .before .before .before .before .before .if1 .left, c .before .before .before .before .before .before .before .before .before .before .card-length .ensures, c .before .before .before .before .if3 .left, c .before .before .before .before .before .record-length .ensures, l),
     )
 
 put-opening-requires : tie.Need-put-opening-requires
@@ -88,14 +90,14 @@ returns-5 c =
     let s = c .before .before .before .before .before .before .before .before .before .before .before .before .before .before .before .before .before .before .before .before .before .args in
     let e = c .before .before .before .before .before .before .before .before .before .before .before .before .before .before .before .read-card .ensures in
     rw (
-    opened 1 (s .card .now) (s .«record» .now) (s .sheet .now) (c .before .before .before .before .before .before .before .before .before .before .before .before .before .before .before .before .if1 .left ∙ c .before .before .before .before .before .before .before .before .before .before .before .before .before .before .before .before .before .card-length .ensures)
-    (sym (c .before .before .before .before .before .before .before .before .before .before .before .before .before .before .refusal .ensures ∙ ap (cardRefusal 1) e) ∙ c .before .before .before .before .before .before .before .before .before .before .before .before .before .if2 .left)
-    (c .before .before .before .before .before .before .before .before .before .before .before .if3 .left ∙ c .before .before .before .before .before .before .before .before .before .before .before .before .record-length .ensures ∙ ap (recordLength 1) e)
+    opened (s .version) (s .card .now) (s .«record» .now) (s .sheet .now) (c .before .before .before .before .before .before .before .before .before .before .before .before .before .before .before .before .if1 .left ∙ c .before .before .before .before .before .before .before .before .before .before .before .before .before .before .before .before .before .card-length .ensures)
+    (sym (c .before .before .before .before .before .before .before .before .before .before .before .before .before .before .refusal .ensures ∙ ap (cardRefusal (s .version)) e) ∙ c .before .before .before .before .before .before .before .before .before .before .before .before .before .if2 .left)
+    (c .before .before .before .before .before .before .before .before .before .before .before .if3 .left ∙ c .before .before .before .before .before .before .before .before .before .before .before .before .record-length .ensures)
     (omega (arith, c .before .before .before .before .before .before .before .before .before .if4 .left, c .before .before .before .before .before .before .before .before .before .before .opening-length .ensures))
     )
     (record {
       code-is = refl;
-      record-is = c .before .before .before .before .before .before .put-record .ensures ∙ ap (recordBytes 1 (s .card .now)) (c .before .before .before .before .before .before .before .before .fresh .ensures ∙ ap fresh e);
+      record-is = c .before .before .before .before .before .before .put-record .ensures ∙ ap (recordBytes (s .version) (s .card .now)) (c .before .before .before .before .before .before .before .before .fresh .ensures ∙ ap fresh e);
       sheet-is = c .before .before .put-opening .ensures;
     })
 

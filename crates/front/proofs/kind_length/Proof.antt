@@ -3,7 +3,7 @@ use native.Mathlib.Omega.{arith}
 use borrow.Author.Needs.{needs}
 use lib.ListN.{getD}
 use Rattle.calls.specs.Calls.{callLength}
-use Rattle.calls.proofs.CallLaws.{call-short}
+use Rattle.calls.proofs.Places.{call-short}
 use Rattle.front.proofs.kind_length.Statement.{statement}
 use Rattle.front.proofs.kind_length.Tie as tie
 

@@ -6,31 +6,33 @@ use lib.ListN.{length, getD}
 use Rattle.battery.specs.declared.Call.{Call}
 use Rattle.calls.specs.Calls.{callOf}
 use Rattle.calls.specs.declared.ReadCall.the-variants.{Good}
-use Rattle.calls.proofs.CallLaws.{call-length, call-short}
+use Rattle.calls.proofs.CallLaws.{call-length}
+use Rattle.calls.proofs.Places.{call-short}
 use Rattle.engine.proofs.AdvanceKeeps.{advance-keeps-card}
 use Rattle.card.proofs.Accepted.{accepted-layers}
 use Rattle.battery.specs.declared.Battery.{Battery}
 use Rattle.battery.specs.declared.Answer.{Answer}
 use Rattle.engine.specs.Steps.{advanceOf}
 use Rattle.records.specs.Cards.{cardAt}
-use Rattle.records.specs.Records.{recordOf, stateAt}
+use Rattle.records.specs.Records.{recordLength, recordOf, stateAt}
 use Rattle.heat_battery.specs.Entries.{entryRead}
 use Rattle.entry.proofs.Entering.{record-laid}
 use borrow.Author.Needs.{needs}
 use Rattle.heat_battery.proofs.advance.Statement.{statement}
 use Rattle.heat_battery.proofs.advance.Tie as tie
 
--- the answer is of the record's card
-answer-card : (rec : List ℕ) (b : Battery) (a : Answer) (call : Call) → b ≡ recordOf 1 rec → a ≡ advanceOf 1 b call → a .battery .card ≡ cardAt 1 rec
-unfolding recordOf stateAt
-answer-card rec b a call e f = ap (λ (x : Answer). x .battery .card) f ∙ advance-keeps-card 1 b call ∙ ap (λ (x : Battery). x .card) e
+module _ (version : ℕ) where
+  -- the answer is of the record's card
+  answer-card : (rec : List ℕ) (b : Battery) (a : Answer) (call : Call) → b ≡ recordOf version rec → a ≡ advanceOf version b call → a .battery .card ≡ cardAt version rec
+  unfolding recordOf stateAt
+  answer-card rec b a call e f = ap (λ (x : Answer). x .battery .card) f ∙ advance-keeps-card version b call ∙ ap (λ (x : Battery). x .card) e
 
-answer-is : (rec : List ℕ) (b : Battery) (a : Answer) (call : Call) → b ≡ recordOf 1 rec → a ≡ advanceOf 1 b call → a ≡ advanceOf 1 (recordOf 1 rec) call
-answer-is rec b a call e f = f ∙ ap (λ (x : Battery). advanceOf 1 x call) e
+  answer-is : (rec : List ℕ) (b : Battery) (a : Answer) (call : Call) → b ≡ recordOf version rec → a ≡ advanceOf version b call → a ≡ advanceOf version (recordOf version rec) call
+  answer-is rec b a call e f = f ∙ ap (λ (x : Battery). advanceOf version x call) e
 
--- a call that is read fits a line
-read-short : (call : List ℕ) (c : Call) → callOf 1 call ≡ Good c → length call < 65536
-read-short call c h = omega (arith, call-length 1 call c h, call-short 1 (getD call 0 0))
+  -- a call that is read fits a line
+  read-short : (call : List ℕ) (c : Call) → callOf version call ≡ Good c → length call < 65536
+  read-short call c h = omega (arith, call-length version call c h, call-short version (getD call 0 0))
 
 read-call-requires : tie.Need-read-call-requires
 read-call-requires c κs = search needs
@@ -42,25 +44,29 @@ enum-known-read : tie.Need-enum-known-read
 enum-known-read c = search needs
 
 read-card-requires : tie.Need-read-card-requires
-read-card-requires c κs = record-laid 1 (c .before .before .before .before .before .before .before .before .args .«record» .now) (c .before .before .before .before .before .before .before .before .pre) .card-there
+read-card-requires c κs = let r = c .before .before .before .before .before .before .before .before in record-laid (r .args .version) (r .args .«record» .now) (r .pre) .card-there
 
 read-record-requires : tie.Need-read-record-requires
 read-record-requires c κs =
-    let rec = c .before .before .before .before .before .before .before .before .before .before .args .«record» .now in
-    let l = record-laid 1 rec (c .before .before .before .before .before .before .before .before .before .before .pre) in
+    let r = c .before .before .before .before .before .before .before .before .before .before in
+    let rec = r .args .«record» .now in
+    let l = record-laid (r .args .version) rec (r .pre) in
     let e = c .before .read-card .ensures in
-    (e, rw e (accepted-layers 1 (cardAt 1 rec) (l .card-accepted) .1), rw e (omega (arith, l .long)))
+    (e, rw e (accepted-layers (r .args .version) (cardAt (r .args .version) rec) (l .card-accepted) .1), omega (arith, l .long))
 
 advance-requires : tie.Need-advance-requires
 advance-requires c κs = search needs
 
 enter-requires : tie.Need-enter-requires
+unfolding recordLength
 enter-requires c κs =
-    let rec = c .before .before .before .before .before .before .before .before .before .before .before .before .before .before .args .«record» .now in
-    let l = record-laid 1 rec (c .before .before .before .before .before .before .before .before .before .before .before .before .before .before .pre) in
-    let e = answer-card rec (c .before .before .before .read-record .result) (c .before .before .advance .result) _ (c .before .before .before .read-record .ensures) (c .before .before .advance .ensures) in (
-      rw e (accepted-layers 1 (cardAt 1 rec) (l .card-accepted) .1),
-      read-short (c .before .before .before .before .before .before .before .before .before .before .before .before .before .before .args .call .now) _ (sym (c .before .before .before .before .before .before .before .before .before .before .read-call .ensures) ∙ c .before .before .before .before .before .before .before .before .read .given .1),
+    let r = c .before .before .before .before .before .before .before .before .before .before .before .before .before .before in
+    let rec = r .args .«record» .now in
+    let l = record-laid (r .args .version) rec (r .pre) in
+    let e =
+    answer-card (r .args .version) rec (c .before .before .before .read-record .result) (c .before .before .advance .result) _ (c .before .before .before .read-record .ensures) (c .before .before .advance .ensures) in (
+      rw e (accepted-layers (r .args .version) (cardAt (r .args .version) rec) (l .card-accepted) .1),
+      read-short (r .args .version) (r .args .call .now) _ (sym (c .before .before .before .before .before .before .before .before .before .before .read-call .ensures) ∙ c .before .before .before .before .before .before .before .before .read .given .1),
       rw e (l .long),
     )
 
@@ -77,8 +83,8 @@ same-length-2 c = search needs
 returns-2 : tie.Need-returns-2
 unfolding entryRead
 returns-2 c =
-    let rec = c .before .before .before .before .before .before .before .before .before .before .before .before .before .before .before .before .before .before .before .args .«record» .now in
-    rw (← (c .before .before .before .before .before .before .before .before .before .before .before .before .before .before .before .read-call .ensures), c .before .before .before .before .before .before .before .before .before .before .before .before .before .read .given .1, ← (answer-is rec (c .before .before .before .before .before .before .before .before .read-record .result) (c .before .before .before .before .before .before .before .advance .result) _ (c .before .before .before .before .before .before .before .before .read-record .ensures) (c .before .before .before .before .before .before .before .advance .ensures)))
+    let r = c .before .before .before .before .before .before .before .before .before .before .before .before .before .before .before .before .before .before .before in
+    rw (← (c .before .before .before .before .before .before .before .before .before .before .before .before .before .before .before .read-call .ensures), c .before .before .before .before .before .before .before .before .before .before .before .before .before .read .given .1, ← (answer-is (r .args .version) (r .args .«record» .now) (c .before .before .before .before .before .before .before .before .read-record .result) (c .before .before .before .before .before .before .before .advance .result) _ (c .before .before .before .before .before .before .before .before .read-record .ensures) (c .before .before .before .before .before .before .before .advance .ensures)))
     (c .before .before .before .before .enter .ensures)
 
 pub advance-spec : {M : Type 1} → statement M

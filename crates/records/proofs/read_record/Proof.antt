@@ -1,6 +1,6 @@
-use mathlib.Core.Path.{_∙_}
-use Rattle.records.specs.Records.{recordLength, recordOf}
-use Rattle.records.specs.Cards.{cardLength}
+use mathlib.Core.Path.{_∙_, ap}
+use native.Mathlib.Omega.{arith}
+use Rattle.records.specs.Records.{stateLength, recordLength, recordOf}
 use borrow.Author.Needs.{needs}
 use Rattle.records.proofs.read_record.Statement.{statement}
 use Rattle.records.proofs.read_record.Tie as tie
@@ -9,8 +9,11 @@ card-length-requires : tie.Need-card-length-requires
 card-length-requires c κs = search needs
 
 read-state-requires : tie.Need-read-state-requires
-unfolding recordLength cardLength
-read-state-requires c κs = search needs
+unfolding recordLength
+read-state-requires c κs =
+    let r = c .before .before in
+    let e = ap (stateLength (r .args .version)) (r .pre .0) in
+    (r .pre .1, omega (arith, r .pre .2, c .card-length .ensures, e))
 
 returns : tie.Need-returns
 unfolding recordOf

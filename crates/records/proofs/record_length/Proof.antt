@@ -1,4 +1,5 @@
-use Rattle.records.specs.Cards.{cardLength}
+use native.Mathlib.Omega.{arith}
+use Rattle.records.proofs.CardLaws.{card-below}
 use Rattle.records.specs.Records.{stateLength, recordLength}
 use borrow.Author.Needs.{needs}
 use Rattle.records.proofs.record_length.Statement.{statement}
@@ -11,12 +12,14 @@ state-length-requires : tie.Need-state-length-requires
 state-length-requires c κs = search needs
 
 add-result : tie.Need-add-result
-unfolding cardLength stateLength
-add-result c = search needs
+unfolding stateLength
+add-result c =
+    let r = c .before .before .before in
+    omega (arith, card-below (r .args .version) (r .args .bytes .now), c .before .card-length .ensures, c .state-length .ensures, r .good)
 
 returns : tie.Need-returns
 unfolding recordLength
-returns c = rw (← (c .before .card-length .ensures), ← (c .state-length .ensures))
+returns c = rw (← (c .before .card-length .ensures), ← (c .before .before .before .pre), ← (c .state-length .ensures))
 
 pub record-length-spec : {M : Type 1} → statement M
 record-length-spec =

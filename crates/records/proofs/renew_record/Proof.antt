@@ -4,7 +4,7 @@ use Prim.Native.Nat.{ℕ}
 use lib.Seq.{sets}
 use Rattle.codec.proofs.Puts.{put-tail}
 use Rattle.records.specs.Cards.{cardLength}
-use Rattle.records.specs.Records.{stateBytes, recordLength, recordBytes}
+use Rattle.records.specs.Records.{stateBytes, recordBytes}
 use Rattle.records.proofs.Lengths.{length-stateBytes}
 use borrow.Author.Needs.{needs}
 use Rattle.records.proofs.renew_record.Statement.{statement}
@@ -14,18 +14,18 @@ card-length-requires : tie.Need-card-length-requires
 card-length-requires c κs = search needs
 
 put-state-requires : tie.Need-put-state-requires
-unfolding recordLength
 put-state-requires c κs = search needs
 
 same-length : tie.Need-same-length
 same-length c = search needs
 
 returns : tie.Need-returns
-unfolding recordBytes recordLength
+unfolding recordBytes
 returns c =
-    let a = c .before .before .before .before .before .before .args in
+    let r = c .before .before .before .before .before .before .before in
+    let a = r .args in
     c .before .before .put-state .ensures .1 ∙ ap (λ (n : ℕ). sets (a .bytes .now) n (stateBytes (a .version) (a .b))) (c .before .before .before .before .card-length .ensures)
-    ∙ put-tail (a .bytes .now) (stateBytes (a .version) (a .b)) (cardLength (a .version)) (omega (arith, c .before .before .before .before .before .before .pre .1, length-stateBytes (a .version) (a .b)))
+    ∙ put-tail (a .bytes .now) (stateBytes (a .version) (a .b)) (cardLength (a .version) (a .bytes .now)) (omega (arith, r .pre .1, length-stateBytes (a .version) (a .b)))
 
 pub renew-record-spec : {M : Type 1} → statement M
 renew-record-spec =

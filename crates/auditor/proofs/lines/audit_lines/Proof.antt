@@ -5,14 +5,14 @@ use borrow.Author.Needs.{needs}
 use lib.ListN.{length}
 use Rattle.battery.specs.declared.Answer.{Answer}
 use Rattle.auditor.specs.Audit.{auditLines}
-use Rattle.sheet.specs.Answers.{agrees, answerAt}
+use Rattle.sheet.specs.Answers.{sameNumber, agrees, answerAt}
 use Rattle.records.specs.Records.{stateAt}
 use Rattle.auditor.proofs.Turns.{turn-bad, turn-out, turn-differs, turn-next, at-end, head-read, rest-less, Walked, walked-on}
 use Rattle.auditor.proofs.lines.audit_lines.Statement.{statement}
 use Rattle.auditor.proofs.lines.audit_lines.Tie as tie
 
 abbrev Inv-loop : tie.InvT-loop
-Inv-loop version card bytes rest₀ b₀ k₀ rest b k = Walked version card bytes (auditLines version card bytes) b k rest
+Inv-loop version card bytes rest₀ b₀ k₀ rest b k = Walked sameNumber version card bytes (auditLines sameNumber version card bytes) b k rest
 
 abbrev μ-loop : tie.MeasureT-loop
 μ-loop version card bytes rest₀ b₀ k₀ rest b k = length rest
@@ -38,7 +38,7 @@ returns c =
     let a = c .before .before .before .before .before .before .before .args in
     let l = c .before .before .before .before .loop in
     let read = sym (c .before .before .line-call .ensures) ∙ c .enum-told .given .1 in
-    sym (turn-bad (a .version) (a .card) (l .b) (l .k) (l .rest .now) _ (c .before .before .before .loop-test .taken) (l .inv .1) read)
+    sym (turn-bad sameNumber (a .version) (a .card) (l .b) (l .k) (l .rest .now) _ (c .before .before .before .loop-test .taken) (l .inv .1) read)
 
 enum-known-call : tie.Need-enum-known-call Inv-loop μ-loop
 enum-known-call c = search needs
@@ -55,7 +55,7 @@ returns-2 c =
     let l = c .before .before .before .before .before .before .before .before .loop in
     let own = c .before .before .advance in
     let read = sym (c .before .before .before .before .before .before .line-call .ensures) ∙ c .before .before .before .before .call .given .1 in
-    sym (turn-out (a .version) (a .card) (l .b) (l .k) (l .rest .now) _ (c .before .before .before .before .before .before .before .loop-test .taken) (l .inv .1) _ read (own .result) (own .ensures) (c .if1 .taken))
+    sym (turn-out sameNumber (a .version) (a .card) (l .b) (l .k) (l .rest .now) _ (c .before .before .before .before .before .before .before .loop-test .taken) (l .inv .1) _ read (own .result) (own .ensures) (c .if1 .taken))
 
 line-answer-requires : tie.Need-line-answer-requires Inv-loop μ-loop
 line-answer-requires c κs =
@@ -100,10 +100,10 @@ loop-again c =
     let own = c .before .before .before .before .before .before .before .before .advance in
     let front = c .before .front-size in
     let read = sym (c .before .before .before .before .before .before .before .before .before .before .before .before .line-call .ensures) ∙ c .before .before .before .before .before .before .before .before .before .before .call .given .1 in
-    walked-on (a .version) (a .card) (a .bytes .now) (l .rest .now) _ (l .b) _ (l .k) (front .result)
+    walked-on sameNumber (a .version) (a .card) (a .bytes .now) (l .rest .now) _ (l .b) _ (l .k) (front .result)
     (l .inv) (front .ensures .2) (front .ensures .0) (front .ensures .1)
-    (turn-next (a .version) (a .card) (l .b) (l .k) (l .rest .now) _ (c .before .before .before .before .before .before .before .before .before .before .before .before .before .loop-test .taken) (l .inv .1) _ read (own .result) (own .ensures) (c .before .before .before .before .before .before .if1 .left)
-    (ap (λ (x : Answer). agrees x (own .result)) (sym (c .before .before .before .before .before .line-answer .ensures)) ∙ sym (c .before .before .before .before .answers-agree .ensures) ∙ c .before .before .before .if2 .taken))
+    (turn-next sameNumber (a .version) (a .card) (l .b) (l .k) (l .rest .now) _ (c .before .before .before .before .before .before .before .before .before .before .before .before .before .loop-test .taken) (l .inv .1) _ read (own .result) (own .ensures) (c .before .before .before .before .before .before .if1 .left)
+    (ap (λ (x : Answer). agrees sameNumber x (own .result)) (sym (c .before .before .before .before .before .line-answer .ensures)) ∙ sym (c .before .before .before .before .answers-agree .ensures) ∙ c .before .before .before .if2 .taken))
 
 add-t22 : tie.Need-add-t22 Inv-loop μ-loop
 add-t22 c =
@@ -118,14 +118,14 @@ returns-3 c =
     let own = c .before .before .before .before .before .advance in
     let read = sym (c .before .before .before .before .before .before .before .before .before .line-call .ensures) ∙ c .before .before .before .before .before .before .before .call .given .1 in
     sym
-    (turn-differs (a .version) (a .card) (l .b) (l .k) (l .rest .now) _ (c .before .before .before .before .before .before .before .before .before .before .loop-test .taken) (l .inv .1) _ read (own .result) (own .ensures) (c .before .before .before .if1 .left)
-    (ap (λ (x : Answer). agrees x (own .result)) (sym (c .before .before .line-answer .ensures)) ∙ sym (c .before .answers-agree .ensures) ∙ c .if2 .left))
+    (turn-differs sameNumber (a .version) (a .card) (l .b) (l .k) (l .rest .now) _ (c .before .before .before .before .before .before .before .before .before .before .loop-test .taken) (l .inv .1) _ read (own .result) (own .ensures) (c .before .before .before .if1 .left)
+    (ap (λ (x : Answer). agrees sameNumber x (own .result)) (sym (c .before .before .line-answer .ensures)) ∙ sym (c .before .answers-agree .ensures) ∙ c .if2 .left))
 
 returns-4 : tie.Need-returns-4 Inv-loop μ-loop
 returns-4 c =
     let a = c .before .before .before .before .args in
     let l = c .before .loop in
-    sym (at-end (a .version) (a .card) (l .b) (l .k) (l .rest .now) _ (omega arith) (l .inv .1))
+    sym (at-end sameNumber (a .version) (a .card) (l .b) (l .k) (l .rest .now) _ (omega arith) (l .inv .1))
 
 pub audit-lines-spec : {M : Type 1} → statement M
 audit-lines-spec =

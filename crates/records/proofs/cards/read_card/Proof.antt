@@ -1,100 +1,77 @@
-use borrow.Author.Needs.{needs}
 use native.Mathlib.Omega.{arith}
-use Rattle.records.specs.Cards.{cardLength, cardAt}
+use Rattle.records.specs.Cards.{cardAt}
+use Rattle.records.proofs.CardLaws.{card-fits}
 use Rattle.records.proofs.cards.read_card.Statement.{statement}
 use Rattle.records.proofs.cards.read_card.Tie as tie
 
 shared-slice-read-t4 : tie.Need-shared-slice-read-t4
-unfolding cardLength
-shared-slice-read-t4 c = search needs
+shared-slice-read-t4 c = omega (arith, card-fits _ _ (c .before .before .pre))
 
 read-u16-requires : tie.Need-read-u16-requires
-unfolding cardLength
-read-u16-requires c κs = search needs
+read-u16-requires c κs = omega (arith, card-fits _ _ (c .before .before .pre))
 
 shared-slice-read-t7 : tie.Need-shared-slice-read-t7
-unfolding cardLength
-shared-slice-read-t7 c = search needs
+shared-slice-read-t7 c = omega (arith, card-fits _ _ (c .before .before .before .before .pre))
 
 read-u16-requires-2 : tie.Need-read-u16-requires-2
-unfolding cardLength
-read-u16-requires-2 c κs = search needs
+read-u16-requires-2 c κs = omega (arith, card-fits _ _ (c .before .before .before .before .pre))
 
 nth-f64-requires : tie.Need-nth-f64-requires
-unfolding cardLength
-nth-f64-requires c κs = search needs
+nth-f64-requires c κs = omega (arith, card-fits _ _ (c .before .before .before .before .before .pre))
 
 nth-f64-requires-2 : tie.Need-nth-f64-requires-2
-unfolding cardLength
-nth-f64-requires-2 c κs = search needs
+nth-f64-requires-2 c κs = omega (arith, card-fits _ _ (c .before .before .before .before .before .before .pre))
 
 nth-f64-requires-3 : tie.Need-nth-f64-requires-3
-unfolding cardLength
-nth-f64-requires-3 c κs = search needs
+nth-f64-requires-3 c κs = omega (arith, card-fits _ _ (c .before .before .before .before .before .before .before .pre))
 
 nth-f64-requires-4 : tie.Need-nth-f64-requires-4
-unfolding cardLength
-nth-f64-requires-4 c κs = search needs
+nth-f64-requires-4 c κs = omega (arith, card-fits _ _ (c .before .before .before .before .before .before .before .before .pre))
 
 nth-f64-requires-5 : tie.Need-nth-f64-requires-5
-unfolding cardLength
-nth-f64-requires-5 c κs = search needs
+nth-f64-requires-5 c κs = omega (arith, card-fits _ _ (c .before .before .before .before .before .before .before .before .before .pre))
 
 nth-f64-requires-6 : tie.Need-nth-f64-requires-6
-unfolding cardLength
-nth-f64-requires-6 c κs = search needs
+nth-f64-requires-6 c κs = omega (arith, card-fits _ _ (c .before .before .before .before .before .before .before .before .before .before .pre))
 
 nth-f64-requires-7 : tie.Need-nth-f64-requires-7
-unfolding cardLength
-nth-f64-requires-7 c κs = search needs
+nth-f64-requires-7 c κs = omega (arith, card-fits _ _ (c .before .before .before .before .before .before .before .before .before .before .before .pre))
 
 nth-f64-requires-8 : tie.Need-nth-f64-requires-8
-unfolding cardLength
-nth-f64-requires-8 c κs = search needs
+nth-f64-requires-8 c κs = omega (arith, card-fits _ _ (c .before .before .before .before .before .before .before .before .before .before .before .before .pre))
 
 nth-f64-requires-9 : tie.Need-nth-f64-requires-9
-unfolding cardLength
-nth-f64-requires-9 c κs = search needs
+nth-f64-requires-9 c κs = omega (arith, card-fits _ _ (c .before .before .before .before .before .before .before .before .before .before .before .before .before .pre))
 
 nth-f64-requires-10 : tie.Need-nth-f64-requires-10
-unfolding cardLength
-nth-f64-requires-10 c κs = search needs
+nth-f64-requires-10 c κs = omega (arith, card-fits _ _ (c .before .before .before .before .before .before .before .before .before .before .before .before .before .before .pre))
 
 nth-f64-requires-11 : tie.Need-nth-f64-requires-11
-unfolding cardLength
-nth-f64-requires-11 c κs = search needs
+nth-f64-requires-11 c κs = omega (arith, card-fits _ _ (c .before .before .before .before .before .before .before .before .before .before .before .before .before .before .before .pre))
 
 nth-f64-requires-12 : tie.Need-nth-f64-requires-12
-unfolding cardLength
-nth-f64-requires-12 c κs = search needs
+nth-f64-requires-12 c κs = omega (arith, card-fits _ _ (c .before .before .before .before .before .before .before .before .before .before .before .before .before .before .before .before .pre))
 
 nth-f64-requires-13 : tie.Need-nth-f64-requires-13
-unfolding cardLength
-nth-f64-requires-13 c κs = search needs
+nth-f64-requires-13 c κs = omega (arith, card-fits _ _ (c .before .before .before .before .before .before .before .before .before .before .before .before .before .before .before .before .before .pre))
 
 nth-f64-requires-14 : tie.Need-nth-f64-requires-14
-unfolding cardLength
-nth-f64-requires-14 c κs = omega (arith, c .before .before .before .before .before .before .before .before .before .before .before .before .before .before .before .before .before .before .pre)
+nth-f64-requires-14 c κs = omega (arith, card-fits _ _ (c .before .before .before .before .before .before .before .before .before .before .before .before .before .before .before .before .before .before .pre))
 
 nth-f64-requires-15 : tie.Need-nth-f64-requires-15
-unfolding cardLength
-nth-f64-requires-15 c κs = omega (arith, c .before .before .before .before .before .before .before .before .before .before .before .before .before .before .before .before .before .before .before .pre)
+nth-f64-requires-15 c κs = omega (arith, card-fits _ _ (c .before .before .before .before .before .before .before .before .before .before .before .before .before .before .before .before .before .before .before .pre))
 
 nth-f64-requires-16 : tie.Need-nth-f64-requires-16
-unfolding cardLength
-nth-f64-requires-16 c κs = omega (arith, c .before .before .before .before .before .before .before .before .before .before .before .before .before .before .before .before .before .before .before .before .pre)
+nth-f64-requires-16 c κs = omega (arith, card-fits _ _ (c .before .before .before .before .before .before .before .before .before .before .before .before .before .before .before .before .before .before .before .before .pre))
 
 nth-f64-requires-17 : tie.Need-nth-f64-requires-17
-unfolding cardLength
-nth-f64-requires-17 c κs = omega (arith, c .before .before .before .before .before .before .before .before .before .before .before .before .before .before .before .before .before .before .before .before .before .pre)
+nth-f64-requires-17 c κs = omega (arith, card-fits _ _ (c .before .before .before .before .before .before .before .before .before .before .before .before .before .before .before .before .before .before .before .before .before .pre))
 
 nth-f64-requires-18 : tie.Need-nth-f64-requires-18
-unfolding cardLength
-nth-f64-requires-18 c κs = omega (arith, c .before .before .before .before .before .before .before .before .before .before .before .before .before .before .before .before .before .before .before .before .before .before .pre)
+nth-f64-requires-18 c κs = omega (arith, card-fits _ _ (c .before .before .before .before .before .before .before .before .before .before .before .before .before .before .before .before .before .before .before .before .before .before .pre))
 
 nth-f64-requires-19 : tie.Need-nth-f64-requires-19
-unfolding cardLength
-nth-f64-requires-19 c κs = omega (arith, c .before .before .before .before .before .before .before .before .before .before .before .before .before .before .before .before .before .before .before .before .before .before .before .pre)
+nth-f64-requires-19 c κs = omega (arith, card-fits _ _ (c .before .before .before .before .before .before .before .before .before .before .before .before .before .before .before .before .before .before .before .before .before .before .before .pre))
 
 returns : tie.Need-returns
 unfolding cardAt

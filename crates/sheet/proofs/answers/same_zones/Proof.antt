@@ -1,5 +1,5 @@
 use native.Mathlib.Numerals.{add-one}
-use Rattle.sheet.specs.Answers.{sameZones}
+use Rattle.sheet.specs.Answers.{sameNumber, sameZones}
 use mathlib.Core.Path.{_≡_, refl, _∙_, ap}
 use Prim.Native.Nat.{_≤_, _-_}
 use native.Mathlib.Omega.{arith}
@@ -8,7 +8,7 @@ use Rattle.sheet.proofs.answers.same_zones.Statement.{statement}
 use Rattle.sheet.proofs.answers.same_zones.Tie as tie
 
 abbrev Inv-loop : tie.InvT-loop
-Inv-loop n x y ok₀ k₀ ok k = (k ≤ n) × (ok ≡ sameZones x y k)
+Inv-loop n x y ok₀ k₀ ok k = (k ≤ n) × (ok ≡ sameZones sameNumber x y k)
 
 abbrev μ-loop : tie.MeasureT-loop
 μ-loop n x y ok₀ k₀ ok k = n - k
@@ -49,7 +49,7 @@ returns : tie.Need-returns Inv-loop μ-loop
 returns c =
     let l = c .before .loop in
     let e : l .k ≡ c .before .before .args .n = omega arith in
-    l .inv .1 ∙ ap (sameZones _ _) e
+    l .inv .1 ∙ ap (sameZones sameNumber _ _) e
 
 pub same-zones-spec : {M : Type 1} → statement M
 same-zones-spec =

@@ -1,5 +1,5 @@
 use native.Mathlib.Omega.{arith}
-use Rattle.records.specs.Cards.{cardLength}
+use Rattle.records.proofs.CardLaws.{card-below}
 use Rattle.sheet.specs.Lines.{openingLength}
 use borrow.Author.Needs.{needs}
 use Rattle.sheet.proofs.lines.opening_length.Statement.{statement}
@@ -9,8 +9,9 @@ card-length-requires : tie.Need-card-length-requires
 card-length-requires c κs = search needs
 
 add-result : tie.Need-add-result
-unfolding cardLength
-add-result c = omega arith
+add-result c =
+    let a = c .before .before .args in
+    omega (arith, c .card-length .ensures, card-below (a .version) (a .bytes .now))
 
 returns : tie.Need-returns
 unfolding openingLength
