@@ -38,9 +38,9 @@ module _ (x : DemandTask) where
       (λ k n s e h. omega arith)
       (λ k n s d h r. omega arith)
 
-  pub demand-run-over : (k n : ℕ) (s : Zoned Pace) → demandRun x k n s .part .end ≡ OverBudget → DemandOver (n + k) (demandRun x k n s)
+  pub demand-run-over : (k n : ℕ) (s : Zoned Pace) → demandRun x k n s .part .end ≡ OverBudget → DemandOver (n + k) (demandRun x k n s .part)
   demand-run-over =
-      demand-induction x (λ k n s d. d .part .end ≡ OverBudget → DemandOver (n + k) d)
+      demand-induction x (λ k n s d. d .part .end ≡ OverBudget → DemandOver (n + k) (d .part))
       (λ k n s h. never (cc))
       (λ n s p h. record { ended = refl; used = omega arith; due = p })
       (λ k n s e p h. absurd (demand-keeps x s .within (p ∙ ap Stop h)))
@@ -68,7 +68,7 @@ module _ (x : HydronicTask) where
       HydronicOver x steps (hydronicEnd (onPart wetPace (hydronicStep x n s)) e (hydronicStep x n s .part .substeps))
   last-turn steps n s e p h =
       let k = hydronic-keeps x n s in
-      record { ended = h; used = k .used p; due = inr (subst (λ (v : Zoned WetPace). FractionDue x v (wholeFrom x v)) (sym (k .same p)) (k .due p)) }
+      record { ended = h; used = k .used p; due = inr (subst (λ (v : Zoned WetPace). FractionDue x (v .part) (wholeFrom x v)) (sym (k .same p)) (k .due p)) }
 
   pub hydronic-run-over : (k n : ℕ) (s : Zoned WetPace) → hydronicRun x k n s .part .end ≡ OverBudget → HydronicOver x (n + k) (hydronicRun x k n s)
   hydronic-run-over =

@@ -18,7 +18,8 @@ ghost use Prim.Native.Nat.{_≤_};
 ghost use lib.Ieee.{lt};
 ghost use Rattle.floats.specs.Constants.{zero};
 ghost use Rattle.battery.specs.Battery.{zonesFinite};
-ghost use Rattle.battery.specs.Ledger.{whole, settled};
+ghost use Rattle.battery.specs.Answer.{settled};
+ghost use Rattle.battery.specs.Ledger.{whole};
 ghost use Rattle.substep.specs.Substep.{chargerHeat};
 ghost use Rattle.runs.specs.Charge.{lossDrive};
 ghost use Rattle.engine.specs.Asked.{askedOf, askedStep};
@@ -36,7 +37,7 @@ fn charge(l: Ledger, source: Source, target: f64, zones: &mut [f64; 64]) -> Repl
 }
 
 fn heat_loss(l: Ledger, zones: &mut [f64; 64]) -> Reply
-    requires { ⌜ (l .card .layers ≤ 64) × (lt (chargerHeat (lossDrive (whole l (now zones))) .0) zero ≡ false) ⌝ }
+    requires { ⌜ (l .card .layers ≤ 64) × (lt (chargerHeat (lossDrive (l .card)) .0) zero ≡ false) ⌝ }
     ensures { λ r. ⌜ settled l (now (zones .entry)) r (now (zones .exit)) ≡ heatLoss (whole l (now (zones .entry))) ⌝ }
 {
     let s = charges::battery_heat_loss(l, zones);
@@ -155,7 +156,7 @@ fn charge_energy_demand(l: Ledger, most: Given, target: f64, zones: &[f64; 64]) 
 
 // The electric and the wet charge are one call of `charge`, so that one copy of it is compiled, in place.
 fn step(l: Ledger, what: Asked, zones: &mut [f64; 64]) -> Reply
-    requires { ⌜ (l .card .layers ≤ 64) × (zonesFinite (now zones) (l .card .layers) ≡ true) × (lt (chargerHeat (lossDrive (whole l (now zones))) .0) zero ≡ false) ⌝ }
+    requires { ⌜ (l .card .layers ≤ 64) × (zonesFinite (now zones) (l .card .layers) ≡ true) × (lt (chargerHeat (lossDrive (l .card)) .0) zero ≡ false) ⌝ }
     ensures { λ r. ⌜ settled l (now (zones .entry)) r (now (zones .exit)) ≡ askedStep (whole l (now (zones .entry))) what ⌝ }
 {
     match what {

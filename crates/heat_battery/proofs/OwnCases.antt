@@ -10,7 +10,8 @@ use Rattle.battery.specs.declared.Battery.{Battery}
 use Rattle.battery.specs.declared.Call.{Call}
 use Rattle.battery.specs.declared.Answer.{Answer}
 use Rattle.battery.specs.Answer.{refusedWith}
-use Rattle.battery.specs.Battery.{totalsFinite, batteryAccepted}
+use Rattle.battery.specs.Battery.{batteryAccepted}
+use Rattle.battery.specs.Ledger.{totalsFinite}
 use Rattle.battery.proofs.Accepted.{accepted-battery, battery-accepted}
 use Rattle.battery.proofs.Answers.{finite-totals}
 use Rattle.battery.proofs.Zones.{zones-finite-at, zones-finite-of}

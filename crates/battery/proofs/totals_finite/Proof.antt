@@ -1,4 +1,4 @@
-use Rattle.battery.specs.Ledger.{finiteTotals}
+use Rattle.battery.specs.Ledger.{totalsFinite}
 use borrow.Author.Needs.{needs}
 use Rattle.battery.proofs.totals_finite.Statement.{statement}
 use Rattle.battery.proofs.totals_finite.Tie as tie
@@ -22,7 +22,7 @@ all-five-requires : tie.Need-all-five-requires
 all-five-requires c κs = search needs
 
 returns : tie.Need-returns
-unfolding finiteTotals
+unfolding totalsFinite
 returns c = rw (← (c .before .before .before .before .before .is-finite .ensures), ← (c .before .before .before .before .is-finite2 .ensures), ← (c .before .before .before .is-finite3 .ensures), ← (c .before .before .is-finite4 .ensures), ← (c .before .is-finite5 .ensures), ← (c .all-five .ensures))
 
 pub totals-finite-spec : {M : Type 1} → statement M

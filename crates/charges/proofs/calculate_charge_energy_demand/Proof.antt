@@ -10,14 +10,14 @@ derived-requires c κs = search needs
 
 returns : tie.Need-returns
 unfolding chargeEnergyDemand
-returns c zones = rw (← (c .before .before .derived .ensures)) (via-true _ _ (c .if1 .taken) refl)
+returns c = rw (← (c .before .before .derived .ensures)) (via-true _ _ (c .if1 .taken) refl)
 
 nearly-equal-requires : tie.Need-nearly-equal-requires
 nearly-equal-requires c κs = search needs
 
 returns-2 : tie.Need-returns-2
 unfolding chargeEnergyDemand
-returns-2 c zones = rw (← (c .before .before .before .before .derived .ensures), ← (c .before .nearly-equal .ensures)) (via-false _ _ (c .before .before .if1 .left) (via-true _ _ (c .if2 .taken) refl))
+returns-2 c = rw (← (c .before .before .before .before .derived .ensures), ← (c .before .nearly-equal .ensures)) (via-false _ _ (c .before .before .if1 .left) (via-true _ _ (c .if2 .taken) refl))
 
 energy-deficit-requires : tie.Need-energy-deficit-requires
 energy-deficit-requires c κs = search needs
@@ -27,7 +27,7 @@ kilowatt-hours-requires c κs = search needs
 
 returns-3 : tie.Need-returns-3
 unfolding chargeEnergyDemand
-returns-3 c zones = rw (← (c .before .before .before .before .before .before .before .before .derived .ensures), ← (c .before .before .before .before .before .nearly-equal .ensures), ← (c .before .energy-deficit .ensures), ← (c .kilowatt-hours .ensures)) (via-false _ _ (c .before .before .before .before .before .before .if1 .left) (via-false _ _ (c .before .before .before .before .if2 .left) refl))
+returns-3 c = rw (← (c .before .before .before .before .before .before .before .before .derived .ensures), ← (c .before .before .before .before .before .nearly-equal .ensures), ← (c .before .energy-deficit .ensures), ← (c .kilowatt-hours .ensures)) (via-false _ _ (c .before .before .before .before .before .before .if1 .left) (via-false _ _ (c .before .before .before .before .if2 .left) refl))
 
 pub calculate-charge-energy-demand-spec : {M : Type 1} → statement M
 calculate-charge-energy-demand-spec =
