@@ -1,12 +1,12 @@
 -- The test of an answer's numbers, taken apart and put together; a refusal line on an accepted battery passes it.
 use mathlib.Core.Path.{_≡_, refl}
-use mathlib.Core.Bool.{Bool, true, false, _&&_}
+use mathlib.Core.Bool.{true}
 use mathlib.Core.List.{List}
 use Prim.Native.Nat.{ℕ}
 use lib.Ieee.{Float, fits, ofBits}
 use Rattle.floats.specs.Constants.{zero}
 use Rattle.floats.specs.Standins.{finite64}
-use Rattle.logic.proofs.Tests.{and-true, true-and}
+use Rattle.logic.proofs.Tests.{and-true, true-and, and-with-true}
 use Rattle.battery.specs.Battery.{zonesFinite}
 use Rattle.battery.specs.Answer.{replyOf, refusedWith, plainAnswer, numbersFinite, answerFinite, answerWith}
 use Rattle.battery.specs.Ledger.{totalsOf, totalsFinite}
@@ -60,10 +60,6 @@ plain-answers energy b = refl
 pub refused-finite : (version r : ℕ) (b : Battery) → AcceptedBattery version b → answerFinite (refusedWith r b) ≡ true
 unfolding answerFinite numbersFinite refusedWith
 refused-finite version r b a = true-and (true-and zero-finite (true-and zero-finite (true-and zero-finite (a .totals)))) (a .zones)
-
-and-with-true : (a : Bool) → (a && true) ≡ a
-and-with-true true = refl
-and-with-true false = refl
 
 -- with finite zones an answer is finite where its other numbers are
 pub numbers-decide :

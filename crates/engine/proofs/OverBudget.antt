@@ -23,20 +23,19 @@ use Rattle.battery.specs.declared.Hydronic.{Hydronic}
 use Rattle.battery.specs.declared.Answer.{Answer}
 use Rattle.battery.specs.declared.Call.{Call}
 use Rattle.battery.specs.declared.Call.the-variants.{DemandEnergy, ChargeElectric, ChargeHydronic, HeatLoss, CloseTimestep, ReadStateOfCharge, ChargeEnergyDemand}
-use Rattle.runs.specs.declared.End.{End}
 use Rattle.battery.proofs.Answers.{plain-answers}
+use Rattle.runs.specs.declared.End.{End}
 use Rattle.runs.specs.Runs.{faultEnd, endRefusal}
 use Rattle.delivery.specs.Demand.{demandEnded}
 use Rattle.runs.specs.Hydronic.{hydronicEnded, wholeSubsteps}
 use Rattle.runs.specs.Charge.{electricEnded, chargeElectric, hydronicTask, hydronicStart, chargeHydronic, chargeBattery, lossEnded, batteryHeatLoss, chargeEnergyDemand}
 use Rattle.totals.specs.Classes.{serviceClass, unserved}
-use Rattle.replies.specs.Replies.{checked, unlessRefused, demandStart, demandAnswer, runAnswer, chargedBattery, cooledBattery, closedBattery, chargedAnswer, cooledAnswer}
+use Rattle.replies.specs.Replies.{checked, unlessRefused, demandStart, demandAnswer, chargedBattery, cooledBattery, closedBattery, chargedAnswer, cooledAnswer}
 use Rattle.replies.proofs.Settled.{run-answers, demand-answers}
 use Rattle.engine.specs.Steps.{demandRan, demandTask, demandFrom, demandGiven, demandEnergy, charge, heatLoss, level, readLevel, demandToLevel, wetSource, stepOf, wetOf}
-use Rattle.runs.specs.declared.Stopped.{Stopped}
 use Rattle.runs.specs.declared.Source.the-variants.{Electric}
 use Rattle.runs.specs.declared.End.the-variants.{OverBudget}
-use Rattle.runs.specs.Zoned.{Zoned, zoned}
+use Rattle.runs.specs.Zoned.{zoned}
 use Rattle.engine.specs.Budget.{DemandUsed, HydronicUsed, BudgetUsed}
 use Rattle.engine.proofs.Outcomes.{end-over-budget}
 use Rattle.engine.proofs.Promises.{refused-number}

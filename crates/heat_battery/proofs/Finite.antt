@@ -13,8 +13,8 @@ use Rattle.card.proofs.Accepted.{accepted-layers}
 use Rattle.battery.specs.Battery.{zonesFinite, batteryAccepted}
 use Rattle.battery.specs.Ledger.{totalsFinite}
 use Rattle.battery.proofs.Zones.{zones-finite-of, zones-finite-at}
-use Rattle.battery.proofs.Answers.{finite-totals}
 use Rattle.battery.proofs.Accepted.{accepted-battery}
+use Rattle.battery.proofs.Answers.{finite-totals}
 use Rattle.records.specs.Cards.{cardLength, cardAt}
 use Rattle.records.specs.Records.{zonesAt, stateAt, recordOf}
 use Rattle.sheet.proofs.Back.{zonesAt-below}

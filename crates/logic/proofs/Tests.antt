@@ -27,6 +27,10 @@ and-true false b h = no-both (sym h)
 pub true-and : {a b : Bool} → a ≡ true → b ≡ true → (a && b) ≡ true
 true-and {a} {b} h k = rw (h, k)
 
+pub and-with-true : (a : Bool) → (a && true) ≡ a
+and-with-true true = refl
+and-with-true false = refl
+
 pub or-l : (a b : Bool) → T a → T (a || b)
 or-l true b t = tt
 or-l false b t = absurd t
