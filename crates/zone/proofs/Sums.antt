@@ -1,7 +1,7 @@
 -- The stored energy, zone by zone.
 use mathlib.Core.Path.{_≡_}
 use mathlib.Core.List.{List}
-use Prim.Native.Nat.{ℕ, _≤_, _+_}
+use Prim.Native.Nat.{ℕ, _≤_, _+_, _*_}
 use native.Mathlib.Omega.{arith}
 use native.Mathlib.Numerals.{add-one}
 use lib.ListN.{getD}
@@ -12,9 +12,14 @@ use Rattle.zone.specs.Layer.{layerEnergyStored, zoneSalt, storedEnergy}
 use Rattle.zone.specs.declared.Kilojoules.{Kilojoules}
 use Rattle.zone.specs.declared.Salt.{Salt}
 
-module _ (s : Salt) (ref : Float) (zones : List Float) (k : ℕ) (e : Kilojoules) where
+-- with the step 0 every zone has the first salt
+pub one-salt : (figures : List Float) (step j : ℕ) → step ≡ 0 → zoneSalt figures step j ≡ zoneSalt figures step 0
+unfolding zoneSalt
+one-salt figures step j e = let h : j * 0 ≡ 0 = omega arith in rw (e, h)
+
+module _ (s : ℕ → Salt) (ref : Float) (zones : List Float) (k : ℕ) (e : Kilojoules) where
   pub stored-more :
-      (z : Salt) (l : Kilojoules) → e ≡ storedEnergy s ref zones k → z ≡ zoneSalt s k → l ≡ layerEnergyStored (getD zones k nan) ref z →
+      (z : Salt) (l : Kilojoules) → e ≡ storedEnergy s ref zones k → z ≡ s k → l ≡ layerEnergyStored (getD zones k nan) ref z →
       kj (e .0 ⊕ l .0) ≡ storedEnergy s ref zones (k + 1)
   unfolding storedEnergy
   stored-more z l h p q = rw (add-one, ← h, ← p, ← q)

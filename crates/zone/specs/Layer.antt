@@ -1,8 +1,8 @@
 -- Document 01, module 1: what a layer holds above ref, the temperature of a level, the state of charge, and what a zone needs to its target.
 use mathlib.Core.Bool.{cond}
 use mathlib.Core.List.{List}
-use Prim.Native.Nat.{ℕ, zero, suc}
-use lib.ListN.{getD}
+use Prim.Native.Nat.{ℕ, zero, suc, _+_, _*_, _≤_, _<_}
+use lib.ListN.{length, getD}
 use lib.Ieee.{Float, nan, lt, le}
 use Rattle.floats.specs.F64.{_⊕_, _⊖_, _⊗_, _⊘_}
 use Rattle.floats.specs.Constants as Constants
@@ -49,22 +49,33 @@ socToTemp s ref max soc =
     max
     (tempAt s ref (kj (soc ⊗ layerEnergyStored max ref s .0)) (layerEnergyStored (s .lower) ref s) (layerEnergyStored (s .upper) ref s)))
 
--- the salt of zone i
-unfoldable pub zoneSalt : Salt → ℕ → Salt
-zoneSalt s i = s
+-- the salt of zone j among the figures: five numbers from j × step on. One salt serves all zones where the step is 0, each has its own where it is 5
+unfoldable pub zoneSalt : List Float → ℕ → ℕ → Salt
+zoneSalt figures step j =
+    record {
+      lower = getD figures (j * step) nan;
+      upper = getD figures (j * step + 1) nan;
+      below = getD figures (j * step + 2) nan;
+      during = getD figures (j * step + 3) nan;
+      above = getD figures (j * step + 4) nan;
+    }
+
+-- the figures have a first salt, and one for each of n zones
+abbrev pub Salted : List Float → ℕ → ℕ → Type 0
+Salted figures step n = (5 ≤ length figures) × ((j : ℕ) → j < n → j * step + 5 ≤ length figures)
 
 -- the stored energy of the first k zones: the plain sum in zone order
-unfoldable pub storedEnergy : Salt → Float → List Float → ℕ → Kilojoules
+unfoldable pub storedEnergy : (ℕ → Salt) → Float → List Float → ℕ → Kilojoules
 storedEnergy s ref zones zero = kj Constants.zero
 storedEnergy s ref zones (suc k) =
-    kj (storedEnergy s ref zones k .0 ⊕ layerEnergyStored (getD zones k nan) ref (zoneSalt s k) .0)
+    kj (storedEnergy s ref zones k .0 ⊕ layerEnergyStored (getD zones k nan) ref (s k) .0)
 
 -- 'state of charge above 1.0 + 1e-10' is refused; up to there it is at most 1
 unfoldable pub levelOf : Float → StateOfCharge
 levelOf soc = cond (lt (one ⊕ tolerance) soc) Above (Level (min soc one))
 
 -- `calc_state_of_charge` of n zones, from the stored maximum
-unfoldable pub stateOfCharge : Salt → Float → Kilojoules → List Float → ℕ → StateOfCharge
+unfoldable pub stateOfCharge : (ℕ → Salt) → Float → Kilojoules → List Float → ℕ → StateOfCharge
 stateOfCharge s ref most zones n = levelOf (storedEnergy s ref zones n .0 ⊘ most .0)
 
 -- `calculate_zone_energy_required`: what a zone at t gives up on the way to its target, so below 0 where it takes heat
