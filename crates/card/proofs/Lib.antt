@@ -3,3 +3,4 @@ pub mod Accepted
 pub mod Salt
 pub mod Within
 pub mod OneTest
+pub mod Figures

@@ -1,10 +1,14 @@
 -- Document 01, 'Card': 'Layer capacities are totals divided by layers; the rest as `HeatBatteryPcm::new`'.
+use mathlib.Core.Path.{_≡_}
+use mathlib.Core.List.{List, _∷_, []}
+use Prim.Native.Nat.{ℕ}
+use lib.ListN.{replicate}
 use lib.IntN.{pos}
 use lib.Ieee.{Float, binary64, ofInt}
 use Rattle.floats.specs.F64.{_⊖_, _⊗_, _⊘_}
 use Rattle.floats.specs.Constants.{ratedAmbient, thousand}
 use Rattle.zone.specs.Heat.{kj}
-use Rattle.zone.specs.Layer.{layerEnergyStored}
+use Rattle.zone.specs.Layer.{layerEnergyStored, Salts, One, Each, saltsIn, Salted, storedEnergy}
 use Rattle.zone.specs.declared.Kilojoules.{Kilojoules}
 use Rattle.zone.specs.declared.Salt.{Salt}
 use Rattle.card.specs.declared.Card.{Card}
@@ -17,11 +21,28 @@ unfoldable pub saltOf : Card → Salt
 saltOf c =
     record { lower = c .lower; upper = c .upper; below = c .below ⊘ layersOf c; during = c .during ⊘ layersOf c; above = c .above ⊘ layersOf c }
 
--- the energy of the whole battery at one temperature: a layer's times the layers
-unfoldable pub energyAt : Card → Float → Kilojoules
-energyAt c t = kj (layerEnergyStored t (c .reference) (saltOf c) .0 ⊗ layersOf c)
+-- the zones' salts: one for all
+abbrev pub saltsOf : Card → Salts
+saltsOf c = One (saltOf c)
 
--- the salt, the stored maximum, the temperature difference of the rated losses, the diameter in metres
+-- the same as figures
+unfoldable pub figuresOf : Card → List Float
+figuresOf c =
+    let s = saltOf c in
+    s .lower ∷ s .upper ∷ s .below ∷ s .during ∷ s .above ∷ []
+
+-- figures lent with a step that are the card's salts, enough for its layers
+abbrev pub SaltsOf : Card → List Float → ℕ → Type 0
+SaltsOf c figures step = Salted figures step (c .layers) × (saltsIn figures step ≡ saltsOf c)
+
+-- the energy of the whole battery at one temperature: of one salt a layer's times the layers, of a salt for each zone the plain sum
+unfoldable pub energyAt : Salts → Card → Float → Kilojoules
+energyAt (One s) c t = kj (layerEnergyStored t (c .reference) s .0 ⊗ layersOf c)
+energyAt (Each s) c t = storedEnergy s (c .reference) (replicate 64 t) (c .layers)
+
+abbrev pub storedMaximum : Salts → Card → Kilojoules
+storedMaximum s c = energyAt s c (c .max)
+
+-- the temperature difference of the rated losses, the diameter in metres
 unfoldable pub derived : Card → HeatBatteryPcm
-derived c =
-    record { salt = saltOf c; stored = energyAt c (c .max); rated = c .max ⊖ ratedAmbient; diameter = c .diameter ⊘ thousand }
+derived c = record { rated = c .max ⊖ ratedAmbient; diameter = c .diameter ⊘ thousand }

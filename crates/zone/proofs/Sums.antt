@@ -1,21 +1,16 @@
 -- The stored energy, zone by zone.
 use mathlib.Core.Path.{_≡_}
 use mathlib.Core.List.{List}
-use Prim.Native.Nat.{ℕ, _≤_, _+_, _*_}
+use Prim.Native.Nat.{ℕ, _≤_, _+_}
 use native.Mathlib.Omega.{arith}
 use native.Mathlib.Numerals.{add-one}
 use lib.ListN.{getD}
 use lib.Ieee.{Float, nan}
 use Rattle.floats.specs.F64.{_⊕_}
 use Rattle.zone.specs.Heat.{kj}
-use Rattle.zone.specs.Layer.{layerEnergyStored, zoneSalt, storedEnergy}
+use Rattle.zone.specs.Layer.{layerEnergyStored, storedEnergy}
 use Rattle.zone.specs.declared.Kilojoules.{Kilojoules}
 use Rattle.zone.specs.declared.Salt.{Salt}
-
--- with the step 0 every zone has the first salt
-pub one-salt : (figures : List Float) (step j : ℕ) → step ≡ 0 → zoneSalt figures step j ≡ zoneSalt figures step 0
-unfolding zoneSalt
-one-salt figures step j e = let h : j * 0 ≡ 0 = omega arith in rw (e, h)
 
 module _ (s : ℕ → Salt) (ref : Float) (zones : List Float) (k : ℕ) (e : Kilojoules) where
   pub stored-more :

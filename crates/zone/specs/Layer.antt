@@ -3,6 +3,7 @@ use mathlib.Core.Bool.{cond}
 use mathlib.Core.List.{List}
 use Prim.Native.Nat.{ℕ, zero, suc, _+_, _*_, _≤_, _<_}
 use lib.ListN.{length, getD}
+use lib.Dec.{eqb}
 use lib.Ieee.{Float, nan, lt, le}
 use Rattle.floats.specs.F64.{_⊕_, _⊖_, _⊗_, _⊘_}
 use Rattle.floats.specs.Constants as Constants
@@ -59,6 +60,20 @@ zoneSalt figures step j =
       during = getD figures (j * step + 3) nan;
       above = getD figures (j * step + 4) nan;
     }
+
+-- a battery's salts: one for all its zones, or one for each
+pub data Salts : Type 0 where
+  One : Salt → Salts
+  Each : (ℕ → Salt) → Salts
+
+-- the salt of zone j
+abbrev pub saltAt : Salts → ℕ → Salt
+saltAt (One s) j = s
+saltAt (Each s) j = s j
+
+-- the salts among the figures
+unfoldable pub saltsIn : List Float → ℕ → Salts
+saltsIn figures step = cond (eqb step 0) (One (zoneSalt figures step 0)) (Each (zoneSalt figures step))
 
 -- the figures have a first salt, and one for each of n zones
 abbrev pub Salted : List Float → ℕ → ℕ → Type 0

@@ -1,6 +1,6 @@
 use lib.Ieee.{ofBits, add}
 use Rattle.zone.specs.Layer.{zoneSalt}
-use Rattle.zone.proofs.Sums.{one-salt}
+use Rattle.zone.proofs.Salts.{one-salt}
 use Rattle.substep.proofs.OneLoop.{Underway, startOf, underway-start, underway-end}
 use Rattle.floats.proofs.Sum2Laws.{noSum}
 use Rattle.charging_alone.proofs.Steps.{charging-more}
