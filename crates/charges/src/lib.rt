@@ -19,8 +19,9 @@ ghost use Prim.Native.Nat.{_≤_};
 ghost use lib.Ieee.{Float, lt};
 ghost use Rattle.floats.specs.Constants.{zero};
 ghost use Rattle.battery.specs.Ledger.{whole};
-ghost use Rattle.substep.specs.Substep.{chargerHeat, substepWith};
-ghost use Rattle.runs.specs.Apart.{endedWith, wetWith, EndedLies};
+ghost use Rattle.substep.specs.Substep.{chargerHeat};
+ghost use Rattle.runs.specs.Runs.{endRefusal};
+ghost use Rattle.runs.specs.Zoned.{AsDefined};
 ghost use Rattle.runs.specs.Charge.{electricDrive, electricEnded, chargeElectric, hydronicTask, hydronicStart, chargeHydronic, chargeBattery, lossDrive, lossEnded, batteryHeatLoss, energyDeficit, chargeEnergyDemand};
 
 // The call's power over the time left.
@@ -43,7 +44,7 @@ fn electric_drive(l: Ledger, power: f64, target: f64) -> Drive
 }
 
 fn electric_ended(l: Ledger, u: Outcome) -> Stopped
-    ensures { λ r. ⌜ ((before zones energies : List Float) → endedWith r zones ≡ electricEnded (whole l before) (substepWith u zones energies)) ⌝ }
+    ensures { λ r. ⌜ ((zones : List Float) → r ≡ electricEnded (whole l zones) u) ⌝ }
 {
     let energy = u.charged;
     let fault = u.fault;
@@ -60,7 +61,7 @@ fn electric_ended(l: Ledger, u: Outcome) -> Stopped
 
 pub fn charge_battery_electric(l: Ledger, power: f64, target: f64, zones: &mut [f64; 64]) -> Stopped
     requires { ⌜ l .card .layers ≤ 64 ⌝ }
-    ensures { λ r. ⌜ EndedLies r (now (zones .exit)) (chargeElectric (whole l (now (zones .entry))) power target) ⌝ }
+    ensures { λ r. ⌜ AsDefined (endRefusal (r .end)) r (now (zones .exit)) (chargeElectric (whole l (now (zones .entry))) power target) ⌝ }
 {
     let card = l.card;
     let pcm = pcm::derived(card);
@@ -85,7 +86,7 @@ fn hydronic_task(l: Ledger, wet: Exchanger, target: f64) -> HydronicTask
 }
 
 fn hydronic_start(l: Ledger, wet: Exchanger) -> WetPace
-    ensures { λ r. ⌜ ((zones : List Float) → wetWith r zones ≡ hydronicStart (whole l zones) wet) ⌝ }
+    ensures { λ r. ⌜ ((zones : List Float) → r ≡ hydronicStart (whole l zones) wet) ⌝ }
 {
     let card = l.card;
     let reynold = runs::reynold_between(card.inlet, card.outlet, wet.velocity, wet.diameter);
@@ -103,7 +104,7 @@ pub fn charge_battery_hydronic(
     zones: &mut [f64; 64],
 ) -> Stopped
     requires { ⌜ l .card .layers ≤ 64 ⌝ }
-    ensures { λ r. ⌜ EndedLies r (now (zones .exit)) (chargeHydronic (whole l (now (zones .entry))) wet target) ⌝ }
+    ensures { λ r. ⌜ AsDefined (endRefusal (r .end)) r (now (zones .exit)) (chargeHydronic (whole l (now (zones .entry))) wet target) ⌝ }
 {
     let task = hydronic_task(l, wet, target);
     let steps = hydronic::whole_substeps(task);
@@ -115,7 +116,7 @@ pub fn charge_battery_hydronic(
 // The charge step: by the source.
 pub fn charge_battery(l: Ledger, source: Source, target: f64, zones: &mut [f64; 64]) -> Stopped
     requires { ⌜ l .card .layers ≤ 64 ⌝ }
-    ensures { λ r. ⌜ EndedLies r (now (zones .exit)) (chargeBattery (whole l (now (zones .entry))) source target) ⌝ }
+    ensures { λ r. ⌜ AsDefined (endRefusal (r .end)) r (now (zones .exit)) (chargeBattery (whole l (now (zones .entry))) source target) ⌝ }
 {
     match source {
         Source::Electric(power) => charge_battery_electric(l, power, target, zones),
@@ -142,7 +143,7 @@ fn loss_drive(l: Ledger) -> Drive
 }
 
 fn loss_ended(l: Ledger, u: Outcome) -> Stopped
-    ensures { λ r. ⌜ ((before zones energies : List Float) → endedWith r zones ≡ lossEnded (whole l before) (substepWith u zones energies)) ⌝ }
+    ensures { λ r. ⌜ ((zones : List Float) → r ≡ lossEnded (whole l zones) u) ⌝ }
 {
     let delivered = u.delivered;
     let energy = delivered.kilowatt_hours();
@@ -161,7 +162,7 @@ fn loss_ended(l: Ledger, u: Outcome) -> Stopped
 // No loss has heat of a charger.
 pub fn battery_heat_loss(l: Ledger, zones: &mut [f64; 64]) -> Stopped
     requires { ⌜ (l .card .layers ≤ 64) × (lt (chargerHeat (lossDrive (whole l (now zones))) .0) zero ≡ false) ⌝ }
-    ensures { λ r. ⌜ EndedLies r (now (zones .exit)) (batteryHeatLoss (whole l (now (zones .entry)))) ⌝ }
+    ensures { λ r. ⌜ AsDefined (endRefusal (r .end)) r (now (zones .exit)) (batteryHeatLoss (whole l (now (zones .entry)))) ⌝ }
 {
     let card = l.card;
     let pcm = pcm::derived(card);

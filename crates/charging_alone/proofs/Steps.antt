@@ -22,7 +22,7 @@ use Rattle.charging.specs.declared.Charged.{Charged}
 use Rattle.water.specs.declared.Mode.the-variants.{OnlyCharging}
 use Rattle.substep.specs.Substep.{zoneIndex, levelAt, zoneCharge, zoneStep}
 use Rattle.substep.specs.declared.Course.{Course}
-use Rattle.substep.specs.declared.Pass.{Pass}
+use Rattle.substep.specs.Pass.{Pass}
 use Rattle.substep.specs.declared.ZoneStep.{ZoneStep}
 use Rattle.substep.proofs.OneLoop.{zoneStepOf, Underway, no-energy, underway-more}
 

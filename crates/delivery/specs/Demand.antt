@@ -11,22 +11,23 @@ use Rattle.zone.specs.declared.KilowattHours.{KilowattHours}
 use Rattle.water.specs.declared.Mode.the-variants.{Normal}
 use Rattle.substep.specs.Substep.{processHeatBatteryZones}
 use Rattle.substep.specs.declared.Drive.{Drive}
-use Rattle.substep.specs.declared.Substep.{Substep}
+use Rattle.substep.specs.declared.Outcome.{Outcome}
 use Rattle.substep.specs.declared.Fault.{Fault}
 use Rattle.substep.specs.declared.Fault.the-variants.{Nothing, Logarithm, NotFinite}
 use Rattle.delivery.specs.declared.DemandTask.{DemandTask}
-use Rattle.delivery.specs.declared.Run.{Run}
+use Rattle.delivery.specs.declared.Pace.{Pace}
 use Rattle.runs.specs.declared.Next.{Next}
 use Rattle.runs.specs.declared.Next.the-variants.{On, Stop}
-use Rattle.delivery.specs.declared.DemandTurn.{DemandTurn}
-use Rattle.delivery.specs.declared.DemandEnd.{DemandEnd}
-use Rattle.runs.specs.declared.Ended.{Ended}
+use Rattle.delivery.specs.declared.PaceTurn.{PaceTurn}
+use Rattle.delivery.specs.declared.PaceEnd.{PaceEnd}
+use Rattle.runs.specs.declared.Stopped.{Stopped}
 use Rattle.runs.specs.declared.End.{End}
 use Rattle.runs.specs.declared.End.the-variants.{Negative, Met, NoStep, OverBudget, NoLogarithm, NotFiniteRun}
-use Rattle.runs.specs.Runs.{reynoldBetween}
+use Rattle.runs.specs.Runs.{outcome, endRefusal, nextRefusal, reynoldBetween}
+use Rattle.runs.specs.Zoned.{Zoned, zoned, onPart}
 
 -- a substep of the step's length; a demand charges to level 0
-unfoldable pub demandDrive : DemandTask → Run → Drive
+unfoldable pub demandDrive : DemandTask → Pace → Drive
 demandDrive x s =
     record { mode = Normal; inlet = x .feed; seconds = s .step; reynold = s .reynold; flow = x .card .flow; power = x .power; target = Constants.zero; a = x .card .a; b = x .card .b }
 
@@ -49,11 +50,10 @@ demandMet x delivered =
 unfoldable pub cut : DemandTask → Float → Float → Float
 cut x running step = cond (lt (x .seconds) (running ⊕ step)) (x .seconds ⊖ running) step
 
--- the run behind a substep, with its next step and its delivery
-unfoldable pub runAfter : DemandTask → Run → Substep → Float → KilowattHours → Run
-runAfter x s u step delivered =
+-- the pace behind a substep, with its next step and its delivery
+unfoldable pub paceAfter : DemandTask → Pace → Outcome → Float → KilowattHours → Pace
+paceAfter x s u step delivered =
     record {
-      zones = u .zones;
       step = step;
       running = s .running ⊕ s .step;
       delivered = delivered;
@@ -62,58 +62,56 @@ runAfter x s u step delivered =
       reynold = reynoldBetween (x .feed) (u .outlet) (x .card .velocity) (x .pcm .diameter);
     }
 
-abbrev pub demandTurn : Run → Next → DemandTurn
-demandTurn s next = record { run = s; next = next }
+abbrev pub paceTurn : Pace → Next → PaceTurn
+paceTurn s next = record { pace = s; next = next }
 
 -- 'negative delivery, demand met'
-unfoldable pub demandDelivered : DemandTask → Run → Substep → DemandTurn
+unfoldable pub demandDelivered : DemandTask → Pace → Outcome → PaceTurn
 demandDelivered x s u =
     let heat = kilowattHours (u .delivered) in
     let delivered = kwh (s .delivered .0 ⊕ heat .0) in
     let step = nextStep x heat delivered (s .step) in
     cond (lt (u .delivered .0) Constants.zero)
-    (demandTurn (runAfter x s u (s .step) (s .delivered)) (Stop Negative))
+    (paceTurn (paceAfter x s u (s .step) (s .delivered)) (Stop Negative))
     (cond (demandMet x delivered)
-    (demandTurn (runAfter x s u step delivered) (Stop Met))
-    (demandTurn (runAfter x s u (cut x (s .running ⊕ s .step) step) delivered) On))
+    (paceTurn (paceAfter x s u step delivered) (Stop Met))
+    (paceTurn (paceAfter x s u (cut x (s .running ⊕ s .step) step) delivered) On))
 
-unfoldable pub demandBy : DemandTask → Run → Substep → Fault → DemandTurn
-demandBy x s u Nothing = demandDelivered x s u
-demandBy x s u Logarithm = demandTurn s (Stop NoLogarithm)
-demandBy x s u NotFinite = demandTurn s (Stop NotFiniteRun)
+unfoldable pub demandBy : DemandTask → Zoned Pace → Zoned Outcome → Fault → Zoned PaceTurn
+demandBy x s u Nothing = zoned (demandDelivered x (s .part) (u .part)) (u .zones)
+demandBy x s u Logarithm = zoned (paceTurn (s .part) (Stop NoLogarithm)) (s .zones)
+demandBy x s u NotFinite = zoned (paceTurn (s .part) (Stop NotFiniteRun)) (s .zones)
 
 -- one substep
-unfoldable pub demandSubstep : DemandTask → Run → DemandTurn
+unfoldable pub demandSubstep : DemandTask → Zoned Pace → Zoned PaceTurn
 demandSubstep x s =
-    let u = processHeatBatteryZones (x .card) (x .pcm) (demandDrive x s) (s .zones) in
-    demandBy x s u (u .fault)
+    let u = outcome (processHeatBatteryZones (x .card) (x .pcm) (demandDrive x (s .part)) (s .zones)) in
+    demandBy x s u (u .part .fault)
 
-abbrev pub demandEnd : Run → End → ℕ → DemandEnd
-demandEnd s e n = record { run = s; end = e; substeps = n }
+abbrev pub turnPace : PaceTurn → Pace
+turnPace t = t .pace
+
+abbrev pub endPace : PaceEnd → Pace
+endPace e = e .pace
+
+abbrev pub demandEnd : Zoned Pace → End → ℕ → Zoned PaceEnd
+demandEnd s e n = zoned (record { pace = s .part; end = e; substeps = n }) (s .zones)
 
 -- what follows a substep: it ends the run, or the run goes on from it
-abbrev pub demandThen : (Run → DemandEnd) → ℕ → Run → Next → DemandEnd
+abbrev pub demandThen : (Zoned Pace → Zoned PaceEnd) → ℕ → Zoned Pace → Next → Zoned PaceEnd
 demandThen go n s On = go s
 demandThen go n s (Stop e) = demandEnd s e n
 
 -- 'The substep loop ends at the first of: negative delivery, demand met, no positive step, a refusal; and the end hands out its count':
 -- the run from s with n substeps done and k left of the budget
-unfoldable pub demandRun : DemandTask → ℕ → ℕ → Run → DemandEnd
-demandRun x zero n s = cond (lt Constants.zero (s .step)) (demandEnd s OverBudget n) (demandEnd s NoStep n)
+unfoldable pub demandRun : DemandTask → ℕ → ℕ → Zoned Pace → Zoned PaceEnd
+demandRun x zero n s = cond (lt Constants.zero (s .part .step)) (demandEnd s OverBudget n) (demandEnd s NoStep n)
 demandRun x (suc k) n s =
-    cond (lt Constants.zero (s .step))
-    (demandThen (demandRun x k (n + 1)) (n + 1) (demandSubstep x s .run) (demandSubstep x s .next))
+    cond (lt Constants.zero (s .part .step))
+    (demandThen (demandRun x k (n + 1)) (n + 1) (onPart turnPace (demandSubstep x s)) (demandSubstep x s .part .next))
     (demandEnd s NoStep n)
 
 -- what the run hands out
-unfoldable pub demandEnded : DemandEnd → Ended
+unfoldable pub demandEnded : PaceEnd → Stopped
 demandEnded e =
-    record {
-      zones = e .run .zones;
-      energy = e .run .delivered;
-      electric = e .run .electric;
-      outlet = e .run .outlet;
-      time = e .run .running;
-      end = e .end;
-      substeps = e .substeps;
-    }
+    record { energy = e .pace .delivered; electric = e .pace .electric; outlet = e .pace .outlet; time = e .pace .running; end = e .end; substeps = e .substeps }

@@ -10,14 +10,12 @@ use substep::Outcome;
 use water::Mode;
 use zone::KilowattHours;
 ghost use mathlib.Core.Path.{_≡_};
-ghost use mathlib.Core.List.{List};
 ghost use Prim.Native.Nat.{_≤_};
-ghost use lib.Ieee.{Float};
 ghost use Rattle.floats.specs.Constants.{zero};
-ghost use Rattle.substep.specs.Substep.{targetOf, substepWith};
-ghost use Rattle.runs.specs.Apart.{endedWith};
-ghost use Rattle.delivery.specs.Apart.{runWith, turnWith, endWith, TurnLies, EndLies};
-ghost use Rattle.delivery.specs.Demand.{demandDrive, capped as cappedOf, nextStep, demandMet, cut as cutOf, runAfter, demandDelivered, demandSubstep, demandRun, demandEnded};
+ghost use Rattle.substep.specs.Substep.{targetOf};
+ghost use Rattle.runs.specs.Runs.{endRefusal, nextRefusal};
+ghost use Rattle.runs.specs.Zoned.{zoned, AsDefined};
+ghost use Rattle.delivery.specs.Demand.{demandDrive, capped as cappedOf, nextStep, demandMet, cut as cutOf, paceAfter, demandDelivered, demandSubstep, demandRun, demandEnded};
 
 // What a demand asks: fixed over its substeps.
 pub struct DemandTask {
@@ -34,8 +32,7 @@ pub struct DemandTask {
 }
 
 // What a demand's substeps change.
-pub struct Run {
-    pub zones: [f64; 64],
+pub struct Pace {
     // seconds of the next substep
     pub step: f64,
     pub running: f64,
@@ -45,30 +42,9 @@ pub struct Run {
     pub reynold: f64,
 }
 
-// The same but its zones.
-pub struct Pace {
-    pub step: f64,
-    pub running: f64,
-    pub delivered: KilowattHours,
-    pub electric: KilowattHours,
-    pub outlet: f64,
-    pub reynold: f64,
-}
-
-pub struct DemandTurn {
-    pub run: Run,
-    pub next: Next,
-}
-
 pub struct PaceTurn {
     pub pace: Pace,
     pub next: Next,
-}
-
-pub struct DemandEnd {
-    pub run: Run,
-    pub end: End,
-    pub substeps: u16,
 }
 
 pub struct PaceEnd {
@@ -78,7 +54,7 @@ pub struct PaceEnd {
 }
 
 fn demand_drive(x: DemandTask, s: Pace) -> Drive
-    ensures { λ r. ⌜ ((zones : List Float) → r ≡ demandDrive x (runWith s zones)) ⌝ }
+    ensures { λ r. ⌜ r ≡ demandDrive x s ⌝ }
 {
     let card = x.card;
     Drive {
@@ -139,7 +115,7 @@ fn cut(x: DemandTask, running: f64, step: f64) -> f64
 }
 
 fn pace_after(x: DemandTask, s: Pace, u: Outcome, step: f64, delivered: KilowattHours) -> Pace
-    ensures { λ r. ⌜ ((before zones energies : List Float) → runWith r zones ≡ runAfter x (runWith s before) (substepWith u zones energies) step delivered) ⌝ }
+    ensures { λ r. ⌜ r ≡ paceAfter x s u step delivered ⌝ }
 {
     let card = x.card;
     let reynold = runs::reynold_between(x.feed, u.outlet, card.velocity, x.pcm.diameter);
@@ -154,7 +130,7 @@ fn pace_after(x: DemandTask, s: Pace, u: Outcome, step: f64, delivered: Kilowatt
 }
 
 fn demand_delivered(x: DemandTask, s: Pace, u: Outcome) -> PaceTurn
-    ensures { λ r. ⌜ ((before zones energies : List Float) → turnWith r zones ≡ demandDelivered x (runWith s before) (substepWith u zones energies)) ⌝ }
+    ensures { λ r. ⌜ r ≡ demandDelivered x s u ⌝ }
 {
     if u.delivered.0 < 0.0 {
         let before = s.delivered;
@@ -186,7 +162,7 @@ fn demand_delivered(x: DemandTask, s: Pace, u: Outcome) -> PaceTurn
 // `target` is the temperature of level 0.
 fn demand_substep(x: DemandTask, s: Pace, target: f64, zones: &mut [f64; 64]) -> PaceTurn
     requires { ⌜ (x .card .layers ≤ 64) × (target ≡ targetOf (x .card) (x .pcm) zero) ⌝ }
-    ensures { λ r. ⌜ TurnLies r (now (zones .exit)) (demandSubstep x (runWith s (now (zones .entry)))) ⌝ }
+    ensures { λ r. ⌜ AsDefined (nextRefusal (r .next)) r (now (zones .exit)) (demandSubstep x (zoned s (now (zones .entry)))) ⌝ }
 {
     let drive = demand_drive(x, s);
     let card = x.card;
@@ -209,7 +185,7 @@ fn demand_substep(x: DemandTask, s: Pace, target: f64, zones: &mut [f64; 64]) ->
 // The substeps from `start` on, at most `budget` of them.
 pub fn demand_run(x: DemandTask, budget: u16, start: Pace, zones: &mut [f64; 64]) -> PaceEnd
     requires { ⌜ x .card .layers ≤ 64 ⌝ }
-    ensures { λ r. ⌜ EndLies r (now (zones .exit)) (demandRun x budget 0 (runWith start (now (zones .entry)))) ⌝ }
+    ensures { λ r. ⌜ AsDefined (endRefusal (r .end)) r (now (zones .exit)) (demandRun x budget 0 (zoned start (now (zones .entry)))) ⌝ }
     ensures { λ r. ⌜ r .substeps ≤ budget ⌝ }
 {
     let card = x.card;
@@ -240,7 +216,7 @@ pub fn demand_run(x: DemandTask, budget: u16, start: Pace, zones: &mut [f64; 64]
 }
 
 pub fn demand_ended(e: PaceEnd) -> Stopped
-    ensures { λ r. ⌜ ((zones : List Float) → endedWith r zones ≡ demandEnded (endWith e zones)) ⌝ }
+    ensures { λ r. ⌜ r ≡ demandEnded e ⌝ }
 {
     let pace = e.pace;
     let energy = pace.delivered;

@@ -3,11 +3,12 @@ use mathlib.Core.Path.{_≡_, refl}
 use mathlib.Core.Bool.{Bool, true, false, cond}
 use Rattle.battery.specs.declared.Battery.{Battery}
 use Rattle.battery.specs.declared.Demand.{Demand}
-use Rattle.runs.specs.declared.Ended.{Ended}
+use Rattle.runs.specs.declared.Stopped.{Stopped}
 use Rattle.totals.specs.Classes.{serviceClass}
 use Rattle.replies.specs.Replies.{served, demandKept, demandAnswer}
+use Rattle.runs.specs.Zoned.{Zoned}
 
-pub kept-card : (b : Battery) (d : Demand) (r : Ended) → demandKept b d r .card ≡ b .card
+pub kept-card : (b : Battery) (d : Demand) (r : Zoned Stopped) → demandKept b d r .card ≡ b .card
 unfolding demandKept served
 kept-card b d r = by (d .commit)
   where
@@ -15,6 +16,6 @@ kept-card b d r = by (d .commit)
     by true = refl
     by false = refl
 
-pub answer-card : (b : Battery) (d : Demand) (r : Ended) → demandAnswer b d r .battery .card ≡ b .card
+pub answer-card : (b : Battery) (d : Demand) (r : Zoned Stopped) → demandAnswer b d r .battery .card ≡ b .card
 unfolding demandAnswer
 answer-card b d r = kept-card b d r

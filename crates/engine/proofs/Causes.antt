@@ -19,7 +19,7 @@ use Rattle.battery.specs.declared.Answer.{Answer}
 use Rattle.battery.specs.declared.Call.{Call}
 use Rattle.battery.specs.declared.Call.the-variants.{DemandEnergy, ChargeElectric, ChargeHydronic, HeatLoss, CloseTimestep, ReadStateOfCharge, ChargeEnergyDemand}
 use Rattle.call_ranges.specs.Call.{demandInRange, callInRange}
-use Rattle.substep.specs.Substep.{processHeatBatteryZones}
+use Rattle.substep.specs.Substep.{outcomeOf, processHeatBatteryZones}
 use Rattle.substep.specs.declared.Fault.{Fault}
 use Rattle.substep.specs.declared.Fault.the-variants.{Logarithm, NotFinite}
 use Rattle.runs.specs.Runs.{faultEnd, endRefusal}
@@ -27,15 +27,16 @@ use Rattle.runs.specs.Hydronic.{hydronicEnded}
 use Rattle.runs.specs.Charge.{electricDrive, electricEnded, chargeElectric, chargeHydronic, chargeBattery, lossDrive, lossEnded, batteryHeatLoss, chargeEnergyDemand}
 use Rattle.runs.specs.declared.End.{End}
 use Rattle.runs.specs.declared.End.the-variants.{OverBudget}
-use Rattle.runs.specs.declared.Ended.{Ended}
+use Rattle.runs.specs.Zoned.{Zoned}
+use Rattle.runs.specs.declared.Stopped.{Stopped}
 use Rattle.runs.specs.declared.Source.{Source}
 use Rattle.runs.specs.declared.Source.the-variants.{Electric}
 use Rattle.delivery.specs.Demand.{demandEnded}
 use Rattle.totals.specs.Classes.{serviceClass, unserved}
 use Rattle.replies.specs.Replies.{checked, unlessRefused, demandAnswer, runAnswer, chargedBattery, cooledBattery, closedBattery}
-use Rattle.engine.specs.Steps.{demandFrom, demandGiven, demandEnergy, charge, heatLoss, level, readLevel, demandToLevel, wetSource, stepOf}
-use Rattle.engine.specs.Budget.{BudgetUsed}
-use Rattle.engine.specs.Faults.{demandRunOf, hydronicRunOf, DemandFaulted, AnswerNotFinite, NotFiniteFound, NoLogarithmTaken, OverFull}
+use Rattle.engine.specs.Steps.{demandRunOf, demandRan, demandFrom, demandGiven, demandEnergy, charge, heatLoss, level, readLevel, demandToLevel, wetSource, stepOf}
+use Rattle.engine.specs.Budget.{hydronicRunOf, BudgetUsed}
+use Rattle.engine.specs.Faults.{DemandFaulted, AnswerNotFinite, NotFiniteFound, NoLogarithmTaken, OverFull}
 use Rattle.engine.specs.Cases.{Runs}
 use Rattle.engine.proofs.Promises.{refused-number}
 use Rattle.engine.proofs.Refused.{RunWhy, DemandWhy, LevelWhy, ChargeWhy, Why}
@@ -48,11 +49,11 @@ module _ (n : ℕ) (l : 22 ≤ n) (b : Battery) where
   unfolding checked
   checked-refuses a e h = rw h (refused-number 23 b ∙ sym e)
 
-  run-refuses : (r : Ended) (a : Answer) → RunWhy n r a → unlessRefused b r a .refusal ≡ n
+  run-refuses : (r : Zoned Stopped) (a : Answer) → RunWhy n r a → unlessRefused b r a .refusal ≡ n
   unfolding unlessRefused
   run-refuses r a (inl h) =
-      rw (ne-eqb (endRefusal (r .end)) 0 (λ z. omega arith)) (refused-number (endRefusal (r .end)) b ∙ h)
-  run-refuses r a (inr w) = rw (eq-eqb (endRefusal (r .end)) 0 (w .1 .ended)) (checked-refuses a (w .0) (w .1 .found))
+      rw (ne-eqb (endRefusal (r .part .end)) 0 (λ z. omega arith)) (refused-number (endRefusal (r .part .end)) b ∙ h)
+  run-refuses r a (inr w) = rw (eq-eqb (endRefusal (r .part .end)) 0 (w .1 .ended)) (checked-refuses a (w .0) (w .1 .found))
 
   module _ (d : Demand) (in-range : demandInRange (b .card) d ≡ true) (runs : Runs b (DemandEnergy d)) where
     -- a demand with a return temperature that 21 doesn't refuse is served
@@ -75,7 +76,7 @@ module _ (n : ℕ) (l : 22 ≤ n) (b : Battery) where
     from-refuses : (w : DemandWhy n b d) → demandFrom b d (w .feed) .refusal ≡ n
     unfolding demandFrom
     from-refuses w =
-        let r = demandEnded (demandRunOf b d (w .feed)) in
+        let r = demandRan b d (w .feed) in
         rw (is-served (w .asked) (w .feed) (w .given)) (run-refuses r (demandAnswer b d r) (w .why))
 
     demand-refuses : Why n b (DemandEnergy d) → demandEnergy b d .refusal ≡ n
@@ -134,20 +135,20 @@ not-finite-23 e h = rw h
 
 module _ (b : Battery) where
   -- the ends of the runs are those that the calls hand out
-  demand-end : (d : Demand) (feed : Float) → demandEnded (demandRunOf b d feed) .end ≡ demandRunOf b d feed .end
+  demand-end : (d : Demand) (feed : Float) → demandRan b d feed .part .end ≡ demandRunOf b d feed .part .end
   unfolding demandEnded
   demand-end d feed = refl
 
-  hydronic-end : (h : Hydronic) → chargeBattery b (wetSource h) (h .target) .end ≡ hydronicRunOf b h .end
+  hydronic-end : (h : Hydronic) → chargeBattery b (wetSource h) (h .target) .part .end ≡ hydronicRunOf b h .part .end
   unfolding chargeBattery wetSource chargeHydronic hydronicEnded
   hydronic-end h = refl
 
-  electric-end : (power target : Float) → chargeBattery b (Electric power) target .end ≡ faultEnd (processHeatBatteryZones (b .card) (derived (b .card)) (electricDrive b power target) (b .zones) .fault)
-  unfolding chargeBattery chargeElectric electricEnded
+  electric-end : (power target : Float) → chargeBattery b (Electric power) target .part .end ≡ faultEnd (processHeatBatteryZones (b .card) (derived (b .card)) (electricDrive b power target) (b .zones) .fault)
+  unfolding chargeBattery chargeElectric electricEnded outcomeOf
   electric-end power target = refl
 
-  loss-end : batteryHeatLoss b .end ≡ faultEnd (processHeatBatteryZones (b .card) (derived (b .card)) (lossDrive b) (b .zones) .fault)
-  unfolding batteryHeatLoss lossEnded
+  loss-end : batteryHeatLoss b .part .end ≡ faultEnd (processHeatBatteryZones (b .card) (derived (b .card)) (lossDrive b) (b .zones) .fault)
+  unfolding batteryHeatLoss lossEnded outcomeOf
   loss-end = refl
 
   demand-ended : (n : ℕ) (f : Fault) → ((e : End) → e ≡ faultEnd f → endRefusal e ≡ n) → (d : Demand) → DemandFaulted f b d → DemandWhy n b d
@@ -174,8 +175,8 @@ module _ (b : Battery) where
   logarithm-why (ChargeEnergyDemand most target) w = absurd w
 
   -- a run's own substep, or its answer
-  run-23 : {A : Type 0} (r : Ended) (a : Answer) → (A → r .end ≡ faultEnd NotFinite) → A ⊎ AnswerNotFinite r a → RunWhy 23 r a
-  run-23 r a f (inl w) = inl (not-finite-23 (r .end) (f w))
+  run-23 : {A : Type 0} (r : Zoned Stopped) (a : Answer) → (A → r .part .end ≡ faultEnd NotFinite) → A ⊎ AnswerNotFinite r a → RunWhy 23 r a
+  run-23 r a f (inl w) = inl (not-finite-23 (r .part .end) (f w))
   run-23 r a f (inr w) = inr (refl, w)
 
   pub not-finite-why : (call : Call) → NotFiniteFound b call → Why 23 b call

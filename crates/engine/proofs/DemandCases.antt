@@ -25,14 +25,14 @@ use Rattle.battery.specs.declared.Demand.{Demand}
 use Rattle.battery.specs.declared.Given.{Given}
 use Rattle.battery.specs.declared.Given.the-variants.{Absent, Value}
 use Rattle.runs.specs.Runs.{endRefusal}
-use Rattle.delivery.specs.Demand.{demandRun, demandEnded}
 use Rattle.runs.specs.Charge.{chargeBattery, batteryHeatLoss, chargeEnergyDemand}
 use Rattle.totals.specs.Classes.{serviceClass, unserved}
-use Rattle.replies.specs.Replies.{checked, unlessRefused, demandStart, demandAnswer, chargedBattery, cooledBattery, closedBattery, runAnswer}
-use Rattle.engine.specs.Steps.{demandTask, demandFrom, demandGiven, demandEnergy, charge, heatLoss, level, readLevel, demandToLevel, wetSource, stepOf}
+use Rattle.replies.specs.Replies.{checked, unlessRefused, demandAnswer, chargedBattery, cooledBattery, closedBattery, runAnswer}
+use Rattle.engine.specs.Steps.{demandRan, demandFrom, demandGiven, demandEnergy, charge, heatLoss, level, readLevel, demandToLevel, wetSource, stepOf}
 use Rattle.runs.specs.declared.End.{End}
 use Rattle.runs.specs.declared.End.the-variants.{Done, Negative, Met, NoStep, Level, Limit, Time, OverBudget, NoLogarithm, NotFiniteRun}
-use Rattle.runs.specs.declared.Ended.{Ended}
+use Rattle.runs.specs.Zoned.{Zoned}
+use Rattle.runs.specs.declared.Stopped.{Stopped}
 use Rattle.runs.specs.declared.Source.{Source}
 use Rattle.runs.specs.declared.Source.the-variants.{Electric}
 use Rattle.zone.specs.declared.StateOfCharge.{StateOfCharge}
@@ -65,13 +65,13 @@ module _ (b : Battery) (a : Answer) (z : a .refusal ≡ 0) where
       on true = inl z
       on false = inr (omega arith)
 
-  run-late : (r : Ended) → Late (unlessRefused b r a .refusal)
+  run-late : (r : Zoned Stopped) → Late (unlessRefused b r a .refusal)
   unfolding unlessRefused
-  run-late r = on (eqb (endRefusal (r .end)) 0)
+  run-late r = on (eqb (endRefusal (r .part .end)) 0)
     where
-      on : (t : Bool) → Late (cond t (checked b a) (refusedWith (endRefusal (r .end)) b) .refusal)
+      on : (t : Bool) → Late (cond t (checked b a) (refusedWith (endRefusal (r .part .end)) b) .refusal)
       on true = checked-late
-      on false = unfold refusedWith in end-late (r .end)
+      on false = unfold refusedWith in end-late (r .part .end)
 
 module _ (b : Battery) where
   pub charge-late : (source : Source) (target : Float) → Late (charge b source target .refusal)
@@ -113,8 +113,8 @@ module _ (b : Battery) (d : Demand) where
   unfolding demandFrom demandAnswer
   from-way h feed e = on (d .commit && combi) refl
     where
-      r : Ended
-      r = demandEnded (demandRun (demandTask b d feed) (b .card .budget) 0 (demandStart b))
+      r : Zoned Stopped
+      r = demandRan b d feed
 
       on : (t : Bool) → (d .commit && combi) ≡ t → DemandWay b d (cond t (refusedWith 21 b) (unlessRefused b r (demandAnswer b d r)) .refusal)
       on true k = let p = and-true (d .commit) combi k in unfold refusedWith in twenty-one h feed e (p .0) (p .1) refl

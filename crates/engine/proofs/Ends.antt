@@ -1,81 +1,82 @@
 -- The runs to their ends: the places above the count stay, the substeps are within the budget, and a run ends for the budget's sake
 -- only with the budget used and another substep due.
-use mathlib.Core.Path.{_≡_, refl, _∙_, ap}
+use mathlib.Core.Path.{_≡_, refl, sym, _∙_, ap, subst}
 use mathlib.Core.Logic.{inl, inr}
 use Prim.Native.Nat.{ℕ, suc, _≤_, _+_}
 use native.Mathlib.Omega.{arith}
 use Rattle.battery.specs.Places.{SameAbove}
 use Rattle.battery.proofs.Zones.{same-above, then-above}
-use Rattle.engine.specs.Budget.{DemandOver, HydronicOver}
+use Rattle.engine.specs.Budget.{wholeFrom, FractionDue, DemandOver, HydronicOver}
 use Rattle.delivery.specs.declared.DemandTask.{DemandTask}
-use Rattle.delivery.specs.declared.Run.{Run}
+use Rattle.delivery.specs.declared.Pace.{Pace}
 use Rattle.runs.specs.declared.HydronicTask.{HydronicTask}
-use Rattle.runs.specs.declared.HydronicRun.{HydronicRun}
+use Rattle.runs.specs.declared.WetPace.{WetPace}
 use Rattle.runs.specs.declared.End.{End}
 use Rattle.runs.specs.declared.End.the-variants.{OverBudget}
 use Rattle.runs.specs.declared.Next.the-variants.{Stop}
 use Rattle.delivery.specs.Demand.{demandRun}
-use Rattle.runs.specs.Hydronic.{hydronicEnd, hydronicRun, hydronicStep}
+use Rattle.runs.specs.Hydronic.{wetPace, hydronicEnd, hydronicRun, hydronicStep}
 use Rattle.runs.proofs.Runs.{on-counts}
+use Rattle.runs.specs.Zoned.{Zoned, onPart}
 use Rattle.engine.proofs.Inductions.{demand-induction, hydronic-induction}
 use Rattle.engine.proofs.Turns.{never, demand-keeps, hydronic-keeps}
 
 module _ (x : DemandTask) where
-  pub demand-run-above : (k n : ℕ) (s : Run) → SameAbove (x .card .layers) (s .zones) (demandRun x k n s .run .zones)
+  pub demand-run-above : (k n : ℕ) (s : Zoned Pace) → SameAbove (x .card .layers) (s .zones) (demandRun x k n s .zones)
   demand-run-above =
-      demand-induction x (λ k n s d. SameAbove (x .card .layers) (s .zones) (d .run .zones))
+      demand-induction x (λ k n s d. SameAbove (x .card .layers) (s .zones) (d .zones))
       (λ k n s. same-above (x .card .layers) (s .zones))
       (λ n s h. same-above (x .card .layers) (s .zones))
       (λ k n s e h. demand-keeps x s .above)
       (λ k n s d h r. then-above (demand-keeps x s .above) r)
 
-  pub demand-run-count : (k n : ℕ) (s : Run) → demandRun x k n s .substeps ≤ n + k
+  pub demand-run-count : (k n : ℕ) (s : Zoned Pace) → demandRun x k n s .part .substeps ≤ n + k
   demand-run-count =
-      demand-induction x (λ k n s d. d .substeps ≤ n + k)
+      demand-induction x (λ k n s d. d .part .substeps ≤ n + k)
       (λ k n s. omega arith)
       (λ n s h. omega arith)
       (λ k n s e h. omega arith)
       (λ k n s d h r. omega arith)
 
-  pub demand-run-over : (k n : ℕ) (s : Run) → demandRun x k n s .end ≡ OverBudget → DemandOver (n + k) (demandRun x k n s)
+  pub demand-run-over : (k n : ℕ) (s : Zoned Pace) → demandRun x k n s .part .end ≡ OverBudget → DemandOver (n + k) (demandRun x k n s)
   demand-run-over =
-      demand-induction x (λ k n s d. d .end ≡ OverBudget → DemandOver (n + k) d)
+      demand-induction x (λ k n s d. d .part .end ≡ OverBudget → DemandOver (n + k) d)
       (λ k n s h. never (cc))
       (λ n s p h. record { ended = refl; used = omega arith; due = p })
       (λ k n s e p h. absurd (demand-keeps x s .within (p ∙ ap Stop h)))
       (λ k n s d p r h. let q = r h in let u = q .used in record { ended = h; used = omega arith; due = q .due })
 
 module _ (x : HydronicTask) where
-  pub hydronic-run-above : (k n : ℕ) (s : HydronicRun) → SameAbove (x .card .layers) (s .zones) (hydronicRun x k n s .run .zones)
+  pub hydronic-run-above : (k n : ℕ) (s : Zoned WetPace) → SameAbove (x .card .layers) (s .zones) (hydronicRun x k n s .zones)
   hydronic-run-above =
-      hydronic-induction x (λ k n s d. SameAbove (x .card .layers) (s .zones) (d .run .zones))
+      hydronic-induction x (λ k n s d. SameAbove (x .card .layers) (s .zones) (d .zones))
       (λ n s. same-above (x .card .layers) (s .zones))
       (λ k n s h. same-above (x .card .layers) (s .zones))
       (λ k n s e q h. hydronic-keeps x n s .above)
       (λ k n s d q h r. then-above (hydronic-keeps x n s .above) r)
 
-  pub hydronic-run-count : (k n : ℕ) (s : HydronicRun) → n ≤ x .card .budget → hydronicRun x k n s .substeps ≤ x .card .budget
+  pub hydronic-run-count : (k n : ℕ) (s : Zoned WetPace) → n ≤ x .card .budget → hydronicRun x k n s .part .substeps ≤ x .card .budget
   hydronic-run-count =
-      hydronic-induction x (λ k n s d. n ≤ x .card .budget → d .substeps ≤ x .card .budget)
+      hydronic-induction x (λ k n s d. n ≤ x .card .budget → d .part .substeps ≤ x .card .budget)
       (λ n s l. l)
       (λ k n s h l. l)
       (λ k n s e q h l. hydronic-keeps x n s .count (omega arith))
       (λ k n s d q h r l. r (hydronic-keeps x n s .count (omega arith)))
 
   last-turn :
-      (steps n : ℕ) (s : HydronicRun) (e : End) → hydronicStep x n s .next ≡ Stop OverBudget → e ≡ OverBudget →
-      HydronicOver x steps (hydronicEnd (hydronicStep x n s .run) e (hydronicStep x n s .substeps))
+      (steps n : ℕ) (s : Zoned WetPace) (e : End) → hydronicStep x n s .part .next ≡ Stop OverBudget → e ≡ OverBudget →
+      HydronicOver x steps (hydronicEnd (onPart wetPace (hydronicStep x n s)) e (hydronicStep x n s .part .substeps))
   last-turn steps n s e p h =
       let k = hydronic-keeps x n s in
-      record { ended = h; used = k .used p; due = inr (rw (k .same p) (k .due p)) }
+      record { ended = h; used = k .used p; due = inr (subst (λ (v : Zoned WetPace). FractionDue x v (wholeFrom x v)) (sym (k .same p)) (k .due p)) }
 
-  pub hydronic-run-over : (k n : ℕ) (s : HydronicRun) → hydronicRun x k n s .end ≡ OverBudget → HydronicOver x (n + k) (hydronicRun x k n s)
+  pub hydronic-run-over : (k n : ℕ) (s : Zoned WetPace) → hydronicRun x k n s .part .end ≡ OverBudget → HydronicOver x (n + k) (hydronicRun x k n s)
   hydronic-run-over =
-      hydronic-induction x (λ k n s d. d .end ≡ OverBudget → HydronicOver x (n + k) d)
+      hydronic-induction x (λ k n s d. d .part .end ≡ OverBudget → HydronicOver x (n + k) d)
       (λ n s h. never (cc))
       (λ k n s p h. record { ended = refl; used = p; due = inl (omega arith) })
       (λ k n s e q p h. last-turn (n + suc k) n s e (p ∙ ap Stop h) h)
       (λ k n s d q p r h.
       let m = on-counts x n s p in
-      let t : hydronicStep x n s .substeps + k ≡ n + suc k = omega arith in
+      let t : hydronicStep x n s .part .substeps + k ≡ n + suc k = omega arith in
       rw t at (r h))

@@ -1,5 +1,5 @@
 -- A substep's faults, each only at its test, and the runs that end for their sake: the run that is handed out is the one before that substep.
-use mathlib.Core.Path.{_≡_, refl, sym, _∙_, ap}
+use mathlib.Core.Path.{_≡_, refl, sym, _∙_, ap, subst}
 use mathlib.Core.Bool.{false, cond}
 use mathlib.Core.List.{List}
 use mathlib.Core.Logic.{_⊎_, inl, inr}
@@ -21,25 +21,27 @@ use Rattle.water.specs.declared.Mode.{Mode}
 use Rattle.water.specs.declared.Mode.the-variants.{OnlyCharging, Losses, Normal}
 use Rattle.card.specs.declared.Card.{Card}
 use Rattle.card.specs.declared.HeatBatteryPcm.{HeatBatteryPcm}
-use Rattle.substep.specs.Substep.{perLayer, zoneTransfer, withoutLogarithm, passFinite, passFault, substepFrom, withTransfer, processHeatBatteryZones}
+use Rattle.substep.specs.Substep.{outcomeOf, perLayer, zoneTransfer, withoutLogarithm, passFinite, passFault, substepFrom, withTransfer, processHeatBatteryZones}
 use Rattle.substep.specs.declared.Drive.{Drive}
-use Rattle.substep.specs.declared.Pass.{Pass}
+use Rattle.substep.specs.declared.Outcome.{Outcome}
+use Rattle.substep.specs.Pass.{Pass}
 use Rattle.substep.specs.declared.Substep.{Substep}
 use Rattle.substep.specs.declared.Fault.{Fault}
 use Rattle.substep.specs.declared.Fault.the-variants.{Nothing, Logarithm, NotFinite}
 use Rattle.delivery.specs.declared.DemandTask.{DemandTask}
-use Rattle.delivery.specs.declared.DemandTurn.{DemandTurn}
-use Rattle.delivery.specs.declared.Run.{Run}
+use Rattle.delivery.specs.declared.PaceTurn.{PaceTurn}
+use Rattle.delivery.specs.declared.Pace.{Pace}
 use Rattle.runs.specs.declared.HydronicTask.{HydronicTask}
-use Rattle.runs.specs.declared.HydronicRun.{HydronicRun}
-use Rattle.runs.specs.declared.HydronicTurn.{HydronicTurn}
+use Rattle.runs.specs.declared.WetPace.{WetPace}
+use Rattle.runs.specs.declared.WetTurn.{WetTurn}
 use Rattle.runs.specs.declared.Next.{Next}
 use Rattle.runs.specs.declared.Next.the-variants.{On, Stop}
 use Rattle.runs.specs.declared.End.{End}
 use Rattle.runs.specs.declared.End.the-variants.{Done, Negative, Met, NoStep, Level, Limit, Time, OverBudget, NoLogarithm, NotFiniteRun}
-use Rattle.delivery.specs.Demand.{demandDrive, demandMet, demandDelivered, demandBy, demandSubstep, demandRun}
-use Rattle.runs.specs.Hydronic.{wetDrive, clearlyBelow, limitReached, replayBy, replayed, fractionSeconds, hydronicWhole, hydronicBy, hydronicStep, hydronicRun}
-use Rattle.runs.specs.Runs.{reynoldBetween}
+use Rattle.delivery.specs.Demand.{turnPace, endPace, demandDrive, demandMet, demandDelivered, demandBy, demandSubstep, demandRun}
+use Rattle.runs.specs.Hydronic.{wetDrive, clearlyBelow, limitReached, replayBy, replayed, fractionSeconds, hydronicWhole, hydronicBy, hydronicStep, hydronicRun, wetPace, wetEndPace}
+use Rattle.runs.specs.Runs.{outcome, reynoldBetween}
+use Rattle.runs.specs.Zoned.{Zoned, onPart}
 use Rattle.engine.specs.Budget.{wholeFrom, FractionDue}
 use Rattle.engine.specs.Faults.{ArgumentRefused, passOf, PassNotFinite, FaultTest, SubstepFault, heatOf, absorbedWith, fractionDrive, HydronicFault}
 use Rattle.engine.proofs.Inductions.{demand-induction, hydronic-induction}
@@ -119,14 +121,14 @@ module _ (c : Card) (pcm : HeatBatteryPcm) (d : Drive) (zones : List Float) wher
   substep-fault f q h = record { fault = h; test = tested f q h }
 
 -- the substep from s
-abbrev pub demandFromRun : DemandTask → Run → Substep
-demandFromRun x s = processHeatBatteryZones (x .card) (x .pcm) (demandDrive x s) (s .zones)
+abbrev pub demandFromRun : DemandTask → Zoned Pace → Substep
+demandFromRun x s = processHeatBatteryZones (x .card) (x .pcm) (demandDrive x (s .part)) (s .zones)
 
 -- the fractional substep behind the whole substep u from s
-abbrev fractionFrom : HydronicTask → HydronicRun → Substep → Substep
+abbrev fractionFrom : HydronicTask → Zoned WetPace → Substep → Substep
 fractionFrom x s u = processHeatBatteryZones (x .card) (x .pcm) (fractionDrive x s u) (s .zones)
 
-record FractionTold (x : HydronicTask) (s : HydronicRun) (u : Substep) (f : Fault) : Type 0 where
+record FractionTold (x : HydronicTask) (s : Zoned WetPace) (u : Substep) (f : Fault) : Type 0 where
   due : FractionDue x s u
   fault : fractionFrom x s u .fault ≡ f
 
@@ -148,56 +150,54 @@ nextFault On = Nothing
 nextFault (Stop e) = endFault e
 
 -- the turn t behind s with the substep u
-record DemandTold (s : Run) (u : Substep) (t : DemandTurn) : Type 0 where
-  same : (nextFault (t .next) ≡ Nothing → ⊥) → t .run ≡ s
-  fault : (nextFault (t .next) ≡ Nothing → ⊥) → u .fault ≡ nextFault (t .next)
+record DemandTold (s : Zoned Pace) (u : Substep) (t : Zoned PaceTurn) : Type 0 where
+  same : (nextFault (t .part .next) ≡ Nothing → ⊥) → onPart turnPace t ≡ s
+  fault : (nextFault (t .part .next) ≡ Nothing → ⊥) → u .fault ≡ nextFault (t .part .next)
 
-module _ (x : DemandTask) (s : Run) (u : Substep) where
-  told-delivered : DemandTold s u (demandDelivered x s u)
-  unfolding demandDelivered
-  told-delivered =
-      by-test (DemandTold s u) (lt (u .delivered .0) Constants.zero) _ _
-      (λ a. record { same = λ q. absurd (q refl); fault = λ q. absurd (q refl) })
-      (λ a. by-test (DemandTold s u) (demandMet x (kwh (s .delivered .0 ⊕ kilowattHours (u .delivered) .0))) _ _
-      (λ b. record { same = λ q. absurd (q refl); fault = λ q. absurd (q refl) })
-      (λ b. record { same = λ q. absurd (q refl); fault = λ q. absurd (q refl) }))
+no-fault : (x : DemandTask) (s : Pace) (o : Outcome) → nextFault (demandDelivered x s o .next) ≡ Nothing
+unfolding demandDelivered
+no-fault x s o =
+    let None : PaceTurn → Type 0 = λ (t : PaceTurn). nextFault (t .next) ≡ Nothing in
+    by-test None (lt (o .delivered .0) Constants.zero) _ _
+    (λ a. refl)
+    (λ a. by-test None (demandMet x (kwh (s .delivered .0 ⊕ kilowattHours (o .delivered) .0))) _ _ (λ b. refl) (λ b. refl))
 
-  told-by : (f : Fault) → u .fault ≡ f → DemandTold s u (demandBy x s u f)
-  unfolding demandBy
-  told-by Nothing w = told-delivered
-  told-by Logarithm w = record { same = λ q. refl; fault = λ q. w }
-  told-by NotFinite w = record { same = λ q. refl; fault = λ q. w }
+told-by : (x : DemandTask) (s : Zoned Pace) (u : Substep) (f : Fault) → u .fault ≡ f → DemandTold s u (demandBy x s (outcome u) f)
+unfolding demandBy
+told-by x s u Nothing w = let n = no-fault x (s .part) (outcome u .part) in record { same = λ q. absurd (q n); fault = λ q. absurd (q n) }
+told-by x s u Logarithm w = record { same = λ q. refl; fault = λ q. w }
+told-by x s u NotFinite w = record { same = λ q. refl; fault = λ q. w }
 
-demand-told : (x : DemandTask) (s : Run) → DemandTold s (demandFromRun x s) (demandSubstep x s)
-unfolding demandSubstep
+demand-told : (x : DemandTask) (s : Zoned Pace) → DemandTold s (demandFromRun x s) (demandSubstep x s)
+unfolding demandSubstep outcomeOf
 demand-told x s = told-by x s (demandFromRun x s) (demandFromRun x s .fault) refl
 
 module _ (x : DemandTask) where
   demand-stops :
-      (s : Run) (e : End) → demandSubstep x s .next ≡ Stop e → (endFault e ≡ Nothing → ⊥) → demandFromRun x (demandSubstep x s .run) .fault ≡ endFault e
+      (s : Zoned Pace) (e : End) → demandSubstep x s .part .next ≡ Stop e → (endFault e ≡ Nothing → ⊥) → demandFromRun x (onPart turnPace (demandSubstep x s)) .fault ≡ endFault e
   demand-stops s e h q =
       let k = demand-told x s in
-      let r : nextFault (demandSubstep x s .next) ≡ Nothing → ⊥ = λ z. q (sym (ap nextFault h) ∙ z) in
-      rw (k .same r) (k .fault r ∙ ap nextFault h)
+      let r : nextFault (demandSubstep x s .part .next) ≡ Nothing → ⊥ = λ z. q (sym (ap nextFault h) ∙ z) in
+      subst (λ (v : Zoned Pace). demandFromRun x v .fault ≡ endFault e) (sym (k .same r)) (k .fault r ∙ ap nextFault h)
 
-  pub demand-run-faults : (k n : ℕ) (s : Run) → (endFault (demandRun x k n s .end) ≡ Nothing → ⊥) → demandFromRun x (demandRun x k n s .run) .fault ≡ endFault (demandRun x k n s .end)
+  pub demand-run-faults : (k n : ℕ) (s : Zoned Pace) → (endFault (demandRun x k n s .part .end) ≡ Nothing → ⊥) → demandFromRun x (onPart endPace (demandRun x k n s)) .fault ≡ endFault (demandRun x k n s .part .end)
   demand-run-faults =
-      demand-induction x (λ k n s d. (endFault (d .end) ≡ Nothing → ⊥) → demandFromRun x (d .run) .fault ≡ endFault (d .end))
+      demand-induction x (λ k n s d. (endFault (d .part .end) ≡ Nothing → ⊥) → demandFromRun x (onPart endPace d) .fault ≡ endFault (d .part .end))
       (λ k n s q. absurd (q refl))
       (λ n s h q. absurd (q refl))
       (λ k n s e h q. demand-stops s e h q)
       (λ k n s d h r q. r q)
 
-record HydronicTold (x : HydronicTask) (s : HydronicRun) (u : Substep) (t : HydronicTurn) : Type 0 where
-  same : (nextFault (t .next) ≡ Nothing → ⊥) → t .run ≡ s
-  fault : (nextFault (t .next) ≡ Nothing → ⊥) → (u .fault ≡ nextFault (t .next)) ⊎ FractionTold x s u (nextFault (t .next))
+record HydronicTold (x : HydronicTask) (s : Zoned WetPace) (u : Substep) (t : Zoned WetTurn) : Type 0 where
+  same : (nextFault (t .part .next) ≡ Nothing → ⊥) → onPart wetPace t ≡ s
+  fault : (nextFault (t .part .next) ≡ Nothing → ⊥) → (u .fault ≡ nextFault (t .part .next)) ⊎ FractionTold x s u (nextFault (t .part .next))
 
-module _ (x : HydronicTask) (n : ℕ) (s : HydronicRun) (u : Substep) where
-  abbrev Told : HydronicTurn → Type 0
+module _ (x : HydronicTask) (n : ℕ) (s : Zoned WetPace) (u : Substep) where
+  abbrev Told : Zoned WetTurn → Type 0
   Told = HydronicTold x s u
 
   module _ (w : FractionDue x s u) (seconds reynold : Float) where
-    told-replay : (f : Fault) → fractionFrom x s u .fault ≡ f → Told (replayBy x (n + 1) s seconds reynold (fractionFrom x s u) f)
+    told-replay : (f : Fault) → fractionFrom x s u .fault ≡ f → Told (replayBy x (n + 1) s seconds reynold (outcome (fractionFrom x s u)) f)
     unfolding replayBy
     told-replay Nothing h = record { same = λ q. absurd (q refl); fault = λ q. absurd (q refl) }
     told-replay Logarithm h = record { same = λ q. refl; fault = λ q. inr (record { due = w; fault = h }) }
@@ -206,14 +206,14 @@ module _ (x : HydronicTask) (n : ℕ) (s : HydronicRun) (u : Substep) where
   told-replayed :
       FractionDue x s u →
       Told (replayed x n s (fractionSeconds x (absorbedWith s u) (heatOf u)) (reynoldBetween (x .wet .inlet) (u .outlet) (x .wet .velocity) (x .wet .diameter)))
-  unfolding replayed
+  unfolding replayed outcomeOf
   told-replayed w =
       by-test Told (eqb n (x .card .budget)) _ _
       (λ h. record { same = λ q. absurd (q refl); fault = λ q. absurd (q refl) })
       (λ h. told-replay w _ _ (fractionFrom x s u .fault) refl)
 
-  told-whole : u .fault ≡ Nothing → Told (hydronicWhole x n s u)
-  unfolding hydronicWhole
+  told-whole : u .fault ≡ Nothing → Told (hydronicWhole x n s (outcome u))
+  unfolding hydronicWhole outcomeOf
   told-whole w =
       by-test Told (clearlyBelow (u .outlet) (x .wet .inlet)) _ _
       (λ a. by-test Told (limitReached (absorbedWith s u) (x .limit)) _ _
@@ -223,40 +223,40 @@ module _ (x : HydronicTask) (n : ℕ) (s : HydronicRun) (u : Substep) where
       (λ b. record { same = λ q. absurd (q refl); fault = λ q. absurd (q refl) }))
       (λ a. record { same = λ q. absurd (q refl); fault = λ q. absurd (q refl) })
 
-  told-turn : (f : Fault) → u .fault ≡ f → Told (hydronicBy x n s u f)
+  told-turn : (f : Fault) → u .fault ≡ f → Told (hydronicBy x n s (outcome u) f)
   unfolding hydronicBy
   told-turn Nothing w = told-whole w
   told-turn Logarithm w = record { same = λ q. refl; fault = λ q. inl w }
   told-turn NotFinite w = record { same = λ q. refl; fault = λ q. inl w }
 
-hydronic-told : (x : HydronicTask) (n : ℕ) (s : HydronicRun) → HydronicTold x s (wholeFrom x s) (hydronicStep x n s)
-unfolding hydronicStep
+hydronic-told : (x : HydronicTask) (n : ℕ) (s : Zoned WetPace) → HydronicTold x s (wholeFrom x s) (hydronicStep x n s)
+unfolding hydronicStep outcomeOf
 hydronic-told x n s = told-turn x (n + 1) s (wholeFrom x s) (wholeFrom x s .fault) refl
 
 module _ (x : HydronicTask) where
-  abbrev Ends : HydronicRun → Fault → Type 0
+  abbrev Ends : Zoned WetPace → Fault → Type 0
   Ends s f = (wholeFrom x s .fault ≡ f) ⊎ FractionTold x s (wholeFrom x s) f
 
-  hydronic-stops : (n : ℕ) (s : HydronicRun) (e : End) → hydronicStep x n s .next ≡ Stop e → (endFault e ≡ Nothing → ⊥) → Ends (hydronicStep x n s .run) (endFault e)
+  hydronic-stops : (n : ℕ) (s : Zoned WetPace) (e : End) → hydronicStep x n s .part .next ≡ Stop e → (endFault e ≡ Nothing → ⊥) → Ends (onPart wetPace (hydronicStep x n s)) (endFault e)
   hydronic-stops n s e h q =
       let k = hydronic-told x n s in
-      let r : nextFault (hydronicStep x n s .next) ≡ Nothing → ⊥ = λ z. q (sym (ap nextFault h) ∙ z) in
+      let r : nextFault (hydronicStep x n s .part .next) ≡ Nothing → ⊥ = λ z. q (sym (ap nextFault h) ∙ z) in
       let w : Ends s (endFault e) = rw (ap nextFault h) at (k .fault r) in
-      rw (k .same r) w
+      subst (λ (v : Zoned WetPace). Ends v (endFault e)) (sym (k .same r)) w
 
-  hydronic-ends : (k n : ℕ) (s : HydronicRun) → (endFault (hydronicRun x k n s .end) ≡ Nothing → ⊥) → Ends (hydronicRun x k n s .run) (endFault (hydronicRun x k n s .end))
+  hydronic-ends : (k n : ℕ) (s : Zoned WetPace) → (endFault (hydronicRun x k n s .part .end) ≡ Nothing → ⊥) → Ends (onPart wetEndPace (hydronicRun x k n s)) (endFault (hydronicRun x k n s .part .end))
   hydronic-ends =
-      hydronic-induction x (λ k n s d. (endFault (d .end) ≡ Nothing → ⊥) → Ends (d .run) (endFault (d .end)))
+      hydronic-induction x (λ k n s d. (endFault (d .part .end) ≡ Nothing → ⊥) → Ends (onPart wetEndPace d) (endFault (d .part .end)))
       (λ n s q. absurd (q refl))
       (λ k n s h q. absurd (q refl))
       (λ k n s e b h q. hydronic-stops n s e h q)
       (λ k n s d b h r q. r q)
 
-  at-test : (s : HydronicRun) (f : Fault) → (f ≡ Nothing → ⊥) → Ends s f → HydronicFault f x s
-  at-test s f q (inl h) = inl (substep-fault (x .card) (x .pcm) (wetDrive x (x .card .substep) (s .reynold)) (s .zones) f q h)
+  at-test : (s : Zoned WetPace) (f : Fault) → (f ≡ Nothing → ⊥) → Ends s f → HydronicFault f x s
+  at-test s f q (inl h) = inl (substep-fault (x .card) (x .pcm) (wetDrive x (x .card .substep) (s .part .reynold)) (s .zones) f q h)
   at-test s f q (inr w) =
       inr (record { due = w .due; fault = substep-fault (x .card) (x .pcm) (fractionDrive x s (wholeFrom x s)) (s .zones) f q (w .fault) })
 
   pub hydronic-run-faults :
-      (k n : ℕ) (s : HydronicRun) → (endFault (hydronicRun x k n s .end) ≡ Nothing → ⊥) → HydronicFault (endFault (hydronicRun x k n s .end)) x (hydronicRun x k n s .run)
-  hydronic-run-faults k n s q = at-test (hydronicRun x k n s .run) (endFault (hydronicRun x k n s .end)) q (hydronic-ends k n s q)
+      (k n : ℕ) (s : Zoned WetPace) → (endFault (hydronicRun x k n s .part .end) ≡ Nothing → ⊥) → HydronicFault (endFault (hydronicRun x k n s .part .end)) x (onPart wetEndPace (hydronicRun x k n s))
+  hydronic-run-faults k n s q = at-test (onPart wetEndPace (hydronicRun x k n s)) (endFault (hydronicRun x k n s .part .end)) q (hydronic-ends k n s q)

@@ -12,7 +12,7 @@ use Rattle.floats.specs.Constants as Constants
 use Rattle.floats.specs.declared.Log.{Log}
 use Rattle.floats.specs.declared.Log.the-variants.{Value, Refused}
 use Rattle.floats.proofs.Cases.{by-test}
-use Rattle.zone.specs.Heat.{kj, kwh, kilowattHours}
+use Rattle.zone.specs.Heat.{kj}
 use Rattle.zone.specs.declared.Kilojoules.{Kilojoules}
 use Rattle.card.specs.Derived.{derived}
 use Rattle.card.specs.declared.Card.{Card}
@@ -21,30 +21,29 @@ use Rattle.card.proofs.Tests.{and-true}
 use Rattle.battery.specs.Battery.{zonesFinite}
 use Rattle.battery.specs.declared.Battery.{Battery}
 use Rattle.battery.specs.declared.Demand.{Demand}
-use Rattle.substep.specs.Substep.{zoneTransfer, passFinite, passFault, withoutLogarithm, substepFrom, withTransfer, processHeatBatteryZones}
+use Rattle.substep.specs.Substep.{outcomeOf, zoneTransfer, passFinite, passFault, withoutLogarithm, substepFrom, withTransfer, processHeatBatteryZones}
 use Rattle.substep.specs.declared.Drive.{Drive}
-use Rattle.substep.specs.declared.Pass.{Pass}
+use Rattle.substep.specs.Pass.{Pass}
 use Rattle.substep.specs.declared.Substep.{Substep}
 use Rattle.substep.specs.declared.Fault.{Fault}
 use Rattle.substep.specs.declared.Fault.the-variants.{Nothing, Logarithm, NotFinite}
 use Rattle.delivery.specs.declared.DemandTask.{DemandTask}
-use Rattle.delivery.specs.declared.DemandTurn.{DemandTurn}
-use Rattle.delivery.specs.declared.Run.{Run}
-use Rattle.delivery.specs.Demand.{demandDrive, demandMet, runAfter, demandDelivered, demandBy, demandSubstep, demandRun, demandEnded}
-use Rattle.runs.specs.declared.Ended.{Ended}
+use Rattle.delivery.specs.declared.PaceTurn.{PaceTurn}
+use Rattle.delivery.specs.declared.Pace.{Pace}
+use Rattle.delivery.specs.Demand.{demandDrive, demandBy, demandSubstep, demandRun, demandEnded}
 use Rattle.runs.specs.declared.Stopped.{Stopped}
 use Rattle.runs.specs.declared.Exchanger.{Exchanger}
 use Rattle.runs.specs.declared.Source.{Source}
 use Rattle.runs.specs.declared.Source.the-variants.{Electric, Wet}
 use Rattle.runs.specs.declared.HydronicTask.{HydronicTask}
-use Rattle.runs.specs.declared.HydronicRun.{HydronicRun}
-use Rattle.runs.specs.declared.HydronicTurn.{HydronicTurn}
-use Rattle.runs.specs.Runs.{faultEnd, endRefusal, reynoldBetween}
-use Rattle.runs.specs.Apart.{EndedLies}
+use Rattle.runs.specs.declared.WetPace.{WetPace}
+use Rattle.runs.specs.declared.WetTurn.{WetTurn}
+use Rattle.runs.specs.Runs.{outcome, faultEnd, endRefusal, reynoldBetween}
 use Rattle.runs.specs.Hydronic.{wetDrive, clearlyBelow, limitReached, replayBy, replayed, fractionSeconds, hydronicWhole, hydronicBy, hydronicStep, hydronicRun, hydronicEnded, wholeSubsteps}
 use Rattle.runs.specs.Charge.{electricDrive, electricEnded, chargeElectric, hydronicTask, hydronicStart, chargeHydronic, chargeBattery, lossDrive, lossEnded, batteryHeatLoss}
 use Rattle.replies.specs.Replies.{demandStart}
 use Rattle.replies.proofs.Settled.{run-end}
+use Rattle.runs.specs.Zoned.{Zoned, zoned, AsDefined}
 use Rattle.engine.specs.Steps.{demandTask, demandRan}
 use Rattle.engine.specs.Budget.{wholeFrom}
 use Rattle.engine.proofs.Inductions.{demand-induction, hydronic-induction}
@@ -83,31 +82,24 @@ answers-faultless NotFinite h = absurd (omega arith)
 
 -- one turn of a demand: its zones are the substep's, or those before it
 
-module _ (x : DemandTask) (s : Run) (h : Finite (x .card .layers) (s .zones)) where
-  abbrev DemandFinite : DemandTurn → Type 0
-  DemandFinite t = Finite (x .card .layers) (t .run .zones)
+module _ (x : DemandTask) (s : Zoned Pace) (h : Finite (x .card .layers) (s .zones)) where
+  abbrev DemandFinite : Zoned PaceTurn → Type 0
+  DemandFinite t = Finite (x .card .layers) (t .zones)
 
-  delivered-finite : (u : Substep) → Finite (x .card .layers) (u .zones) → DemandFinite (demandDelivered x s u)
-  unfolding demandDelivered runAfter
-  delivered-finite u g =
-      by-test DemandFinite (lt (u .delivered .0) Constants.zero) _ _
-      (λ a. g)
-      (λ a. by-test DemandFinite (demandMet x (kwh (s .delivered .0 ⊕ kilowattHours (u .delivered) .0))) _ _ (λ b. g) (λ b. g))
-
-  demand-by-finite : (u : Substep) → (u .fault ≡ Nothing → Finite (x .card .layers) (u .zones)) → (f : Fault) → u .fault ≡ f → DemandFinite (demandBy x s u f)
+  demand-by-finite : (u : Substep) → (u .fault ≡ Nothing → Finite (x .card .layers) (u .zones)) → (f : Fault) → u .fault ≡ f → DemandFinite (demandBy x s (outcome u) f)
   unfolding demandBy
-  demand-by-finite u g Nothing e = delivered-finite u (g e)
+  demand-by-finite u g Nothing e = g e
   demand-by-finite u g Logarithm e = h
   demand-by-finite u g NotFinite e = h
 
   demand-turn-finite : DemandFinite (demandSubstep x s)
-  unfolding demandSubstep
+  unfolding demandSubstep outcomeOf
   demand-turn-finite =
-      demand-by-finite (demandFromRun x s) (substep-finite (x .card) (x .pcm) (demandDrive x s) (s .zones)) (demandFromRun x s .fault) refl
+      demand-by-finite (demandFromRun x s) (substep-finite (x .card) (x .pcm) (demandDrive x (s .part)) (s .zones)) (demandFromRun x s .fault) refl
 
-pub demand-run-finite : (x : DemandTask) (k n : ℕ) (s : Run) → Finite (x .card .layers) (s .zones) → Finite (x .card .layers) (demandRun x k n s .run .zones)
+pub demand-run-finite : (x : DemandTask) (k n : ℕ) (s : Zoned Pace) → Finite (x .card .layers) (s .zones) → Finite (x .card .layers) (demandRun x k n s .zones)
 demand-run-finite x =
-    demand-induction x (λ k n s d. Finite (x .card .layers) (s .zones) → Finite (x .card .layers) (d .run .zones))
+    demand-induction x (λ k n s d. Finite (x .card .layers) (s .zones) → Finite (x .card .layers) (d .zones))
     (λ k n s h. h)
     (λ n s p h. h)
     (λ k n s e p h. demand-turn-finite x s h)
@@ -115,55 +107,55 @@ demand-run-finite x =
 
 -- one turn of a hydronic charge: its zones are the whole substep's, the fractional one's, or those before them
 
-module _ (x : HydronicTask) (n : ℕ) (s : HydronicRun) (h : Finite (x .card .layers) (s .zones)) where
-  abbrev WetFinite : HydronicTurn → Type 0
-  WetFinite t = Finite (x .card .layers) (t .run .zones)
+module _ (x : HydronicTask) (n : ℕ) (s : Zoned WetPace) (h : Finite (x .card .layers) (s .zones)) where
+  abbrev WetFinite : Zoned WetTurn → Type 0
+  WetFinite t = Finite (x .card .layers) (t .zones)
 
   replay-by-finite :
       (m : ℕ) (seconds reynold : Float) (u : Substep) → (u .fault ≡ Nothing → Finite (x .card .layers) (u .zones)) → (f : Fault) → u .fault ≡ f →
-      WetFinite (replayBy x m s seconds reynold u f)
+      WetFinite (replayBy x m s seconds reynold (outcome u) f)
   unfolding replayBy
   replay-by-finite m seconds reynold u g Nothing e = g e
   replay-by-finite m seconds reynold u g Logarithm e = h
   replay-by-finite m seconds reynold u g NotFinite e = h
 
   replay-finite : (seconds reynold : Float) → WetFinite (replayed x n s seconds reynold)
-  unfolding replayed
+  unfolding replayed outcomeOf
   replay-finite seconds reynold =
       let u = processHeatBatteryZones (x .card) (x .pcm) (wetDrive x seconds reynold) (s .zones) in
       by-test WetFinite (eqb n (x .card .budget)) _ _
       (λ b. h)
       (λ b. replay-by-finite (n + 1) seconds reynold u (substep-finite (x .card) (x .pcm) (wetDrive x seconds reynold) (s .zones)) (u .fault) refl)
 
-  whole-finite : (u : Substep) → Finite (x .card .layers) (u .zones) → WetFinite (hydronicWhole x n s u)
-  unfolding hydronicWhole
+  whole-finite : (u : Substep) → Finite (x .card .layers) (u .zones) → WetFinite (hydronicWhole x n s (outcome u))
+  unfolding hydronicWhole outcomeOf
   whole-finite u g =
       let reynold = reynoldBetween (x .wet .inlet) (u .outlet) (x .wet .velocity) (x .wet .diameter) in
       let this = kj (neg (u .delivered .0)) in
-      let absorbed = kj (s .absorbed .0 ⊕ this .0) in
+      let absorbed = kj (s .part .absorbed .0 ⊕ this .0) in
       by-test WetFinite (clearlyBelow (u .outlet) (x .wet .inlet)) _ _
       (λ a. by-test WetFinite (limitReached absorbed (x .limit)) _ _
       (λ b. by-test WetFinite (lt Constants.zero (this .0)) _ _ (λ c. replay-finite (fractionSeconds x absorbed this) reynold) (λ c. g))
       (λ b. g))
       (λ a. g)
 
-  hydronic-by-finite : (u : Substep) → (u .fault ≡ Nothing → Finite (x .card .layers) (u .zones)) → (f : Fault) → u .fault ≡ f → WetFinite (hydronicBy x n s u f)
+  hydronic-by-finite : (u : Substep) → (u .fault ≡ Nothing → Finite (x .card .layers) (u .zones)) → (f : Fault) → u .fault ≡ f → WetFinite (hydronicBy x n s (outcome u) f)
   unfolding hydronicBy
   hydronic-by-finite u g Nothing e = whole-finite u (g e)
   hydronic-by-finite u g Logarithm e = h
   hydronic-by-finite u g NotFinite e = h
 
 hydronic-turn-finite :
-    (x : HydronicTask) (n : ℕ) (s : HydronicRun) → Finite (x .card .layers) (s .zones) → Finite (x .card .layers) (hydronicStep x n s .run .zones)
-unfolding hydronicStep
+    (x : HydronicTask) (n : ℕ) (s : Zoned WetPace) → Finite (x .card .layers) (s .zones) → Finite (x .card .layers) (hydronicStep x n s .zones)
+unfolding hydronicStep outcomeOf
 hydronic-turn-finite x n s h =
     hydronic-by-finite x (n + 1) s h (wholeFrom x s)
-    (substep-finite (x .card) (x .pcm) (wetDrive x (x .card .substep) (s .reynold)) (s .zones)) (wholeFrom x s .fault) refl
+    (substep-finite (x .card) (x .pcm) (wetDrive x (x .card .substep) (s .part .reynold)) (s .zones)) (wholeFrom x s .fault) refl
 
 pub hydronic-run-finite :
-    (x : HydronicTask) (k n : ℕ) (s : HydronicRun) → Finite (x .card .layers) (s .zones) → Finite (x .card .layers) (hydronicRun x k n s .run .zones)
+    (x : HydronicTask) (k n : ℕ) (s : Zoned WetPace) → Finite (x .card .layers) (s .zones) → Finite (x .card .layers) (hydronicRun x k n s .zones)
 hydronic-run-finite x =
-    hydronic-induction x (λ k n s d. Finite (x .card .layers) (s .zones) → Finite (x .card .layers) (d .run .zones))
+    hydronic-induction x (λ k n s d. Finite (x .card .layers) (s .zones) → Finite (x .card .layers) (d .zones))
     (λ n s h. h)
     (λ k n s p h. h)
     (λ k n s e q p h. hydronic-turn-finite x n s h)
@@ -172,12 +164,12 @@ hydronic-run-finite x =
 -- the calls' runs
 
 module _ (b : Battery) where
-  electric-finite : (power target : Float) → endRefusal (chargeElectric b power target .end) ≡ 0 → Finite (b .card .layers) (chargeElectric b power target .zones)
-  unfolding chargeElectric electricEnded
+  electric-finite : (power target : Float) → endRefusal (chargeElectric b power target .part .end) ≡ 0 → Finite (b .card .layers) (chargeElectric b power target .zones)
+  unfolding chargeElectric electricEnded outcomeOf
   electric-finite power target e = substep-finite (b .card) (derived (b .card)) (electricDrive b power target) (b .zones) (answers-faultless _ e)
 
-  pub loss-leaves-finite : endRefusal (batteryHeatLoss b .end) ≡ 0 → zonesFinite (batteryHeatLoss b .zones) (b .card .layers) ≡ true
-  unfolding batteryHeatLoss lossEnded
+  pub loss-leaves-finite : endRefusal (batteryHeatLoss b .part .end) ≡ 0 → zonesFinite (batteryHeatLoss b .zones) (b .card .layers) ≡ true
+  unfolding batteryHeatLoss lossEnded outcomeOf
   loss-leaves-finite e = substep-finite (b .card) (derived (b .card)) (lossDrive b) (b .zones) (answers-faultless _ e)
 
   module _ (h : zonesFinite (b .zones) (b .card .layers) ≡ true) where
@@ -185,10 +177,10 @@ module _ (b : Battery) where
     unfolding chargeHydronic hydronicEnded hydronicTask hydronicStart
     hydronic-finite wet target =
         let x = hydronicTask b wet target in
-        hydronic-run-finite x (wholeSubsteps x) 0 (hydronicStart b wet) h
+        hydronic-run-finite x (wholeSubsteps x) 0 (zoned (hydronicStart b wet) (b .zones)) h
 
     pub charge-leaves-finite :
-        (source : Source) (target : Float) → endRefusal (chargeBattery b source target .end) ≡ 0 →
+        (source : Source) (target : Float) → endRefusal (chargeBattery b source target .part .end) ≡ 0 →
         zonesFinite (chargeBattery b source target .zones) (b .card .layers) ≡ true
     unfolding chargeBattery
     charge-leaves-finite (Electric power) target e = electric-finite power target e
@@ -197,10 +189,10 @@ module _ (b : Battery) where
     -- however it ended
     pub demand-leaves-finite : (d : Demand) (feed : Float) → zonesFinite (demandRan b d feed .zones) (b .card .layers) ≡ true
     unfolding demandEnded demandTask demandStart
-    demand-leaves-finite d feed = demand-run-finite (demandTask b d feed) (b .card .budget) 0 (demandStart b) h
+    demand-leaves-finite d feed = demand-run-finite (demandTask b d feed) (b .card .budget) 0 (zoned (demandStart b) (b .zones)) h
 
 -- where the run's zones lie apart, those that it left
 pub left-finite :
-    (n : ℕ) (zones : List Float) (s : Stopped) (e : Ended) → EndedLies s zones e → (endRefusal (e .end) ≡ 0 → zonesFinite (e .zones) n ≡ true) →
+    (n : ℕ) (zones : List Float) (s : Stopped) (e : Zoned Stopped) → AsDefined (endRefusal (s .end)) s zones e → (endRefusal (e .part .end) ≡ 0 → zonesFinite (e .zones) n ≡ true) →
     endRefusal (s .end) ≡ 0 → zonesFinite zones n ≡ true
-left-finite n zones s e lies f h = rw (lies .1 h) (f (ap endRefusal (run-end zones s e lies) ∙ h))
+left-finite n zones s e same f h = rw (same .1 h) (f (ap endRefusal (run-end zones s e same) ∙ h))

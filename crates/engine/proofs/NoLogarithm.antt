@@ -15,20 +15,22 @@ use Rattle.battery.specs.declared.Hydronic.{Hydronic}
 use Rattle.battery.specs.declared.Answer.{Answer}
 use Rattle.battery.specs.declared.Call.{Call}
 use Rattle.battery.specs.declared.Call.the-variants.{DemandEnergy, ChargeElectric, ChargeHydronic, HeatLoss, CloseTimestep, ReadStateOfCharge, ChargeEnergyDemand}
+use Rattle.substep.specs.Substep.{outcomeOf}
 use Rattle.substep.specs.declared.Fault.{Fault}
 use Rattle.substep.specs.declared.Fault.the-variants.{Nothing, Logarithm, NotFinite}
 use Rattle.runs.specs.Runs.{faultEnd, endRefusal}
-use Rattle.delivery.specs.Demand.{demandDrive, demandEnded}
+use Rattle.delivery.specs.Demand.{endPace, demandDrive, demandEnded}
 use Rattle.runs.specs.Hydronic.{hydronicEnded, wholeSubsteps}
 use Rattle.runs.specs.Charge.{electricDrive, electricEnded, chargeElectric, hydronicStart, chargeHydronic, chargeBattery, lossDrive, lossEnded, batteryHeatLoss}
 use Rattle.runs.specs.declared.End.{End}
 use Rattle.runs.specs.declared.End.the-variants.{Done, Negative, Met, NoStep, Level, Limit, Time, OverBudget, NoLogarithm, NotFiniteRun}
-use Rattle.runs.specs.declared.Ended.{Ended}
+use Rattle.runs.specs.declared.Stopped.{Stopped}
 use Rattle.runs.specs.declared.Source.the-variants.{Electric}
 use Rattle.replies.specs.Replies.{demandStart}
-use Rattle.engine.specs.Steps.{demandTask, wetSource, stepOf}
-use Rattle.engine.specs.Budget.{wetOf}
-use Rattle.engine.specs.Faults.{demandRunOf, hydronicTaskOf, hydronicRunOf, DemandFaulted, HydronicFaulted, NoLogarithmTaken}
+use Rattle.runs.specs.Zoned.{Zoned, zoned, onPart}
+use Rattle.engine.specs.Steps.{demandRunOf, demandRan, demandTask, wetSource, stepOf}
+use Rattle.engine.specs.Budget.{hydronicTaskOf, hydronicRunOf, wetOf}
+use Rattle.engine.specs.Faults.{DemandFaulted, HydronicFaulted, NoLogarithmTaken}
 use Rattle.engine.proofs.Turns.{never}
 use Rattle.engine.proofs.Faulty.{logarithm-only, substep-fault, demandFromRun, endFault, demand-run-faults, hydronic-run-faults}
 use Rattle.engine.proofs.Refused.{RunWhy, LevelWhy, Why, refused-why}
@@ -82,37 +84,37 @@ module _ (f : Fault) (some : f ≡ Nothing → ⊥) where
   end-of-fault NotFiniteRun h = ap faultEnd h
 
   demand-faulty :
-      (b : Battery) (d : Demand) (feed : Float) → endFault (demandEnded (demandRunOf b d feed) .end) ≡ f →
-      demandFromRun (demandTask b d feed) (demandRunOf b d feed .run) .fault ≡ f
+      (b : Battery) (d : Demand) (feed : Float) → endFault (demandRan b d feed .part .end) ≡ f →
+      demandFromRun (demandTask b d feed) (onPart endPace (demandRunOf b d feed)) .fault ≡ f
   unfolding demandEnded
   demand-faulty b d feed h =
-      demand-run-faults (demandTask b d feed) (b .card .budget) 0 (demandStart b) (λ z. some (sym h ∙ z)) ∙ h
+      demand-run-faults (demandTask b d feed) (b .card .budget) 0 (zoned (demandStart b) (b .zones)) (λ z. some (sym h ∙ z)) ∙ h
 
-  demand-ended : (b : Battery) (d : Demand) (feed : Float) → endFault (demandEnded (demandRunOf b d feed) .end) ≡ f → demandRunOf b d feed .end ≡ faultEnd f
+  demand-ended : (b : Battery) (d : Demand) (feed : Float) → endFault (demandRan b d feed .part .end) ≡ f → demandRunOf b d feed .part .end ≡ faultEnd f
   unfolding demandEnded
-  demand-ended b d feed h = end-of-fault (demandRunOf b d feed .end) h
+  demand-ended b d feed h = end-of-fault (demandRunOf b d feed .part .end) h
 
   pub demand-faults :
       (b : Battery) (d : Demand) → le (d .required) tolerance ≡ false → (feed : Float) → d .feed ≡ Value feed →
-      endFault (demandEnded (demandRunOf b d feed) .end) ≡ f → DemandFaulted f b d
+      endFault (demandRan b d feed .part .end) ≡ f → DemandFaulted f b d
   unfolding demandTask
   demand-faults b d asked feed given h =
-      let s = demandRunOf b d feed .run in
+      let e = demandRunOf b d feed in
       record {
         asked = asked;
         feed = feed;
         given = given;
         ended = demand-ended b d feed h;
-        fault = substep-fault (b .card) (derived (b .card)) (demandDrive (demandTask b d feed) s) (s .zones) f some (demand-faulty b d feed h);
+        fault = substep-fault (b .card) (derived (b .card)) (demandDrive (demandTask b d feed) (e .part .pace)) (e .zones) f some (demand-faulty b d feed h);
       }
 
-  pub hydronic-faults : (b : Battery) (h : Hydronic) → endFault (chargeBattery b (wetSource h) (h .target) .end) ≡ f → HydronicFaulted f b h
+  pub hydronic-faults : (b : Battery) (h : Hydronic) → endFault (chargeBattery b (wetSource h) (h .target) .part .end) ≡ f → HydronicFaulted f b h
   unfolding chargeBattery wetSource chargeHydronic hydronicEnded
   hydronic-faults b h e =
       let x = hydronicTaskOf b h in
       record {
-        ended = end-of-fault (hydronicRunOf b h .end) e;
-        fault = rw e at (hydronic-run-faults x (wholeSubsteps x) 0 (hydronicStart b (wetOf h)) (λ z. some (sym e ∙ z)));
+        ended = end-of-fault (hydronicRunOf b h .part .end) e;
+        fault = rw e at (hydronic-run-faults x (wholeSubsteps x) 0 (zoned (hydronicStart b (wetOf h)) (b .zones)) (λ z. some (sym e ∙ z)));
       }
 
 pub some-logarithm : Logarithm ≡ Nothing → ⊥
@@ -125,8 +127,8 @@ modes-apart h = never (cc)
 losses-apart : Losses ≡ Normal → ⊥
 losses-apart h = never (cc)
 
-run-24 : (r : Ended) (a : Answer) → RunWhy 24 r a → endFault (r .end) ≡ Logarithm
-run-24 r a (inl h) = end-fault-24 (r .end) h
+run-24 : (r : Zoned Stopped) (a : Answer) → RunWhy 24 r a → endFault (r .part .end) ≡ Logarithm
+run-24 r a (inl h) = end-fault-24 (r .part .end) h
 run-24 r a (inr w) = let n = w .0 in absurd (omega arith)
 
 demand-24 : (b : Battery) (d : Demand) → Why 24 b (DemandEnergy d) → DemandFaulted Logarithm b d
@@ -139,14 +141,14 @@ level-24 b energy (inl w) = let n = w .0 in omega arith
 level-24 b energy (inr w) = let n = w .0 in omega arith
 
 module _ (b : Battery) where
-  electric-24 : (power target : Float) → endFault (chargeBattery b (Electric power) target .end) ≡ Logarithm → ⊥
-  unfolding chargeBattery chargeElectric electricEnded electricDrive
+  electric-24 : (power target : Float) → endFault (chargeBattery b (Electric power) target .part .end) ≡ Logarithm → ⊥
+  unfolding chargeBattery chargeElectric electricEnded electricDrive outcomeOf
   electric-24 power target h =
       let m = logarithm-only (b .card) (derived (b .card)) (electricDrive b power target) (b .zones) (sym (fault-of-end _) ∙ h) .normal in
       modes-apart m
 
-  loss-24 : endFault (batteryHeatLoss b .end) ≡ Logarithm → ⊥
-  unfolding batteryHeatLoss lossEnded lossDrive
+  loss-24 : endFault (batteryHeatLoss b .part .end) ≡ Logarithm → ⊥
+  unfolding batteryHeatLoss lossEnded lossDrive outcomeOf
   loss-24 h =
       let m = logarithm-only (b .card) (derived (b .card)) (lossDrive b) (b .zones) (sym (fault-of-end _) ∙ h) .normal in
       losses-apart m

@@ -10,14 +10,15 @@ use Rattle.battery.specs.declared.Demand.{Demand}
 use Rattle.battery.specs.declared.Answer.{Answer}
 use Rattle.battery.specs.declared.Call.{Call}
 use Rattle.battery.specs.declared.Call.the-variants.{DemandEnergy, ChargeElectric, ChargeHydronic, HeatLoss, CloseTimestep, ReadStateOfCharge, ChargeEnergyDemand}
+use Rattle.substep.specs.Substep.{outcomeOf}
 use Rattle.substep.specs.declared.Fault.the-variants.{Nothing, NotFinite}
-use Rattle.delivery.specs.Demand.{demandEnded}
 use Rattle.runs.specs.Charge.{electricDrive, electricEnded, chargeElectric, chargeBattery, lossDrive, lossEnded, batteryHeatLoss}
-use Rattle.runs.specs.declared.Ended.{Ended}
+use Rattle.runs.specs.declared.Stopped.{Stopped}
 use Rattle.runs.specs.declared.Source.the-variants.{Electric}
 use Rattle.replies.specs.Replies.{demandAnswer}
-use Rattle.engine.specs.Steps.{stepOf}
-use Rattle.engine.specs.Faults.{SubstepFault, demandRunOf, AnswerNotFinite, LevelNotFinite, NotFiniteFound}
+use Rattle.runs.specs.Zoned.{Zoned}
+use Rattle.engine.specs.Steps.{demandRan, stepOf}
+use Rattle.engine.specs.Faults.{SubstepFault, AnswerNotFinite, LevelNotFinite, NotFiniteFound}
 use Rattle.engine.proofs.Turns.{never}
 use Rattle.engine.proofs.Faulty.{substep-fault, endFault}
 use Rattle.engine.proofs.NoLogarithm.{end-fault-23, fault-of-end, demand-faults, hydronic-faults}
@@ -27,8 +28,8 @@ some-not-finite : NotFinite ≡ Nothing → ⊥
 some-not-finite h = never (cc)
 
 -- a run that ended for its substep's sake, or an answer
-run-23 : {A : Type 0} (r : Ended) (a : Answer) → (endFault (r .end) ≡ NotFinite → A) → RunWhy 23 r a → A ⊎ AnswerNotFinite r a
-run-23 r a f (inl h) = inl (f (end-fault-23 (r .end) h))
+run-23 : {A : Type 0} (r : Zoned Stopped) (a : Answer) → (endFault (r .part .end) ≡ NotFinite → A) → RunWhy 23 r a → A ⊎ AnswerNotFinite r a
+run-23 r a f (inl h) = inl (f (end-fault-23 (r .part .end) h))
 run-23 r a f (inr w) = inr (w .1)
 
 level-23 : (b : Battery) (energy : Float → Float) → LevelWhy 23 b energy → LevelNotFinite b energy
@@ -38,9 +39,9 @@ level-23 b energy (inr w) = w .1
 module _ (b : Battery) where
   module _ (d : Demand) (w : DemandWhy 23 b d) where
     demand-run-23 :
-        RunWhy 23 (demandEnded (demandRunOf b d (w .feed))) (demandAnswer b d (demandEnded (demandRunOf b d (w .feed)))) → NotFiniteFound b (DemandEnergy d)
+        RunWhy 23 (demandRan b d (w .feed)) (demandAnswer b d (demandRan b d (w .feed))) → NotFiniteFound b (DemandEnergy d)
     demand-run-23 (inl h) =
-        let e = end-fault-23 (demandEnded (demandRunOf b d (w .feed)) .end) h in
+        let e = end-fault-23 (demandRan b d (w .feed) .part .end) h in
         inl (demand-faults NotFinite some-not-finite b d (w .asked) (w .feed) (w .given) e)
     demand-run-23 (inr v) = inr (inl (record { asked = w .asked; feed = w .feed; given = w .given; answer = v .1 }))
 
@@ -49,14 +50,14 @@ module _ (b : Battery) where
   demand-23 d (inr w) = demand-run-23 d w (w .why)
 
   electric-23 :
-      (power target : Float) → endFault (chargeBattery b (Electric power) target .end) ≡ NotFinite →
+      (power target : Float) → endFault (chargeBattery b (Electric power) target .part .end) ≡ NotFinite →
       SubstepFault NotFinite (b .card) (derived (b .card)) (electricDrive b power target) (b .zones)
-  unfolding chargeBattery chargeElectric electricEnded
+  unfolding chargeBattery chargeElectric electricEnded outcomeOf
   electric-23 power target h =
       substep-fault (b .card) (derived (b .card)) (electricDrive b power target) (b .zones) NotFinite some-not-finite (sym (fault-of-end _) ∙ h)
 
-  loss-23 : endFault (batteryHeatLoss b .end) ≡ NotFinite → SubstepFault NotFinite (b .card) (derived (b .card)) (lossDrive b) (b .zones)
-  unfolding batteryHeatLoss lossEnded
+  loss-23 : endFault (batteryHeatLoss b .part .end) ≡ NotFinite → SubstepFault NotFinite (b .card) (derived (b .card)) (lossDrive b) (b .zones)
+  unfolding batteryHeatLoss lossEnded outcomeOf
   loss-23 h = substep-fault (b .card) (derived (b .card)) (lossDrive b) (b .zones) NotFinite some-not-finite (sym (fault-of-end _) ∙ h)
 
 why-23 : (b : Battery) (call : Call) → Why 23 b call → NotFiniteFound b call

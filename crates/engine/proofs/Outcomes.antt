@@ -21,7 +21,8 @@ use Rattle.runs.specs.Runs.{endRefusal}
 use Rattle.replies.specs.Replies.{checked, unlessRefused, runAnswer, chargedBattery, cooledBattery, closedBattery}
 use Rattle.runs.specs.declared.End.{End}
 use Rattle.runs.specs.declared.End.the-variants.{Done, Negative, Met, NoStep, Level, Limit, Time, OverBudget, NoLogarithm, NotFiniteRun}
-use Rattle.runs.specs.declared.Ended.{Ended}
+use Rattle.runs.specs.declared.Stopped.{Stopped}
+use Rattle.runs.specs.Zoned.{Zoned}
 
 -- the battery c behind b: its card, its count and the places above the count
 pub record StateKept (b c : Battery) : Type 0 where
@@ -83,12 +84,12 @@ module _ (b : Battery) (charges asks : Bool) (a : Answer) (k : Kept b charges as
       (λ h. answered (is-true (answerFinite a) h) k)
       (λ h. refused-outcome b charges asks 23 (omega arith) (omega arith))
 
-  pub run-outcome : (r : Ended) → Outcome b charges asks (unlessRefused b r a)
+  pub run-outcome : (r : Zoned Stopped) → Outcome b charges asks (unlessRefused b r a)
   unfolding unlessRefused
   run-outcome r =
-      by-test (Outcome b charges asks) (eqb (endRefusal (r .end)) 0) (checked b a) (refusedWith (endRefusal (r .end)) b)
+      by-test (Outcome b charges asks) (eqb (endRefusal (r .part .end)) 0) (checked b a) (refusedWith (endRefusal (r .part .end)) b)
       (λ h. checked-outcome)
-      (λ h. let w = end-refusals (r .end) (eqb-false (endRefusal (r .end)) 0 h) in refused-outcome b charges asks (endRefusal (r .end)) (omega arith) (omega arith))
+      (λ h. let w = end-refusals (r .part .end) (eqb-false (endRefusal (r .part .end)) 0 h) in refused-outcome b charges asks (endRefusal (r .part .end)) (omega arith) (omega arith))
 
 -- the answers' batteries
 pub plain-kept : (b : Battery) (asks : Bool) (energy : Float) → Kept b false asks (plainAnswer energy b)
@@ -108,7 +109,7 @@ closed-kept b =
       same = λ h. no-both (sym h);
     }
 
-module _ (b : Battery) (r : Ended) (h : SameAbove (b .card .layers) (b .zones) (r .zones)) (n : 1 ≤ b .card .budget → r .substeps ≤ b .card .budget) where
+module _ (b : Battery) (r : Zoned Stopped) (h : SameAbove (b .card .layers) (b .zones) (r .zones)) (n : 1 ≤ b .card .budget → r .part .substeps ≤ b .card .budget) where
   pub charged-kept : Kept b true false (runAnswer r (chargedBattery b r))
   unfolding runAnswer chargedBattery
   charged-kept =

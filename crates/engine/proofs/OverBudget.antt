@@ -23,15 +23,16 @@ use Rattle.battery.specs.declared.Answer.{Answer}
 use Rattle.battery.specs.declared.Call.{Call}
 use Rattle.battery.specs.declared.Call.the-variants.{DemandEnergy, ChargeElectric, ChargeHydronic, HeatLoss, CloseTimestep, ReadStateOfCharge, ChargeEnergyDemand}
 use Rattle.runs.specs.Runs.{faultEnd, endRefusal}
-use Rattle.delivery.specs.Demand.{demandRun, demandEnded}
+use Rattle.delivery.specs.Demand.{demandEnded}
 use Rattle.runs.specs.Hydronic.{hydronicEnded, wholeSubsteps}
 use Rattle.runs.specs.Charge.{electricEnded, chargeElectric, hydronicTask, hydronicStart, chargeHydronic, chargeBattery, lossEnded, batteryHeatLoss, chargeEnergyDemand}
 use Rattle.totals.specs.Classes.{serviceClass, unserved}
 use Rattle.replies.specs.Replies.{checked, unlessRefused, demandStart, demandAnswer, runAnswer, chargedBattery, cooledBattery, closedBattery}
-use Rattle.engine.specs.Steps.{demandTask, demandFrom, demandGiven, demandEnergy, charge, heatLoss, level, readLevel, demandToLevel, wetSource, stepOf}
-use Rattle.runs.specs.declared.Ended.{Ended}
+use Rattle.engine.specs.Steps.{demandRan, demandTask, demandFrom, demandGiven, demandEnergy, charge, heatLoss, level, readLevel, demandToLevel, wetSource, stepOf}
+use Rattle.runs.specs.declared.Stopped.{Stopped}
 use Rattle.runs.specs.declared.Source.the-variants.{Electric}
 use Rattle.runs.specs.declared.End.the-variants.{OverBudget}
+use Rattle.runs.specs.Zoned.{Zoned, zoned}
 use Rattle.engine.specs.Budget.{DemandUsed, wetOf, HydronicUsed, BudgetUsed}
 use Rattle.engine.proofs.Outcomes.{end-over-budget}
 use Rattle.engine.proofs.Promises.{refused-number}
@@ -44,12 +45,12 @@ checked-not-over b a z =
     let n = refused-number 23 b in
     by-test (λ (c : Answer). c .refusal ≡ 22 → ⊥) (answerFinite a) a (refusedWith 23 b) (λ t h. omega arith) (λ t h. omega arith)
 
-run-over : (b : Battery) (r : Ended) (a : Answer) → a .refusal ≡ 0 → unlessRefused b r a .refusal ≡ 22 → r .end ≡ OverBudget
+run-over : (b : Battery) (r : Zoned Stopped) (a : Answer) → a .refusal ≡ 0 → unlessRefused b r a .refusal ≡ 22 → r .part .end ≡ OverBudget
 unfolding unlessRefused
 run-over b r a z =
-    by-test (λ (c : Answer). c .refusal ≡ 22 → r .end ≡ OverBudget) (eqb (endRefusal (r .end)) 0) (checked b a) (refusedWith (endRefusal (r .end)) b)
+    by-test (λ (c : Answer). c .refusal ≡ 22 → r .part .end ≡ OverBudget) (eqb (endRefusal (r .part .end)) 0) (checked b a) (refusedWith (endRefusal (r .part .end)) b)
     (λ t h. absurd (checked-not-over b a z h))
-    (λ t h. end-over-budget (r .end) (sym (refused-number (endRefusal (r .end)) b) ∙ h))
+    (λ t h. end-over-budget (r .part .end) (sym (refused-number (endRefusal (r .part .end)) b) ∙ h))
 
 -- one substep never uses a budget up
 fault-not-over : (f : Fault) → faultEnd f ≡ OverBudget → ⊥
@@ -59,20 +60,20 @@ fault-not-over Logarithm h = let z : _≡_ {A = ℕ} 0 1 = cc in omega arith
 fault-not-over NotFinite h = let z : _≡_ {A = ℕ} 0 1 = cc in omega arith
 
 module _ (b : Battery) (d : Demand) (asked : le (d .required) tolerance ≡ false) where
-  ran : (feed : Float) → d .feed ≡ Value feed → demandEnded (demandRun (demandTask b d feed) (b .card .budget) 0 (demandStart b)) .end ≡ OverBudget → DemandUsed b d
+  ran : (feed : Float) → d .feed ≡ Value feed → demandRan b d feed .part .end ≡ OverBudget → DemandUsed b d
   unfolding demandEnded
   ran feed e h =
-      let o = demand-run-over (demandTask b d feed) (b .card .budget) 0 (demandStart b) h in
+      let o = demand-run-over (demandTask b d feed) (b .card .budget) 0 (zoned (demandStart b) (b .zones)) h in
       record { asked = asked; feed = feed; given = e; over = record { ended = o .ended; used = o .used ∙ zero-add (b .card .budget); due = o .due } }
 
-  answers : (r : Ended) → demandAnswer b d r .refusal ≡ 0
+  answers : (r : Zoned Stopped) → demandAnswer b d r .refusal ≡ 0
   unfolding demandAnswer
   answers r = refl
 
   demand-from : (feed : Float) → d .feed ≡ Value feed → demandFrom b d feed .refusal ≡ 22 → DemandUsed b d
   unfolding demandFrom
   demand-from feed e =
-      let r = demandEnded (demandRun (demandTask b d feed) (b .card .budget) 0 (demandStart b)) in
+      let r = demandRan b d feed in
       let n = refused-number 21 b in
       by-test (λ (c : Answer). c .refusal ≡ 22 → DemandUsed b d) (d .commit && unserved (serviceClass (b .card) (d .service))) (refusedWith 21 b) (unlessRefused b r (demandAnswer b d r))
       (λ t h. absurd (omega arith))
@@ -87,7 +88,7 @@ plain-answers : (energy : Float) (b : Battery) → plainAnswer energy b .refusal
 unfolding plainAnswer
 plain-answers energy b = refl
 
-run-answers : (r : Ended) (b : Battery) → runAnswer r b .refusal ≡ 0
+run-answers : (r : Zoned Stopped) (b : Battery) → runAnswer r b .refusal ≡ 0
 unfolding runAnswer
 run-answers r b = refl
 
@@ -111,7 +112,7 @@ module _ (b : Battery) where
       let r = chargeBattery b (wetSource w) (w .target) in
       let x = hydronicTask b (wetOf w) (w .target) in
       let e = run-over b r (runAnswer r (chargedBattery b r)) (run-answers r (chargedBattery b r)) h in
-      record { over = rw zero-add at (hydronic-run-over x (wholeSubsteps x) 0 (hydronicStart b (wetOf w)) e) }
+      record { over = rw zero-add at (hydronic-run-over x (wholeSubsteps x) 0 (zoned (hydronicStart b (wetOf w)) (b .zones)) e) }
 
   loss-over : heatLoss b .refusal ≡ 22 → ⊥
   unfolding heatLoss batteryHeatLoss lossEnded

@@ -20,26 +20,26 @@ use Rattle.battery.specs.declared.Answer.{Answer}
 use Rattle.battery.specs.declared.Call.{Call}
 use Rattle.battery.specs.declared.Call.the-variants.{DemandEnergy, ChargeElectric, ChargeHydronic, HeatLoss, CloseTimestep, ReadStateOfCharge, ChargeEnergyDemand}
 use Rattle.runs.specs.Runs.{endRefusal}
-use Rattle.delivery.specs.Demand.{demandEnded}
 use Rattle.runs.specs.Charge.{chargeBattery, batteryHeatLoss, chargeEnergyDemand}
-use Rattle.runs.specs.declared.Ended.{Ended}
+use Rattle.runs.specs.declared.Stopped.{Stopped}
 use Rattle.runs.specs.declared.Source.{Source}
 use Rattle.runs.specs.declared.Source.the-variants.{Electric}
 use Rattle.totals.specs.Classes.{serviceClass, unserved}
 use Rattle.replies.specs.Replies.{checked, unlessRefused, demandAnswer, runAnswer, chargedBattery, cooledBattery, closedBattery}
-use Rattle.engine.specs.Steps.{demandFrom, demandGiven, demandEnergy, charge, heatLoss, level, readLevel, demandToLevel, wetSource, stepOf}
-use Rattle.engine.specs.Faults.{demandRunOf, AnswerNotFinite, NoDemandNotFinite, LevelNotFinite}
+use Rattle.runs.specs.Zoned.{Zoned}
+use Rattle.engine.specs.Steps.{demandRan, demandFrom, demandGiven, demandEnergy, charge, heatLoss, level, readLevel, demandToLevel, wetSource, stepOf}
+use Rattle.engine.specs.Faults.{AnswerNotFinite, NoDemandNotFinite, LevelNotFinite}
 use Rattle.engine.proofs.Promises.{refused-number}
 
 -- by the refusal's number
-abbrev pub RunWhy : ℕ → Ended → Answer → Type 0
-RunWhy n r a = (endRefusal (r .end) ≡ n) ⊎ ((n ≡ 23) × AnswerNotFinite r a)
+abbrev pub RunWhy : ℕ → Zoned Stopped → Answer → Type 0
+RunWhy n r a = (endRefusal (r .part .end) ≡ n) ⊎ ((n ≡ 23) × AnswerNotFinite r a)
 
 pub record DemandWhy (n : ℕ) (b : Battery) (d : Demand) : Type 0 where
   pub asked : le (d .required) tolerance ≡ false
   pub feed : Float
   pub given : d .feed ≡ Value feed
-  pub why : RunWhy n (demandEnded (demandRunOf b d feed)) (demandAnswer b d (demandEnded (demandRunOf b d feed)))
+  pub why : RunWhy n (demandRan b d feed) (demandAnswer b d (demandRan b d feed))
 
 abbrev pub LevelWhy : ℕ → Battery → (Float → Float) → Type 0
 LevelWhy n b energy = ((n ≡ 25) × (level b ≡ Above)) ⊎ ((n ≡ 23) × LevelNotFinite b energy)
@@ -60,11 +60,11 @@ plain-answers : (energy : Float) (b : Battery) → plainAnswer energy b .refusal
 unfolding plainAnswer
 plain-answers energy b = refl
 
-run-answers : (r : Ended) (b : Battery) → runAnswer r b .refusal ≡ 0
+run-answers : (r : Zoned Stopped) (b : Battery) → runAnswer r b .refusal ≡ 0
 unfolding runAnswer
 run-answers r b = refl
 
-demand-answers : (b : Battery) (d : Demand) (r : Ended) → demandAnswer b d r .refusal ≡ 0
+demand-answers : (b : Battery) (d : Demand) (r : Zoned Stopped) → demandAnswer b d r .refusal ≡ 0
 unfolding demandAnswer
 demand-answers b d r = refl
 
@@ -77,18 +77,18 @@ module _ (n : ℕ) (l : 22 ≤ n) (b : Battery) where
       (λ t h. absurd (omega arith))
       (λ t h. (sym h ∙ m, t))
 
-  run-why : (r : Ended) (a : Answer) → a .refusal ≡ 0 → unlessRefused b r a .refusal ≡ n → RunWhy n r a
+  run-why : (r : Zoned Stopped) (a : Answer) → a .refusal ≡ 0 → unlessRefused b r a .refusal ≡ n → RunWhy n r a
   unfolding unlessRefused
   run-why r a z =
-      by-test (λ (c : Answer). c .refusal ≡ n → RunWhy n r a) (eqb (endRefusal (r .end)) 0) (checked b a) (refusedWith (endRefusal (r .end)) b)
-      (λ t h. let w = checked-why a z h in inr (w .0, record { ended = eqb→eq (endRefusal (r .end)) 0 t; found = w .1 }))
-      (λ t h. inl (sym (refused-number (endRefusal (r .end)) b) ∙ h))
+      by-test (λ (c : Answer). c .refusal ≡ n → RunWhy n r a) (eqb (endRefusal (r .part .end)) 0) (checked b a) (refusedWith (endRefusal (r .part .end)) b)
+      (λ t h. let w = checked-why a z h in inr (w .0, record { ended = eqb→eq (endRefusal (r .part .end)) 0 t; found = w .1 }))
+      (λ t h. inl (sym (refused-number (endRefusal (r .part .end)) b) ∙ h))
 
   module _ (d : Demand) (asked : le (d .required) tolerance ≡ false) where
     demand-from : (feed : Float) → d .feed ≡ Value feed → demandFrom b d feed .refusal ≡ n → DemandWhy n b d
     unfolding demandFrom
     demand-from feed e =
-        let r = demandEnded (demandRunOf b d feed) in
+        let r = demandRan b d feed in
         let m = refused-number 21 b in
         by-test (λ (c : Answer). c .refusal ≡ n → DemandWhy n b d) (d .commit && unserved (serviceClass (b .card) (d .service))) (refusedWith 21 b) (unlessRefused b r (demandAnswer b d r))
         (λ t h. absurd (omega arith))

@@ -22,30 +22,31 @@ use Rattle.battery.specs.declared.Call.the-variants.{DemandEnergy, ChargeElectr
 use Rattle.battery.specs.declared.Answer.{Answer}
 use Rattle.battery.specs.Places.{SameAbove}
 use Rattle.substep.proofs.Above.{substep-above}
-use Rattle.runs.specs.declared.Ended.{Ended}
+use Rattle.runs.specs.declared.Stopped.{Stopped}
 use Rattle.runs.specs.declared.Exchanger.{Exchanger}
 use Rattle.runs.specs.declared.Source.{Source}
 use Rattle.runs.specs.declared.Source.the-variants.{Electric, Wet}
-use Rattle.delivery.specs.Demand.{demandRun, demandEnded}
+use Rattle.delivery.specs.Demand.{demandEnded}
 use Rattle.runs.specs.Hydronic.{hydronicEnded, wholeSubsteps}
 use Rattle.runs.specs.Charge.{electricDrive, electricEnded, chargeElectric, hydronicTask, hydronicStart, chargeHydronic, chargeBattery, lossDrive, lossEnded, batteryHeatLoss, chargeEnergyDemand}
 use Rattle.totals.specs.Classes.{serviceClass, unserved}
 use Rattle.replies.specs.Replies.{demandStart, served, demandKept, demandAnswer, chargedBattery, cooledBattery, runAnswer, closedBattery}
-use Rattle.engine.specs.Steps.{demandTask, demandFrom, demandGiven, demandEnergy, charge, heatLoss, level, readLevel, demandToLevel, wetSource, stepOf}
+use Rattle.runs.specs.Zoned.{Zoned, zoned}
+use Rattle.engine.specs.Steps.{demandRan, demandTask, demandFrom, demandGiven, demandEnergy, charge, heatLoss, level, readLevel, demandToLevel, wetSource, stepOf}
 use Rattle.engine.proofs.Ends.{demand-run-above, demand-run-count, hydronic-run-above, hydronic-run-count}
 use Rattle.engine.proofs.Outcomes.{StateKept, state-kept, Kept, Outcome, refused-outcome, checked-outcome, run-outcome, plain-kept, closed-kept, charged-kept, cooled-kept}
 
 -- what a run hands out
-pub record EndedKept (b : Battery) (r : Ended) : Type 0 where
+pub record EndedKept (b : Battery) (r : Zoned Stopped) : Type 0 where
   pub above : SameAbove (b .card .layers) (b .zones) (r .zones)
-  pub substeps : 1 ≤ b .card .budget → r .substeps ≤ b .card .budget
+  pub substeps : 1 ≤ b .card .budget → r .part .substeps ≤ b .card .budget
 
 module _ (b : Battery) where
-  demand-ended : (d : Demand) (feed : Float) → EndedKept b (demandEnded (demandRun (demandTask b d feed) (b .card .budget) 0 (demandStart b)))
+  demand-ended : (d : Demand) (feed : Float) → EndedKept b (demandRan b d feed)
   unfolding demandEnded demandTask demandStart
   demand-ended d feed =
-      let n = demand-run-count (demandTask b d feed) (b .card .budget) 0 (demandStart b) in
-      record { above = demand-run-above (demandTask b d feed) (b .card .budget) 0 (demandStart b); substeps = λ h. omega arith }
+      let n = demand-run-count (demandTask b d feed) (b .card .budget) 0 (zoned (demandStart b) (b .zones)) in
+      record { above = demand-run-above (demandTask b d feed) (b .card .budget) 0 (zoned (demandStart b) (b .zones)); substeps = λ h. omega arith }
 
   electric-ended : (power target : Float) → EndedKept b (chargeElectric b power target)
   unfolding chargeElectric electricEnded
@@ -57,8 +58,8 @@ module _ (b : Battery) where
   hydronic-ended wet target =
       let x = hydronicTask b wet target in
       record {
-        above = hydronic-run-above x (wholeSubsteps x) 0 (hydronicStart b wet);
-        substeps = λ h. hydronic-run-count x (wholeSubsteps x) 0 (hydronicStart b wet) (omega arith);
+        above = hydronic-run-above x (wholeSubsteps x) 0 (zoned (hydronicStart b wet) (b .zones));
+        substeps = λ h. hydronic-run-count x (wholeSubsteps x) 0 (zoned (hydronicStart b wet) (b .zones)) (omega arith);
       }
 
   charge-ended : (source : Source) (target : Float) → EndedKept b (chargeBattery b source target)
@@ -76,7 +77,7 @@ same-of-not true x y h = no-both (sym h)
 same-of-not false x y h = refl
 
 module _ (b : Battery) (d : Demand) where
-  demand-kept : (r : Ended) → EndedKept b r → Kept b false (not (d .commit)) (demandAnswer b d r)
+  demand-kept : (r : Zoned Stopped) → EndedKept b r → Kept b false (not (d .commit)) (demandAnswer b d r)
   unfolding demandAnswer demandKept served
   demand-kept r k =
       let s = served b (serviceClass (b .card) (d .service)) r in
@@ -95,7 +96,7 @@ module _ (b : Battery) (d : Demand) where
   demand-from : (feed : Float) → Demanded (demandFrom b d feed)
   unfolding demandFrom
   demand-from feed =
-      let r = demandEnded (demandRun (demandTask b d feed) (b .card .budget) 0 (demandStart b)) in
+      let r = demandRan b d feed in
       by-test Demanded (d .commit && unserved (serviceClass (b .card) (d .service))) _ _
       (λ h. refused-outcome b false (not (d .commit)) 21 (omega arith) (omega arith))
       (λ h. run-outcome b false (not (d .commit)) (demandAnswer b d r) (demand-kept r (demand-ended b d feed)) r)

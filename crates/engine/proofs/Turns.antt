@@ -11,69 +11,68 @@ use Rattle.floats.proofs.Cases.{by-test}
 use Rattle.zone.specs.Heat.{kj, kwh, kilowattHours}
 use Rattle.battery.specs.Places.{SameAbove}
 use Rattle.battery.proofs.Zones.{same-above}
-use Rattle.substep.specs.Substep.{processHeatBatteryZones}
+use Rattle.substep.specs.Substep.{outcomeOf, processHeatBatteryZones}
+use Rattle.substep.specs.declared.Outcome.{Outcome}
 use Rattle.substep.specs.declared.Substep.{Substep}
 use Rattle.substep.specs.declared.Fault.{Fault}
 use Rattle.substep.specs.declared.Fault.the-variants.{Nothing, Logarithm, NotFinite}
 use Rattle.substep.proofs.Above.{substep-above}
-use Rattle.runs.specs.Runs.{reynoldBetween}
+use Rattle.runs.specs.Runs.{outcome, reynoldBetween}
 use Rattle.engine.specs.Budget.{wholeFrom, FractionDue}
 use Rattle.delivery.specs.declared.DemandTask.{DemandTask}
-use Rattle.delivery.specs.declared.DemandTurn.{DemandTurn}
-use Rattle.delivery.specs.declared.Run.{Run}
+use Rattle.delivery.specs.declared.PaceTurn.{PaceTurn}
+use Rattle.delivery.specs.declared.Pace.{Pace}
 use Rattle.runs.specs.declared.HydronicTask.{HydronicTask}
-use Rattle.runs.specs.declared.HydronicRun.{HydronicRun}
-use Rattle.runs.specs.declared.HydronicTurn.{HydronicTurn}
+use Rattle.runs.specs.declared.WetPace.{WetPace}
+use Rattle.runs.specs.declared.WetTurn.{WetTurn}
 use Rattle.runs.specs.declared.End.the-variants.{OverBudget}
 use Rattle.runs.specs.declared.Next.the-variants.{Stop}
-use Rattle.delivery.specs.Demand.{demandDrive, demandMet, runAfter, demandDelivered, demandBy, demandSubstep}
-use Rattle.runs.specs.Hydronic.{wetDrive, clearlyBelow, limitReached, replayBy, replayed, fractionSeconds, hydronicWhole, hydronicBy, hydronicStep}
+use Rattle.delivery.specs.Demand.{demandDrive, demandMet, demandDelivered, demandBy, demandSubstep}
+use Rattle.runs.specs.Hydronic.{wetDrive, clearlyBelow, limitReached, replayBy, replayed, fractionSeconds, hydronicWhole, hydronicBy, hydronicStep, wetPace}
+use Rattle.runs.specs.Zoned.{Zoned, onPart}
 
 -- two constructors are apart: `never (cc)`
 pub never : {A : Type 0} → _≡_ {A = ℕ} 0 1 → A
 never h = absurd (omega arith)
 
 -- the turn behind s
-pub record DemandKeeps (x : DemandTask) (s : Run) (t : DemandTurn) : Type 0 where
-  pub above : SameAbove (x .card .layers) (s .zones) (t .run .zones)
-  pub within : t .next ≡ Stop OverBudget → ⊥
+pub record DemandKeeps (x : DemandTask) (s : Zoned Pace) (t : Zoned PaceTurn) : Type 0 where
+  pub above : SameAbove (x .card .layers) (s .zones) (t .zones)
+  pub within : t .part .next ≡ Stop OverBudget → ⊥
 
-module _ (x : DemandTask) (s : Run) (u : Substep) (h : SameAbove (x .card .layers) (s .zones) (u .zones)) where
-  demand-delivered : DemandKeeps x s (demandDelivered x s u)
-  unfolding demandDelivered runAfter
-  demand-delivered =
-      by-test (DemandKeeps x s) (lt (u .delivered .0) Constants.zero) _ _
-      (λ a. record { above = h; within = λ e. never (cc) })
-      (λ a. by-test (DemandKeeps x s) (demandMet x (kwh (s .delivered .0 ⊕ kilowattHours (u .delivered) .0))) _ _
-      (λ b. record { above = h; within = λ e. never (cc) })
-      (λ b. record { above = h; within = λ e. never (cc) }))
+demand-delivered : (x : DemandTask) (s : Pace) (o : Outcome) → demandDelivered x s o .next ≡ Stop OverBudget → ⊥
+unfolding demandDelivered
+demand-delivered x s o =
+    let Within : PaceTurn → Type 0 = λ (t : PaceTurn). t .next ≡ Stop OverBudget → ⊥ in
+    by-test Within (lt (o .delivered .0) Constants.zero) _ _
+    (λ a e. never (cc))
+    (λ a. by-test Within (demandMet x (kwh (s .delivered .0 ⊕ kilowattHours (o .delivered) .0))) _ _ (λ b e. never (cc)) (λ b e. never (cc)))
 
-  demand-by : (f : Fault) → DemandKeeps x s (demandBy x s u f)
-  unfolding demandBy
-  demand-by Nothing = demand-delivered
-  demand-by Logarithm = record { above = same-above (x .card .layers) (s .zones); within = λ e. never (cc) }
-  demand-by NotFinite = record { above = same-above (x .card .layers) (s .zones); within = λ e. never (cc) }
+demand-by :
+    (x : DemandTask) (s : Zoned Pace) (u : Zoned Outcome) → SameAbove (x .card .layers) (s .zones) (u .zones) → (f : Fault) → DemandKeeps x s (demandBy x s u f)
+unfolding demandBy
+demand-by x s u h Nothing = record { above = h; within = demand-delivered x (s .part) (u .part) }
+demand-by x s u h Logarithm = record { above = same-above (x .card .layers) (s .zones); within = λ e. never (cc) }
+demand-by x s u h NotFinite = record { above = same-above (x .card .layers) (s .zones); within = λ e. never (cc) }
 
-pub demand-keeps : (x : DemandTask) (s : Run) → DemandKeeps x s (demandSubstep x s)
+pub demand-keeps : (x : DemandTask) (s : Zoned Pace) → DemandKeeps x s (demandSubstep x s)
 unfolding demandSubstep
-demand-keeps x s =
-    let u = processHeatBatteryZones (x .card) (x .pcm) (demandDrive x s) (s .zones) in
-    demand-by x s u (substep-above (x .card) (x .pcm) (demandDrive x s) (s .zones)) (u .fault)
+demand-keeps x s = demand-by x s _ (substep-above (x .card) (x .pcm) (demandDrive x (s .part)) (s .zones)) _
 
 -- the turn t behind s: n substeps are done, u the last of them
-pub record HydronicKeeps (x : HydronicTask) (n : ℕ) (s : HydronicRun) (u : Substep) (t : HydronicTurn) : Type 0 where
-  pub above : SameAbove (x .card .layers) (s .zones) (t .run .zones)
-  pub count : n ≤ x .card .budget → t .substeps ≤ x .card .budget
-  pub used : t .next ≡ Stop OverBudget → t .substeps ≡ x .card .budget
-  pub same : t .next ≡ Stop OverBudget → t .run ≡ s
-  pub due : t .next ≡ Stop OverBudget → FractionDue x s u
+pub record HydronicKeeps (x : HydronicTask) (n : ℕ) (s : Zoned WetPace) (u : Substep) (t : Zoned WetTurn) : Type 0 where
+  pub above : SameAbove (x .card .layers) (s .zones) (t .zones)
+  pub count : n ≤ x .card .budget → t .part .substeps ≤ x .card .budget
+  pub used : t .part .next ≡ Stop OverBudget → t .part .substeps ≡ x .card .budget
+  pub same : t .part .next ≡ Stop OverBudget → onPart wetPace t ≡ s
+  pub due : t .part .next ≡ Stop OverBudget → FractionDue x s u
 
-module _ (x : HydronicTask) (n : ℕ) (s : HydronicRun) where
+module _ (x : HydronicTask) (n : ℕ) (s : Zoned WetPace) where
   -- the fractional substep, where it is due
   module _ (u : Substep) (f : FractionDue x s u) (seconds reynold : Float) where
     replay-by :
         (v : Substep) → SameAbove (x .card .layers) (s .zones) (v .zones) → (n ≡ x .card .budget → ⊥) → (e : Fault) →
-        HydronicKeeps x n s u (replayBy x (n + 1) s seconds reynold v e)
+        HydronicKeeps x n s u (replayBy x (n + 1) s seconds reynold (outcome v) e)
     unfolding replayBy
     replay-by v h q Nothing = record { above = h; count = λ b. omega arith; used = λ e. never (cc); same = λ e. never (cc); due = λ e. f }
     replay-by v h q Logarithm =
@@ -82,7 +81,7 @@ module _ (x : HydronicTask) (n : ℕ) (s : HydronicRun) where
         record { above = same-above (x .card .layers) (s .zones); count = λ b. omega arith; used = λ e. never (cc); same = λ e. refl; due = λ e. f }
 
     replay-keeps : HydronicKeeps x n s u (replayed x n s seconds reynold)
-    unfolding replayed
+    unfolding replayed outcomeOf
     replay-keeps =
         let v = processHeatBatteryZones (x .card) (x .pcm) (wetDrive x seconds reynold) (s .zones) in
         by-test (HydronicKeeps x n s u) (eqb n (x .card .budget)) _ _
@@ -92,15 +91,15 @@ module _ (x : HydronicTask) (n : ℕ) (s : HydronicRun) where
   module _ (u : Substep) where
     -- a turn of n substeps that does not end for the budget's sake
     n-substeps :
-        (t : HydronicTurn) → SameAbove (x .card .layers) (s .zones) (t .run .zones) → t .substeps ≡ n → (t .next ≡ Stop OverBudget → ⊥) → HydronicKeeps x n s u t
+        (t : Zoned WetTurn) → SameAbove (x .card .layers) (s .zones) (t .zones) → t .part .substeps ≡ n → (t .part .next ≡ Stop OverBudget → ⊥) → HydronicKeeps x n s u t
     n-substeps t h m q = record { above = h; count = λ b. omega arith; used = λ e. absurd (q e); same = λ e. absurd (q e); due = λ e. absurd (q e) }
 
-    hydronic-whole : SameAbove (x .card .layers) (s .zones) (u .zones) → u .fault ≡ Nothing → HydronicKeeps x n s u (hydronicWhole x n s u)
-    unfolding hydronicWhole
+    hydronic-whole : SameAbove (x .card .layers) (s .zones) (u .zones) → u .fault ≡ Nothing → HydronicKeeps x n s u (hydronicWhole x n s (outcome u))
+    unfolding hydronicWhole outcomeOf
     hydronic-whole h w =
         let reynold = reynoldBetween (x .wet .inlet) (u .outlet) (x .wet .velocity) (x .wet .diameter) in
         let this = kj (neg (u .delivered .0)) in
-        let absorbed = kj (s .absorbed .0 ⊕ this .0) in
+        let absorbed = kj (s .part .absorbed .0 ⊕ this .0) in
         by-test (HydronicKeeps x n s u) (clearlyBelow (u .outlet) (x .wet .inlet)) _ _
         (λ a. by-test (HydronicKeeps x n s u) (limitReached absorbed (x .limit)) _ _
         (λ b. by-test (HydronicKeeps x n s u) (lt Constants.zero (this .0)) _ _
@@ -109,13 +108,13 @@ module _ (x : HydronicTask) (n : ℕ) (s : HydronicRun) where
         (λ b. n-substeps _ h refl (λ e. never (cc))))
         (λ a. n-substeps _ h refl (λ e. never (cc)))
 
-    hydronic-by : SameAbove (x .card .layers) (s .zones) (u .zones) → (f : Fault) → u .fault ≡ f → HydronicKeeps x n s u (hydronicBy x n s u f)
+    hydronic-by : SameAbove (x .card .layers) (s .zones) (u .zones) → (f : Fault) → u .fault ≡ f → HydronicKeeps x n s u (hydronicBy x n s (outcome u) f)
     unfolding hydronicBy
     hydronic-by h Nothing w = hydronic-whole h w
     hydronic-by h Logarithm w = n-substeps _ (same-above (x .card .layers) (s .zones)) refl (λ e. never (cc))
     hydronic-by h NotFinite w = n-substeps _ (same-above (x .card .layers) (s .zones)) refl (λ e. never (cc))
 
-pub hydronic-keeps : (x : HydronicTask) (n : ℕ) (s : HydronicRun) → HydronicKeeps x (n + 1) s (wholeFrom x s) (hydronicStep x n s)
-unfolding hydronicStep
+pub hydronic-keeps : (x : HydronicTask) (n : ℕ) (s : Zoned WetPace) → HydronicKeeps x (n + 1) s (wholeFrom x s) (hydronicStep x n s)
+unfolding hydronicStep outcomeOf
 hydronic-keeps x n s =
-    hydronic-by x (n + 1) s (wholeFrom x s) (substep-above (x .card) (x .pcm) (wetDrive x (x .card .substep) (s .reynold)) (s .zones)) (wholeFrom x s .fault) refl
+    hydronic-by x (n + 1) s (wholeFrom x s) (substep-above (x .card) (x .pcm) (wetDrive x (x .card .substep) (s .part .reynold)) (s .zones)) (wholeFrom x s .fault) refl

@@ -34,17 +34,18 @@ use Rattle.runs.specs.Charge.{electricDrive, electricEnded, chargeElectric, cha
 use Rattle.replies.specs.Replies.{checked, unlessRefused, runAnswer, chargedBattery, cooledBattery}
 use Rattle.engine.specs.Steps.{charge, heatLoss, stepOf}
 use Rattle.engine.proofs.Losses.{seconds-nonneg, losses-nonneg, timestep-nonneg}
-use Rattle.runs.specs.declared.Ended.{Ended}
+use Rattle.runs.specs.declared.Stopped.{Stopped}
 use Rattle.runs.specs.declared.Source.the-variants.{Electric}
+use Rattle.runs.specs.Zoned.{Zoned}
 
 -- what holds of the answer and of every refusal line
 pub by-refusal :
-    (P : Answer → Type 0) (b : Battery) (r : Ended) (a : Answer) → P a → ((n : ℕ) → P (refusedWith n b)) → P (unlessRefused b r a)
+    (P : Answer → Type 0) (b : Battery) (r : Zoned Stopped) (a : Answer) → P a → ((n : ℕ) → P (refusedWith n b)) → P (unlessRefused b r a)
 unfolding unlessRefused checked
 by-refusal P b r a h k =
-    by-test P (eqb (endRefusal (r .end)) 0) _ _
+    by-test P (eqb (endRefusal (r .part .end)) 0) _ _
     (λ t. by-test P (answerFinite a) _ _ (λ u. h) (λ u. k 23))
-    (λ t. k (endRefusal (r .end)))
+    (λ t. k (endRefusal (r .part .end)))
 
 module _ (version : ℕ) (b : Battery) (g : GoodBattery version b) (f : CardFits (b .card)) where
   battery-accepted : AcceptedBattery version b

@@ -17,55 +17,58 @@ use Rattle.battery.specs.declared.Call.the-variants.{DemandEnergy, ChargeElectr
 use Rattle.substep.specs.Substep.{processHeatBatteryZones}
 use Rattle.substep.specs.declared.Substep.{Substep}
 use Rattle.substep.specs.declared.Fault.the-variants.{Nothing}
-use Rattle.delivery.specs.declared.DemandEnd.{DemandEnd}
+use Rattle.delivery.specs.declared.PaceEnd.{PaceEnd}
 use Rattle.runs.specs.declared.Exchanger.{Exchanger}
 use Rattle.runs.specs.declared.HydronicTask.{HydronicTask}
-use Rattle.runs.specs.declared.HydronicRun.{HydronicRun}
-use Rattle.runs.specs.declared.HydronicEnd.{HydronicEnd}
+use Rattle.runs.specs.declared.WetPace.{WetPace}
+use Rattle.runs.specs.declared.WetEnd.{WetEnd}
 use Rattle.runs.specs.declared.End.the-variants.{OverBudget}
-use Rattle.delivery.specs.Demand.{demandRun}
-use Rattle.runs.specs.Hydronic.{wetDrive, clearlyBelow, limitReached, hydronicRun, wholeSubsteps}
+use Rattle.runs.specs.Hydronic.{wetDrive, clearlyBelow, limitReached, hydronicRun, wetEndPace, wholeSubsteps}
 use Rattle.runs.specs.Charge.{hydronicTask, hydronicStart}
-use Rattle.replies.specs.Replies.{demandStart}
-use Rattle.engine.specs.Steps.{demandTask}
+use Rattle.runs.specs.Zoned.{Zoned, zoned, onPart}
+use Rattle.engine.specs.Steps.{demandRunOf}
 
 -- a run of a demand, with its budget: its next step is positive
-pub record DemandOver (budget : ℕ) (e : DemandEnd) : Type 0 where
-  pub ended : e .end ≡ OverBudget
-  pub used : e .substeps ≡ budget
-  pub due : T (lt zero (e .run .step))
+pub record DemandOver (budget : ℕ) (e : Zoned PaceEnd) : Type 0 where
+  pub ended : e .part .end ≡ OverBudget
+  pub used : e .part .substeps ≡ budget
+  pub due : T (lt zero (e .part .pace .step))
 
 -- the whole substep from s
-abbrev pub wholeFrom : HydronicTask → HydronicRun → Substep
-wholeFrom x s = processHeatBatteryZones (x .card) (x .pcm) (wetDrive x (x .card .substep) (s .reynold)) (s .zones)
+abbrev pub wholeFrom : HydronicTask → Zoned WetPace → Substep
+wholeFrom x s = processHeatBatteryZones (x .card) (x .pcm) (wetDrive x (x .card .substep) (s .part .reynold)) (s .zones)
 
 -- behind the whole substep u from s the limit is passed, and its heat is to be cut: the fractional substep is due
-pub record FractionDue (x : HydronicTask) (s : HydronicRun) (u : Substep) : Type 0 where
+pub record FractionDue (x : HydronicTask) (s : Zoned WetPace) (u : Substep) : Type 0 where
   pub worked : u .fault ≡ Nothing
   pub below : T (clearlyBelow (u .outlet) (x .wet .inlet))
-  pub passed : T (limitReached (kj (s .absorbed .0 ⊕ neg (u .delivered .0))) (x .limit))
+  pub passed : T (limitReached (kj (s .part .absorbed .0 ⊕ neg (u .delivered .0))) (x .limit))
   pub heat : T (lt zero (neg (u .delivered .0)))
 
 -- a hydronic run of so many whole substeps: one of them is left, or the fractional one behind the last
-pub record HydronicOver (x : HydronicTask) (steps : ℕ) (e : HydronicEnd) : Type 0 where
-  pub ended : e .end ≡ OverBudget
-  pub used : e .substeps ≡ x .card .budget
-  pub due : (x .card .budget < steps) ⊎ FractionDue x (e .run) (wholeFrom x (e .run))
+pub record HydronicOver (x : HydronicTask) (steps : ℕ) (e : Zoned WetEnd) : Type 0 where
+  pub ended : e .part .end ≡ OverBudget
+  pub used : e .part .substeps ≡ x .card .budget
+  pub due : (x .card .budget < steps) ⊎ FractionDue x (onPart wetEndPace e) (wholeFrom x (onPart wetEndPace e))
 
 -- the call's run
 pub record DemandUsed (b : Battery) (d : Demand) : Type 0 where
   pub asked : le (d .required) tolerance ≡ false
   pub feed : Float
   pub given : d .feed ≡ Value feed
-  pub over : DemandOver (b .card .budget) (demandRun (demandTask b d feed) (b .card .budget) 0 (demandStart b))
+  pub over : DemandOver (b .card .budget) (demandRunOf b d feed)
 
 abbrev pub wetOf : Hydronic → Exchanger
 wetOf h = record { inlet = h .inlet; hours = h .hours; flow = h .flow; limit = h .limit; a = h .a; b = h .b; velocity = h .velocity; diameter = h .diameter }
 
+abbrev pub hydronicTaskOf : Battery → Hydronic → HydronicTask
+hydronicTaskOf b h = hydronicTask b (wetOf h) (h .target)
+
+abbrev pub hydronicRunOf : Battery → Hydronic → Zoned WetEnd
+hydronicRunOf b h = hydronicRun (hydronicTaskOf b h) (wholeSubsteps (hydronicTaskOf b h)) 0 (zoned (hydronicStart b (wetOf h)) (b .zones))
+
 pub record HydronicUsed (b : Battery) (h : Hydronic) : Type 0 where
-  pub over :
-      HydronicOver (hydronicTask b (wetOf h) (h .target)) (wholeSubsteps (hydronicTask b (wetOf h) (h .target)))
-      (hydronicRun (hydronicTask b (wetOf h) (h .target)) (wholeSubsteps (hydronicTask b (wetOf h) (h .target))) 0 (hydronicStart b (wetOf h)))
+  pub over : HydronicOver (hydronicTaskOf b h) (wholeSubsteps (hydronicTaskOf b h)) (hydronicRunOf b h)
 
 abbrev pub BudgetUsed : Battery → Call → Type 0
 BudgetUsed b (DemandEnergy d) = DemandUsed b d

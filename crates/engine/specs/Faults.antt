@@ -26,23 +26,22 @@ use Rattle.battery.specs.declared.Call.{Call}
 use Rattle.battery.specs.declared.Call.the-variants.{DemandEnergy, ChargeElectric, ChargeHydronic, HeatLoss, CloseTimestep, ReadStateOfCharge, ChargeEnergyDemand}
 use Rattle.substep.specs.Substep.{zoneTransfer, courseOf, passFrom, zonesAfter, passFinite, processHeatBatteryZones}
 use Rattle.substep.specs.declared.Drive.{Drive}
-use Rattle.substep.specs.declared.Pass.{Pass}
+use Rattle.substep.specs.Pass.{Pass}
 use Rattle.substep.specs.declared.Substep.{Substep}
 use Rattle.substep.specs.declared.Fault.{Fault}
 use Rattle.substep.specs.declared.Fault.the-variants.{Nothing, Logarithm, NotFinite}
 use Rattle.runs.specs.Runs.{faultEnd, endRefusal, reynoldBetween}
-use Rattle.delivery.specs.Demand.{demandDrive, demandRun, demandEnded}
-use Rattle.runs.specs.Hydronic.{wetDrive, fractionSeconds, hydronicRun, wholeSubsteps}
-use Rattle.runs.specs.Charge.{electricDrive, lossDrive, hydronicTask, hydronicStart, chargeBattery, batteryHeatLoss, chargeEnergyDemand}
-use Rattle.delivery.specs.declared.DemandEnd.{DemandEnd}
+use Rattle.delivery.specs.Demand.{demandDrive}
+use Rattle.runs.specs.Hydronic.{wetDrive, fractionSeconds, wetEndPace}
+use Rattle.runs.specs.Charge.{electricDrive, lossDrive, chargeBattery, batteryHeatLoss, chargeEnergyDemand}
 use Rattle.runs.specs.declared.HydronicTask.{HydronicTask}
-use Rattle.runs.specs.declared.HydronicRun.{HydronicRun}
-use Rattle.runs.specs.declared.HydronicEnd.{HydronicEnd}
-use Rattle.runs.specs.declared.Ended.{Ended}
+use Rattle.runs.specs.declared.WetPace.{WetPace}
+use Rattle.runs.specs.declared.Stopped.{Stopped}
 use Rattle.runs.specs.declared.Source.the-variants.{Electric}
-use Rattle.replies.specs.Replies.{demandStart, demandAnswer, runAnswer, chargedBattery, cooledBattery, closedBattery}
-use Rattle.engine.specs.Steps.{demandTask, level, wetSource}
-use Rattle.engine.specs.Budget.{wholeFrom, FractionDue, wetOf}
+use Rattle.replies.specs.Replies.{demandAnswer, runAnswer, chargedBattery, cooledBattery, closedBattery}
+use Rattle.runs.specs.Zoned.{Zoned, onPart}
+use Rattle.engine.specs.Steps.{demandTask, demandRunOf, demandRan, level, wetSource}
+use Rattle.engine.specs.Budget.{wholeFrom, FractionDue, hydronicTaskOf, hydronicRunOf}
 
 -- '25 state of charge above 1.0 + 1e-10'
 pub record AboveFull (b : Battery) : Type 0 where
@@ -88,44 +87,35 @@ pub record SubstepFault (f : Fault) (c : Card) (pcm : HeatBatteryPcm) (d : Drive
 abbrev pub heatOf : Substep → Kilojoules
 heatOf u = kj (neg (u .delivered .0))
 
-abbrev pub absorbedWith : HydronicRun → Substep → Kilojoules
-absorbedWith s u = kj (s .absorbed .0 ⊕ heatOf u .0)
+abbrev pub absorbedWith : Zoned WetPace → Substep → Kilojoules
+absorbedWith s u = kj (s .part .absorbed .0 ⊕ heatOf u .0)
 
 -- the drive of the fractional substep behind the whole substep u from s
-abbrev pub fractionDrive : HydronicTask → HydronicRun → Substep → Drive
+abbrev pub fractionDrive : HydronicTask → Zoned WetPace → Substep → Drive
 fractionDrive x s u =
     wetDrive x (fractionSeconds x (absorbedWith s u) (heatOf u)) (reynoldBetween (x .wet .inlet) (u .outlet) (x .wet .velocity) (x .wet .diameter))
 
 -- the fractional substep behind the whole one from s is due and has the fault f
-pub record FractionFault (f : Fault) (x : HydronicTask) (s : HydronicRun) : Type 0 where
+pub record FractionFault (f : Fault) (x : HydronicTask) (s : Zoned WetPace) : Type 0 where
   pub due : FractionDue x s (wholeFrom x s)
   pub fault : SubstepFault f (x .card) (x .pcm) (fractionDrive x s (wholeFrom x s)) (s .zones)
 
 -- the whole substep from s has the fault f, or the fractional one behind it
-abbrev pub HydronicFault : Fault → HydronicTask → HydronicRun → Type 0
-HydronicFault f x s = SubstepFault f (x .card) (x .pcm) (wetDrive x (x .card .substep) (s .reynold)) (s .zones) ⊎ FractionFault f x s
+abbrev pub HydronicFault : Fault → HydronicTask → Zoned WetPace → Type 0
+HydronicFault f x s = SubstepFault f (x .card) (x .pcm) (wetDrive x (x .card .substep) (s .part .reynold)) (s .zones) ⊎ FractionFault f x s
 
--- the call's run, and that it ended for the fault f, before the substep that has it
-abbrev pub demandRunOf : Battery → Demand → Float → DemandEnd
-demandRunOf b d feed = demandRun (demandTask b d feed) (b .card .budget) 0 (demandStart b)
-
+-- the call's run ended for the fault f, before the substep that has it
 pub record DemandFaulted (f : Fault) (b : Battery) (d : Demand) : Type 0 where
   pub asked : le (d .required) tolerance ≡ false
   pub feed : Float
   pub given : d .feed ≡ Given.Value feed
-  pub ended : demandRunOf b d feed .end ≡ faultEnd f
+  pub ended : demandRunOf b d feed .part .end ≡ faultEnd f
   pub fault :
-      SubstepFault f (b .card) (derived (b .card)) (demandDrive (demandTask b d feed) (demandRunOf b d feed .run)) (demandRunOf b d feed .run .zones)
-
-abbrev pub hydronicTaskOf : Battery → Hydronic → HydronicTask
-hydronicTaskOf b h = hydronicTask b (wetOf h) (h .target)
-
-abbrev pub hydronicRunOf : Battery → Hydronic → HydronicEnd
-hydronicRunOf b h = hydronicRun (hydronicTaskOf b h) (wholeSubsteps (hydronicTaskOf b h)) 0 (hydronicStart b (wetOf h))
+      SubstepFault f (b .card) (derived (b .card)) (demandDrive (demandTask b d feed) (demandRunOf b d feed .part .pace)) (demandRunOf b d feed .zones)
 
 pub record HydronicFaulted (f : Fault) (b : Battery) (h : Hydronic) : Type 0 where
-  pub ended : hydronicRunOf b h .end ≡ faultEnd f
-  pub fault : HydronicFault f (hydronicTaskOf b h) (hydronicRunOf b h .run)
+  pub ended : hydronicRunOf b h .part .end ≡ faultEnd f
+  pub fault : HydronicFault f (hydronicTaskOf b h) (onPart wetEndPace (hydronicRunOf b h))
 
 abbrev pub NoLogarithmTaken : Battery → Call → Type 0
 NoLogarithmTaken b (DemandEnergy d) = DemandFaulted Logarithm b d
@@ -137,15 +127,15 @@ NoLogarithmTaken b ReadStateOfCharge = ⊥
 NoLogarithmTaken b (ChargeEnergyDemand most target) = ⊥
 
 -- 'or a reported number or total isn't': the answer that the call would have got, behind a run that ended without a refusal
-pub record AnswerNotFinite (r : Ended) (a : Answer) : Type 0 where
-  pub ended : endRefusal (r .end) ≡ 0
+pub record AnswerNotFinite (r : Zoned Stopped) (a : Answer) : Type 0 where
+  pub ended : endRefusal (r .part .end) ≡ 0
   pub found : answerFinite a ≡ false
 
 pub record DemandNotFinite (b : Battery) (d : Demand) : Type 0 where
   pub asked : le (d .required) tolerance ≡ false
   pub feed : Float
   pub given : d .feed ≡ Given.Value feed
-  pub answer : AnswerNotFinite (demandEnded (demandRunOf b d feed)) (demandAnswer b d (demandEnded (demandRunOf b d feed)))
+  pub answer : AnswerNotFinite (demandRan b d feed) (demandAnswer b d (demandRan b d feed))
 
 pub record NoDemandNotFinite (b : Battery) (d : Demand) : Type 0 where
   pub asked : le (d .required) tolerance ≡ true

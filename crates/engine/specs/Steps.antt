@@ -25,12 +25,14 @@ use Rattle.battery.specs.declared.Answer.{Answer}
 use Rattle.runs.specs.declared.Source.{Source}
 use Rattle.runs.specs.declared.Source.the-variants.{Electric, Wet}
 use Rattle.delivery.specs.declared.DemandTask.{DemandTask}
-use Rattle.runs.specs.declared.Ended.{Ended}
+use Rattle.delivery.specs.declared.PaceEnd.{PaceEnd}
+use Rattle.runs.specs.declared.Stopped.{Stopped}
 use Rattle.runs.specs.Runs.{timeAvailable}
 use Rattle.delivery.specs.Demand.{demandRun, demandEnded}
 use Rattle.runs.specs.Charge.{chargeBattery, batteryHeatLoss, chargeEnergyDemand}
 use Rattle.totals.specs.Classes.{serviceClass, unserved}
 use Rattle.replies.specs.Replies.{checked, unlessRefused, unitsOf, demandStart, demandAnswer, chargedBattery, cooledBattery, runAnswer, closedBattery}
+use Rattle.runs.specs.Zoned.{Zoned, zoned, onPart}
 
 -- '`electric_charge`: the card's power where the call's control flag is 1, else 0', where the card charges during a demand
 unfoldable pub demandPower : Card → Bool → Float
@@ -47,9 +49,12 @@ demandTask b d feed =
       seconds = timeAvailable b (d .start) ⊗ hour;
     }
 
--- what a demand's substeps hand out, and the answer
-abbrev pub demandRan : Battery → Demand → Float → Ended
-demandRan b d feed = demandEnded (demandRun (demandTask b d feed) (b .card .budget) 0 (demandStart b))
+-- a demand's substeps, what they hand out, and the answer
+abbrev pub demandRunOf : Battery → Demand → Float → Zoned PaceEnd
+demandRunOf b d feed = demandRun (demandTask b d feed) (b .card .budget) 0 (zoned (demandStart b) (b .zones))
+
+abbrev pub demandRan : Battery → Demand → Float → Zoned Stopped
+demandRan b d feed = onPart demandEnded (demandRunOf b d feed)
 
 abbrev pub demandAnswered : Battery → Demand → Float → Answer
 demandAnswered b d feed = unlessRefused b (demandRan b d feed) (demandAnswer b d (demandRan b d feed))

@@ -14,7 +14,8 @@ ghost use Prim.Native.Nat.{_≤_};
 ghost use lib.Ieee.{Float};
 ghost use Rattle.battery.specs.Battery.{zonesFinite};
 ghost use Rattle.battery.specs.Ledger.{whole, settled};
-ghost use Rattle.runs.specs.Apart.{EndedLies};
+ghost use Rattle.runs.specs.Runs.{endRefusal};
+ghost use Rattle.runs.specs.Zoned.{AsDefined};
 ghost use Rattle.engine.specs.Steps.{demandPower, demandTask, demandRan, demandAnswered, demandFrom, demandGiven, demandEnergy};
 
 // The Rust's electric_charge, where the card charges during a demand.
@@ -48,7 +49,7 @@ fn demand_task(l: Ledger, d: Demand, feed: f64) -> DemandTask
 // The substeps of a demand.
 fn demand_stopped(l: Ledger, d: Demand, feed: f64, zones: &mut [f64; 64]) -> Stopped
     requires { ⌜ l .card .layers ≤ 64 ⌝ }
-    ensures { λ r. ⌜ EndedLies r (now (zones .exit)) (demandRan (whole l (now (zones .entry))) d feed) ⌝ }
+    ensures { λ r. ⌜ AsDefined (endRefusal (r .end)) r (now (zones .exit)) (demandRan (whole l (now (zones .entry))) d feed) ⌝ }
 {
     let card = l.card;
     let task = demand_task(l, d, feed);

@@ -16,8 +16,9 @@ ghost use mathlib.Core.Path.{_≡_};
 ghost use mathlib.Core.Bool.{not};
 ghost use mathlib.Core.List.{List};
 ghost use lib.Ieee.{Float};
-ghost use Rattle.substep.specs.Substep.{targetOf, substepWith};
-ghost use Rattle.runs.specs.Apart.{endedWith, wetWith, wetEndWith, WetTurnLies, WetEndLies};
+ghost use Rattle.substep.specs.Substep.{targetOf};
+ghost use Rattle.runs.specs.Runs.{endRefusal, nextRefusal};
+ghost use Rattle.runs.specs.Zoned.{zoned, AsDefined};
 ghost use Prim.Native.Nat.{_+_, _≤_, _<_};
 ghost use Rattle.runs.specs.Hydronic.{wetDrive, clearlyBelow, limitReached, replayBy, replayed as replayedOf, fractionSeconds, hydronicWhole, hydronicStep, hydronicRun, hydronicEnded, wholeSubsteps};
 
@@ -65,7 +66,7 @@ fn replay_by(
     u: Outcome,
     fault: Fault,
 ) -> WetTurn
-    ensures { λ r. ⌜ ((before zones energies : List Float) → WetTurnLies r zones (replayBy x n (wetWith s before) seconds reynold (substepWith u zones energies) fault)) ⌝ }
+    ensures { λ r. ⌜ ((before zones : List Float) → AsDefined (nextRefusal (r .next)) r zones (replayBy x n (zoned s before) seconds reynold (zoned u zones) fault)) ⌝ }
 {
     match fault {
         Fault::Nothing => {
@@ -106,7 +107,7 @@ fn replayed(
     zones: &mut [f64; 64],
 ) -> WetTurn
     requires { ⌜ (x .card .layers ≤ 64) × ((n ≤ 65535) × (target ≡ targetOf (x .card) (x .pcm) (x .target))) ⌝ }
-    ensures { λ r. ⌜ WetTurnLies r (now (zones .exit)) (replayedOf x n (wetWith s (now (zones .entry))) seconds reynold) ⌝ }
+    ensures { λ r. ⌜ AsDefined (nextRefusal (r .next)) r (now (zones .exit)) (replayedOf x n (zoned s (now (zones .entry))) seconds reynold) ⌝ }
 {
     let card = x.card;
     if n == card.budget as u32 {
@@ -141,7 +142,7 @@ fn hydronic_whole(
     zones: &mut [f64; 64],
 ) -> WetTurn
     requires { ⌜ (x .card .layers ≤ 64) × ((n ≤ 65535) × (target ≡ targetOf (x .card) (x .pcm) (x .target))) ⌝ }
-    ensures { λ r. ⌜ ((energies : List Float) → WetTurnLies r (now (zones .exit)) (hydronicWhole x n (wetWith s before) (substepWith u (now (zones .entry)) energies))) ⌝ }
+    ensures { λ r. ⌜ AsDefined (nextRefusal (r .next)) r (now (zones .exit)) (hydronicWhole x n (zoned s before) (zoned u (now (zones .entry)))) ⌝ }
 {
     let wet = x.wet;
     let limit = x.limit;
@@ -189,7 +190,7 @@ fn hydronic_whole(
 // One turn behind n substeps.
 fn hydronic_step(x: HydronicTask, n: u32, s: WetPace, target: f64, zones: &mut [f64; 64]) -> WetTurn
     requires { ⌜ (x .card .layers ≤ 64) × ((n < 65535) × (target ≡ targetOf (x .card) (x .pcm) (x .target))) ⌝ }
-    ensures { λ r. ⌜ WetTurnLies r (now (zones .exit)) (hydronicStep x n (wetWith s (now (zones .entry)))) ⌝ }
+    ensures { λ r. ⌜ AsDefined (nextRefusal (r .next)) r (now (zones .exit)) (hydronicStep x n (zoned s (now (zones .entry)))) ⌝ }
 {
     let card = x.card;
     let drive = wet_drive(x, card.substep, s.reynold);
@@ -221,7 +222,7 @@ pub fn whole_substeps(x: HydronicTask) -> u64
 // At most `steps` whole substeps from `start` on.
 pub fn hydronic_run(x: HydronicTask, steps: u64, start: WetPace, zones: &mut [f64; 64]) -> WetEnd
     requires { ⌜ x .card .layers ≤ 64 ⌝ }
-    ensures { λ r. ⌜ WetEndLies r (now (zones .exit)) (hydronicRun x steps 0 (wetWith start (now (zones .entry)))) ⌝ }
+    ensures { λ r. ⌜ AsDefined (endRefusal (r .end)) r (now (zones .exit)) (hydronicRun x steps 0 (zoned start (now (zones .entry)))) ⌝ }
 {
     let card = x.card;
     let budget = card.budget as u32;
@@ -252,7 +253,7 @@ pub fn hydronic_run(x: HydronicTask, steps: u64, start: WetPace, zones: &mut [f6
 }
 
 pub fn hydronic_ended(electric: KilowattHours, e: WetEnd) -> Stopped
-    ensures { λ r. ⌜ ((zones : List Float) → endedWith r zones ≡ hydronicEnded electric (wetEndWith e zones)) ⌝ }
+    ensures { λ r. ⌜ r ≡ hydronicEnded electric e ⌝ }
 {
     let pace = e.pace;
     let absorbed = pace.absorbed;

@@ -22,7 +22,7 @@ use Rattle.water.specs.declared.Mode.{Mode}
 use Rattle.water.specs.declared.Mode.the-variants.{Losses}
 use Rattle.substep.specs.Substep.{zoneIndex, zoneCharge, zoneStep}
 use Rattle.substep.specs.declared.Course.{Course}
-use Rattle.substep.specs.declared.Pass.{Pass}
+use Rattle.substep.specs.Pass.{Pass}
 use Rattle.substep.specs.declared.ZoneStep.{ZoneStep}
 use Rattle.substep.proofs.OneLoop.{zoneStepOf, Underway, underway-more}
 

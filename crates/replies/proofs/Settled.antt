@@ -15,9 +15,8 @@ use Rattle.battery.specs.declared.Reply.{Reply}
 use Rattle.battery.specs.Answer.{refusedWith, plainAnswer}
 use Rattle.battery.specs.Ledger.{whole, answerWith, refusedReply, plainReply, settled}
 use Rattle.runs.specs.declared.Stopped.{Stopped}
-use Rattle.runs.specs.declared.Ended.{Ended}
 use Rattle.runs.specs.Runs.{endRefusal}
-use Rattle.runs.specs.Apart.{endedWith, EndedLies}
+use Rattle.runs.specs.Zoned.{Zoned, AsDefined}
 use Rattle.totals.specs.declared.ServiceClass.{ServiceClass}
 use Rattle.totals.specs.Apart.{servedTotals, chargedTotals, closedTotals}
 use Rattle.replies.specs.Apart.{demandReply, runReply}
@@ -56,17 +55,17 @@ module _ (l : Ledger) (before zones : List Float) (r : Reply) where
 
 -- An answer to a run, where the run's zones lie apart: if the run is refused they are not shown.
 
-pub run-end : (zones : List Float) (s : Stopped) (e : Ended) → EndedLies s zones e → e .end ≡ s .end
-run-end zones s e lies = sym (ap (λ (x : Ended). x .end) (lies .0))
+pub run-end : (zones : List Float) (s : Stopped) (e : Zoned Stopped) → AsDefined (endRefusal (s .end)) s zones e → e .part .end ≡ s .end
+run-end zones s e same = sym (ap (λ (x : Stopped). x .end) (same .0))
 
-module _ (l : Ledger) (before zones : List Float) (s : Stopped) (e : Ended) (lies : EndedLies s zones e) where
+module _ (l : Ledger) (before zones : List Float) (s : Stopped) (e : Zoned Stopped) (same : AsDefined (endRefusal (s .end)) s zones e) where
   answered : (a b : Answer) → (zones ≡ e .zones → a ≡ b) → unlessRefused (whole l before) e a ≡ unlessRefused (whole l before) e b
   unfolding unlessRefused
-  answered a b f = by (eqb (endRefusal (e .end)) 0) (λ h. eqb-true (endRefusal (e .end)) 0 h)
+  answered a b f = by (eqb (endRefusal (e .part .end)) 0) (λ h. eqb-true (endRefusal (e .part .end)) 0 h)
     where
-      by : (t : Bool) → (t ≡ true → endRefusal (e .end) ≡ 0) →
-          cond t (checked (whole l before) a) (refusedWith (endRefusal (e .end)) (whole l before)) ≡ cond t (checked (whole l before) b) (refusedWith (endRefusal (e .end)) (whole l before))
-      by true g = ap (checked (whole l before)) (f (lies .1 (sym (ap endRefusal (run-end zones s e lies)) ∙ g refl)))
+      by : (t : Bool) → (t ≡ true → endRefusal (e .part .end) ≡ 0) →
+          cond t (checked (whole l before) a) (refusedWith (endRefusal (e .part .end)) (whole l before)) ≡ cond t (checked (whole l before) b) (refusedWith (endRefusal (e .part .end)) (whole l before))
+      by true g = ap (checked (whole l before)) (f (same .1 (sym (ap endRefusal (run-end zones s e same)) ∙ g refl)))
       by false g = refl
 
   module _ (r : Reply) where
@@ -74,29 +73,24 @@ module _ (l : Ledger) (before zones : List Float) (s : Stopped) (e : Ended) (lie
         (totals : Totals) → totals ≡ chargedTotals l s → r ≡ runReply s totals →
         unlessRefused (whole l before) e (answerWith l r zones) ≡ unlessRefused (whole l before) e (runAnswer e (chargedBattery (whole l before) e))
     unfolding runAnswer chargedBattery
-    charged-with totals t g =
-        answered _ _ (λ z. rw (g, t, z) (ap (λ (x : Ended). runAnswer x (chargedBattery (whole l before) x)) (lies .0)))
+    charged-with totals t g = answered _ _ (λ z. rw (g, t, z, same .0))
 
     pub cooled-with :
         r ≡ runReply s (l .totals) →
         unlessRefused (whole l before) e (answerWith l r zones) ≡ unlessRefused (whole l before) e (runAnswer e (cooledBattery (whole l before) e))
     unfolding runAnswer cooledBattery
-    cooled-with g = answered _ _ (λ z. rw (g, z) (ap (λ (x : Ended). runAnswer x (cooledBattery (whole l before) x)) (lies .0)))
+    cooled-with g = answered _ _ (λ z. rw (g, z, same .0))
 
     pub committed-with :
         (d : Demand) (class : ServiceClass) (totals : Totals) → d .commit ≡ true → class ≡ serviceClass (l .card) (d .service) →
         totals ≡ servedTotals l class s → r ≡ demandReply l s totals →
         unlessRefused (whole l before) e (answerWith l r zones) ≡ unlessRefused (whole l before) e (demandAnswer (whole l before) d e)
     unfolding demandAnswer demandKept served
-    committed-with d class totals h k t g =
-        let w : answerWith l (demandReply l s (servedTotals l (serviceClass (l .card) (d .service)) s)) (e .zones) ≡ demandAnswer (whole l before) d (endedWith s (e .zones)) = rw h in
-        answered _ _ (λ z. rw (g, t, k, z) (w ∙ ap (demandAnswer (whole l before) d) (lies .0)))
+    committed-with d class totals h k t g = answered _ _ (λ z. rw (g, t, k, z, same .0, h))
 
     -- a trial's zones stay
     pub trial-with :
         (d : Demand) → d .commit ≡ false → r ≡ demandReply l s (l .totals) →
         answerWith l r before ≡ demandAnswer (whole l before) d e
     unfolding demandAnswer demandKept
-    trial-with d h g =
-        let w : answerWith l (demandReply l s (l .totals)) before ≡ demandAnswer (whole l before) d (endedWith s (e .zones)) = rw h in
-        rw g (w ∙ ap (demandAnswer (whole l before) d) (lies .0))
+    trial-with d h g = rw (g, same .0, h)

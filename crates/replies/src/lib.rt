@@ -15,8 +15,8 @@ ghost use lib.Ieee.{Float};
 ghost use Rattle.battery.specs.Battery.{zonesFinite};
 ghost use Rattle.battery.specs.Ledger.{whole, answerWith, settled};
 ghost use Rattle.runs.specs.Runs.{endRefusal};
-ghost use Rattle.runs.specs.declared.Ended.{Ended};
-ghost use Rattle.delivery.specs.Apart.{runWith};
+ghost use Rattle.runs.specs.declared.Stopped.{Stopped};
+ghost use Rattle.runs.specs.Zoned.{Zoned};
 ghost use Rattle.replies.specs.Apart.{demandReply, runReply};
 ghost use Rattle.replies.specs.Replies.{checked as checkedOf, unlessRefused, demandStart};
 
@@ -35,7 +35,7 @@ pub fn checked(l: Ledger, a: Reply, zones: &[f64; 64]) -> Reply
 // (crates/engine/proofs/FiniteZones.antt), and are not tested again.
 pub fn unless_refused(end: End, a: Reply) -> Reply
     requires { ⌜ a .refusal ≡ 0 ⌝ }
-    ensures { λ r. ⌜ ((l : Ledger) (before zones : List Float) (e : Ended) → e .end ≡ end → (endRefusal end ≡ 0 → zonesFinite zones (l .card .layers) ≡ true) → settled l before r zones ≡ unlessRefused (whole l before) e (answerWith l a zones)) ⌝ }
+    ensures { λ r. ⌜ ((l : Ledger) (before zones : List Float) (e : Zoned Stopped) → e .part .end ≡ end → (endRefusal end ≡ 0 → zonesFinite zones (l .card .layers) ≡ true) → settled l before r zones ≡ unlessRefused (whole l before) e (answerWith l a zones)) ⌝ }
 {
     let refusal = runs::end_refusal(end);
     if refusal == 0 {
@@ -48,7 +48,7 @@ pub fn unless_refused(end: End, a: Reply) -> Reply
 }
 
 pub fn demand_start(l: Ledger) -> Pace
-    ensures { λ r. ⌜ ((zones : List Float) → runWith r zones ≡ demandStart (whole l zones)) ⌝ }
+    ensures { λ r. ⌜ ((zones : List Float) → r ≡ demandStart (whole l zones)) ⌝ }
 {
     let card = l.card;
     let pcm = pcm::derived(card);

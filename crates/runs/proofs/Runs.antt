@@ -1,6 +1,7 @@
 -- The runs of substeps, turn by turn: each way out of a run, and one turn on.
 use mathlib.Core.Path.{_≡_, refl, sym, _∙_, ap}
 use mathlib.Core.Bool.{Bool, true, false, cond}
+use mathlib.Core.List.{List}
 use Prim.Native.Nat.{ℕ, zero, suc, _≤_, _+_, _-_}
 use native.Mathlib.Omega.{arith}
 use borrow.Author.Tests.{eq-eqb, ne-eqb}
@@ -11,13 +12,15 @@ use Rattle.floats.specs.Constants as Constants
 use Rattle.floats.proofs.Branch.{via-true}
 use Rattle.zone.specs.Heat.{kj}
 use Rattle.substep.specs.Substep.{processHeatBatteryZones}
-use Rattle.substep.specs.declared.Substep.{Substep}
+use Rattle.substep.specs.declared.Outcome.{Outcome}
 use Rattle.substep.specs.declared.Fault.{Fault}
 use Rattle.substep.specs.declared.Fault.the-variants.{Nothing, Logarithm, NotFinite}
-use Rattle.runs.specs.Runs.{reynoldBetween}
+use Rattle.runs.specs.Zoned.{Zoned, zoned, AsDefined}
+use Rattle.runs.specs.Runs.{endRefusal, outcome, nextRefusal, reynoldBetween}
 use Rattle.runs.specs.declared.HydronicTask.{HydronicTask}
-use Rattle.runs.specs.declared.HydronicRun.{HydronicRun}
-use Rattle.runs.specs.declared.HydronicTurn.{HydronicTurn}
+use Rattle.runs.specs.declared.WetPace.{WetPace}
+use Rattle.runs.specs.declared.WetTurn.{WetTurn}
+use Rattle.runs.specs.declared.WetEnd.{WetEnd}
 use Rattle.runs.specs.declared.End.{End}
 use Rattle.runs.specs.declared.End.the-variants.{OverBudget, Time, Limit, Level}
 use Rattle.runs.specs.declared.Next.{Next}
@@ -29,62 +32,62 @@ use Rattle.runs.specs.Hydronic.{wetDrive, clearlyBelow, limitReached, hy
 no-stop : {A : Type 0} {k : End} → _≡_ {A = Next} (Stop k) On → A
 no-stop h = let z : _≡_ {A = ℕ} 0 1 = cc in absurd (omega arith)
 
-fault-stops : (x : HydronicTask) (n : ℕ) (s : HydronicRun) (seconds reynold : Float) (u : Substep) (f : Fault) → replayBy x n s seconds reynold u f .next ≡ On → ⊥
+fault-stops : (x : HydronicTask) (n : ℕ) (s : Zoned WetPace) (seconds reynold : Float) (u : Zoned Outcome) (f : Fault) → replayBy x n s seconds reynold u f .part .next ≡ On → ⊥
 unfolding replayBy
 fault-stops x n s seconds reynold u Nothing h = no-stop h
 fault-stops x n s seconds reynold u Logarithm h = no-stop h
 fault-stops x n s seconds reynold u NotFinite h = no-stop h
 
-replay-stops : (x : HydronicTask) (n : ℕ) (s : HydronicRun) (seconds reynold : Float) → replayed x n s seconds reynold .next ≡ On → ⊥
+replay-stops : (x : HydronicTask) (n : ℕ) (s : Zoned WetPace) (seconds reynold : Float) → replayed x n s seconds reynold .part .next ≡ On → ⊥
 unfolding replayed
 replay-stops x n s seconds reynold h = at (eqb n (x .card .budget)) h
   where
-    u : Substep
-    u = processHeatBatteryZones (x .card) (x .pcm) (wetDrive x seconds reynold) (s .zones)
+    u : Zoned Outcome
+    u = outcome (processHeatBatteryZones (x .card) (x .pcm) (wetDrive x seconds reynold) (s .zones))
 
-    by : (f : Fault) → replayBy x (n + 1) s seconds reynold u f .next ≡ On → ⊥
+    by : (f : Fault) → replayBy x (n + 1) s seconds reynold u f .part .next ≡ On → ⊥
     by f = fault-stops x (n + 1) s seconds reynold u f
 
-    at : (t : Bool) → cond t (hydronicTurn s (Stop OverBudget) n) (replayBy x (n + 1) s seconds reynold u (u .fault)) .next ≡ On → ⊥
+    at : (t : Bool) → cond t (hydronicTurn s (Stop OverBudget) n) (replayBy x (n + 1) s seconds reynold u (u .part .fault)) .part .next ≡ On → ⊥
     at true h = no-stop h
-    at false h = by (u .fault) h
+    at false h = by (u .part .fault) h
 
 -- three tests, of which one way stops
 one-of-four :
-    (a b c : Bool) (stops limit on level : HydronicTurn) (n : ℕ) → (stops .next ≡ On → ⊥) → limit .substeps ≡ n → on .substeps ≡ n → level .substeps ≡ n →
-    cond a (cond b (cond c stops limit) on) level .next ≡ On → cond a (cond b (cond c stops limit) on) level .substeps ≡ n
+    (a b c : Bool) (stops limit on level : Zoned WetTurn) (n : ℕ) → (stops .part .next ≡ On → ⊥) → limit .part .substeps ≡ n → on .part .substeps ≡ n → level .part .substeps ≡ n →
+    cond a (cond b (cond c stops limit) on) level .part .next ≡ On → cond a (cond b (cond c stops limit) on) level .part .substeps ≡ n
 one-of-four true true true stops limit on level n w p q r h = absurd (w h)
 one-of-four true true false stops limit on level n w p q r h = p
 one-of-four true false c stops limit on level n w p q r h = q
 one-of-four false b c stops limit on level n w p q r h = r
 
-whole-counts : (x : HydronicTask) (n : ℕ) (s : HydronicRun) (u : Substep) → hydronicWhole x n s u .next ≡ On → hydronicWhole x n s u .substeps ≡ n
+whole-counts : (x : HydronicTask) (n : ℕ) (s : Zoned WetPace) (u : Zoned Outcome) → hydronicWhole x n s u .part .next ≡ On → hydronicWhole x n s u .part .substeps ≡ n
 unfolding hydronicWhole
 whole-counts x n s u =
-    let reynold = reynoldBetween (x .wet .inlet) (u .outlet) (x .wet .velocity) (x .wet .diameter) in
-    let this = kj (neg (u .delivered .0)) in
-    let absorbed = kj (s .absorbed .0 ⊕ this .0) in
-    let time = s .time ⊕ x .card .substep in
-    one-of-four (clearlyBelow (u .outlet) (x .wet .inlet)) (limitReached absorbed (x .limit)) (lt Constants.zero (this .0))
+    let reynold = reynoldBetween (x .wet .inlet) (u .part .outlet) (x .wet .velocity) (x .wet .diameter) in
+    let this = kj (neg (u .part .delivered .0)) in
+    let absorbed = kj (s .part .absorbed .0 ⊕ this .0) in
+    let time = s .part .time ⊕ x .card .substep in
+    one-of-four (clearlyBelow (u .part .outlet) (x .wet .inlet)) (limitReached absorbed (x .limit)) (lt Constants.zero (this .0))
     (replayed x n s (fractionSeconds x absorbed this) reynold)
-    (hydronicTurn (record { zones = u .zones; absorbed = absorbed; reynold = reynold; time = time }) (Stop Limit) n)
-    (hydronicTurn (record { zones = u .zones; absorbed = absorbed; reynold = reynold; time = time }) On n)
-    (hydronicTurn (record { zones = u .zones; absorbed = s .absorbed; reynold = reynold; time = time }) (Stop Level) n) n
+    (hydronicTurn (zoned (record { absorbed = absorbed; reynold = reynold; time = time }) (u .zones)) (Stop Limit) n)
+    (hydronicTurn (zoned (record { absorbed = absorbed; reynold = reynold; time = time }) (u .zones)) On n)
+    (hydronicTurn (zoned (record { absorbed = s .part .absorbed; reynold = reynold; time = time }) (u .zones)) (Stop Level) n) n
     (replay-stops x n s (fractionSeconds x absorbed this) reynold) refl refl refl
 
-by-counts : (x : HydronicTask) (n : ℕ) (s : HydronicRun) (u : Substep) (f : Fault) → hydronicBy x n s u f .next ≡ On → hydronicBy x n s u f .substeps ≡ n
+by-counts : (x : HydronicTask) (n : ℕ) (s : Zoned WetPace) (u : Zoned Outcome) (f : Fault) → hydronicBy x n s u f .part .next ≡ On → hydronicBy x n s u f .part .substeps ≡ n
 unfolding hydronicBy
 by-counts x n s u Nothing h = whole-counts x n s u h
 by-counts x n s u Logarithm h = refl
 by-counts x n s u NotFinite h = refl
 
-pub on-counts : (x : HydronicTask) (n : ℕ) (s : HydronicRun) → hydronicStep x n s .next ≡ On → hydronicStep x n s .substeps ≡ n + 1
+pub on-counts : (x : HydronicTask) (n : ℕ) (s : Zoned WetPace) → hydronicStep x n s .part .next ≡ On → hydronicStep x n s .part .substeps ≡ n + 1
 unfolding hydronicStep
 on-counts x n s h =
-    let u = processHeatBatteryZones (x .card) (x .pcm) (wetDrive x (x .card .substep) (s .reynold)) (s .zones) in
-    by-counts x (n + 1) s u (u .fault) h
+    let u = outcome (processHeatBatteryZones (x .card) (x .pcm) (wetDrive x (x .card .substep) (s .part .reynold)) (s .zones)) in
+    by-counts x (n + 1) s u (u .part .fault) h
 
-module _ (x : HydronicTask) (steps n : ℕ) (s : HydronicRun) where
+module _ (x : HydronicTask) (steps n : ℕ) (s : Zoned WetPace) where
   pub hydronic-time : n ≡ steps → hydronicEnd s Time n ≡ hydronicRun x (steps - n) n s
   unfolding hydronicRun
   hydronic-time e = let z : steps - n ≡ 0 = omega arith in rw z
@@ -97,16 +100,21 @@ module _ (x : HydronicTask) (steps n : ℕ) (s : HydronicRun) where
     unfolding hydronicRun
     hydronic-over-budget e = rw left (via-true _ _ (eq-eqb _ _ e) refl)
 
-    module _ (t : HydronicTurn) (h : n ≡ x .card .budget → ⊥) (e : t ≡ hydronicStep x n s) where
-      hydronic-unfolds : hydronicRun x (steps - n) n s ≡ hydronicThen (hydronicRun x (steps - (n + 1))) (t .run) (t .next) (t .substeps)
+    -- a turn behind s, and the zones that it leaves
+    module _ (t : WetTurn) (after : List Float) (h : n ≡ x .card .budget → ⊥) (l : AsDefined (nextRefusal (t .next)) t after (hydronicStep x n s)) where
+      hydronic-unfolds : hydronicRun x (steps - n) n s ≡ hydronicThen (hydronicRun x (steps - (n + 1))) (zoned (t .pace) (hydronicStep x n s .zones)) (t .next) (t .substeps)
       unfolding hydronicRun
-      hydronic-unfolds = rw (left, ne-eqb _ _ h, e)
+      hydronic-unfolds = rw (left, ne-eqb _ _ h, l .0)
 
-      pub hydronic-stop : (k : End) → t .next ≡ Stop k → hydronicEnd (t .run) k (t .substeps) ≡ hydronicRun x (steps - n) n s
-      hydronic-stop k d = sym (hydronic-unfolds ∙ rw d)
+      pub wet-took : t .next ≡ On → t .substeps ≡ n + 1
+      wet-took d = rw (l .0) (on-counts x n s (sym (ap (λ (u : WetTurn). u .next) (l .0)) ∙ d))
 
-      pub took-one : t .next ≡ On → t .substeps ≡ n + 1
-      took-one d = ap (λ (u : HydronicTurn). u .substeps) e ∙ on-counts x n s (sym (ap (λ (u : HydronicTurn). u .next) e) ∙ d)
+      pub wet-on : t .next ≡ On → hydronicRun x (steps - t .substeps) (t .substeps) (zoned (t .pace) after) ≡ hydronicRun x (steps - n) n s
+      wet-on d = rw (l .1 (ap nextRefusal d)) (sym (hydronic-unfolds ∙ rw d (ap (λ (k : ℕ). hydronicRun x (steps - k) (t .substeps) (zoned (t .pace) (hydronicStep x n s .zones))) (sym (wet-took d)))))
 
-      pub hydronic-on : t .next ≡ On → hydronicRun x (steps - n) n s ≡ hydronicRun x (steps - t .substeps) (t .substeps) (t .run)
-      hydronic-on d = hydronic-unfolds ∙ rw d (ap (λ (k : ℕ). hydronicRun x (steps - k) (t .substeps) (t .run)) (sym (took-one d)))
+      pub wet-stop :
+          (k : End) (e : Zoned WetEnd) → t .next ≡ Stop k → hydronicRun x (steps - n) n s ≡ e →
+          AsDefined (endRefusal k) (record { pace = t .pace; end = k; substeps = t .substeps }) after e
+      wet-stop k e d r =
+          let w : hydronicEnd (zoned (t .pace) (hydronicStep x n s .zones)) k (t .substeps) ≡ e = sym (hydronic-unfolds ∙ rw d) ∙ r in
+          (ap (λ (v : Zoned WetEnd). v .part) w, λ q. l .1 (ap nextRefusal d ∙ q) ∙ ap (λ (v : Zoned WetEnd). v .zones) w)

@@ -15,14 +15,15 @@ use Rattle.battery.specs.declared.Given.{Given}
 use Rattle.battery.specs.declared.Given.the-variants.{Absent, Value}
 use Rattle.substep.specs.Substep.{processHeatBatteryZones}
 use Rattle.substep.specs.declared.Drive.{Drive}
-use Rattle.substep.specs.declared.Substep.{Substep}
+use Rattle.substep.specs.declared.Outcome.{Outcome}
 use Rattle.runs.specs.declared.Exchanger.{Exchanger}
 use Rattle.runs.specs.declared.Source.{Source}
 use Rattle.runs.specs.declared.Source.the-variants.{Electric, Wet}
 use Rattle.runs.specs.declared.HydronicTask.{HydronicTask}
-use Rattle.runs.specs.declared.HydronicRun.{HydronicRun}
-use Rattle.runs.specs.declared.Ended.{Ended}
-use Rattle.runs.specs.Runs.{faultEnd, reynoldBetween, timeAvailable}
+use Rattle.runs.specs.declared.WetPace.{WetPace}
+use Rattle.runs.specs.declared.Stopped.{Stopped}
+use Rattle.runs.specs.Zoned.{Zoned, zoned, onPart}
+use Rattle.runs.specs.Runs.{outcome, faultEnd, reynoldBetween, timeAvailable}
 use Rattle.runs.specs.Hydronic.{hydronicRun, hydronicEnded, wholeSubsteps}
 
 -- the call's power over the time left, which goes through max(0.0)
@@ -30,30 +31,30 @@ unfoldable pub electricDrive : Battery → Float → Float → Drive
 electricDrive b power target =
     record { mode = OnlyCharging; inlet = zero; seconds = maxZero (timeAvailable b zero) ⊗ hour; reynold = zero; flow = b .card .flow; power = power; target = target; a = b .card .a; b = b .card .b }
 
-unfoldable pub electricEnded : Battery → Substep → Ended
+unfoldable pub electricEnded : Battery → Outcome → Stopped
 electricEnded b u =
-    record { zones = u .zones; energy = u .charged; electric = kwh (b .electric ⊕ u .charged .0); outlet = zero; time = zero; end = faultEnd (u .fault); substeps = 1 }
+    record { energy = u .charged; electric = kwh (b .electric ⊕ u .charged .0); outlet = zero; time = zero; end = faultEnd (u .fault); substeps = 1 }
 
-unfoldable pub chargeElectric : Battery → Float → Float → Ended
+unfoldable pub chargeElectric : Battery → Float → Float → Zoned Stopped
 chargeElectric b power target =
-    electricEnded b (processHeatBatteryZones (b .card) (derived (b .card)) (electricDrive b power target) (b .zones))
+    onPart (electricEnded b) (outcome (processHeatBatteryZones (b .card) (derived (b .card)) (electricDrive b power target) (b .zones)))
 
 unfoldable pub hydronicTask : Battery → Exchanger → Float → HydronicTask
 hydronicTask b wet target =
     record { card = b .card; pcm = derived (b .card); wet = wet; target = target; limit = kilojoules (kwh (wet .limit)) }
 
 -- the first Reynolds number is that of the card's initial inlet and estimated outlet
-unfoldable pub hydronicStart : Battery → Exchanger → HydronicRun
+unfoldable pub hydronicStart : Battery → Exchanger → WetPace
 hydronicStart b wet =
-    record { zones = b .zones; absorbed = kj zero; reynold = reynoldBetween (b .card .inlet) (b .card .outlet) (wet .velocity) (wet .diameter); time = zero }
+    record { absorbed = kj zero; reynold = reynoldBetween (b .card .inlet) (b .card .outlet) (wet .velocity) (wet .diameter); time = zero }
 
-unfoldable pub chargeHydronic : Battery → Exchanger → Float → Ended
+unfoldable pub chargeHydronic : Battery → Exchanger → Float → Zoned Stopped
 chargeHydronic b wet target =
     let x = hydronicTask b wet target in
-    hydronicEnded (kwh (b .electric)) (hydronicRun x (wholeSubsteps x) 0 (hydronicStart b wet))
+    onPart (hydronicEnded (kwh (b .electric))) (hydronicRun x (wholeSubsteps x) 0 (zoned (hydronicStart b wet) (b .zones)))
 
 -- 'A charging source is electric with its rated power, or wet with its flow and exchanger figures'
-unfoldable pub chargeBattery : Battery → Source → Float → Ended
+unfoldable pub chargeBattery : Battery → Source → Float → Zoned Stopped
 chargeBattery b (Electric power) target = chargeElectric b power target
 chargeBattery b (Wet wet) target = chargeHydronic b wet target
 
@@ -62,12 +63,12 @@ unfoldable pub lossDrive : Battery → Drive
 lossDrive b =
     record { mode = Losses; inlet = ambient; seconds = b .card .timestep ⊗ hour; reynold = zero; flow = zero; power = neg (b .card .losses); target = zero; a = b .card .a; b = b .card .b }
 
-unfoldable pub lossEnded : Battery → Substep → Ended
+unfoldable pub lossEnded : Battery → Outcome → Stopped
 lossEnded b u =
-    record { zones = u .zones; energy = kilowattHours (u .delivered); electric = kwh (b .electric); outlet = zero; time = zero; end = faultEnd (u .fault); substeps = 1 }
+    record { energy = kilowattHours (u .delivered); electric = kwh (b .electric); outlet = zero; time = zero; end = faultEnd (u .fault); substeps = 1 }
 
-unfoldable pub batteryHeatLoss : Battery → Ended
-batteryHeatLoss b = lossEnded b (processHeatBatteryZones (b .card) (derived (b .card)) (lossDrive b) (b .zones))
+unfoldable pub batteryHeatLoss : Battery → Zoned Stopped
+batteryHeatLoss b = onPart (lossEnded b) (outcome (processHeatBatteryZones (b .card) (derived (b .card)) (lossDrive b) (b .zones)))
 
 -- the energy to the target level, or to the flow maximum where that is less
 unfoldable pub energyDeficit : Card → Given → Kilojoules → Kilojoules → Kilojoules

@@ -1,4 +1,4 @@
+pub mod Zoned
 pub mod Runs
 pub mod Hydronic
 pub mod Charge
-pub mod Apart

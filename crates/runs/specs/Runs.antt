@@ -4,9 +4,15 @@ use lib.Ieee.{Float}
 use Rattle.floats.specs.F64.{_⊖_, _⊗_, _⊘_}
 use Rattle.floats.specs.Constants.{one}
 use Rattle.water.specs.Water.{kinematicViscosity, reynoldNumber}
+use Rattle.substep.specs.Substep.{outcomeOf}
+use Rattle.substep.specs.declared.Outcome.{Outcome}
+use Rattle.substep.specs.declared.Substep.{Substep}
 use Rattle.substep.specs.declared.Fault.{Fault}
 use Rattle.substep.specs.declared.Fault.the-variants.{Nothing, Logarithm, NotFinite}
 use Rattle.battery.specs.declared.Battery.{Battery}
+use Rattle.runs.specs.Zoned.{Zoned, zoned}
+use Rattle.runs.specs.declared.Next.{Next}
+use Rattle.runs.specs.declared.Next.the-variants.{On, Stop}
 use Rattle.runs.specs.declared.End.{End}
 use Rattle.runs.specs.declared.End.the-variants.{Done, Negative, Met, NoStep, Level, Limit, Time, OverBudget, NoLogarithm, NotFiniteRun}
 
@@ -28,6 +34,15 @@ endRefusal Time = 0
 endRefusal OverBudget = 22
 endRefusal NotFiniteRun = 23
 endRefusal NoLogarithm = 24
+
+-- the refusal that a turn ends with, 0 for none
+abbrev pub nextRefusal : Next → ℕ
+nextRefusal On = 0
+nextRefusal (Stop e) = endRefusal e
+
+-- a substep without its energies
+abbrev pub outcome : Substep → Zoned Outcome
+outcome u = zoned (outcomeOf u) (u .zones)
 
 -- the Reynolds number of water between two temperatures
 unfoldable pub reynoldBetween : Float → Float → Float → Float → Float

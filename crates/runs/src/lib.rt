@@ -31,24 +31,13 @@ pub enum Next {
     Stop(End),
 }
 
-// What a run hands out.
-pub struct Ended {
-    pub zones: [f64; 64],
+// What a run hands out; its zones stay where they lie.
+pub struct Stopped {
     pub energy: KilowattHours,
     // the charged electric total behind the run
     pub electric: KilowattHours,
     pub outlet: f64,
     // seconds
-    pub time: f64,
-    pub end: End,
-    pub substeps: u32,
-}
-
-// The same but its zones, which stay where they lie. The functions take these; the definitions, which have the zones too, the others.
-pub struct Stopped {
-    pub energy: KilowattHours,
-    pub electric: KilowattHours,
-    pub outlet: f64,
     pub time: f64,
     pub end: End,
     pub substeps: u32,
@@ -84,36 +73,16 @@ pub struct HydronicTask {
 }
 
 // What the substeps of a hydronic charge change.
-pub struct HydronicRun {
-    pub zones: [f64; 64],
+pub struct WetPace {
     pub absorbed: Kilojoules,
     pub reynold: f64,
     // seconds
     pub time: f64,
 }
 
-// The same but its zones.
-pub struct WetPace {
-    pub absorbed: Kilojoules,
-    pub reynold: f64,
-    pub time: f64,
-}
-
-pub struct HydronicTurn {
-    pub run: HydronicRun,
-    pub next: Next,
-    pub substeps: u32,
-}
-
 pub struct WetTurn {
     pub pace: WetPace,
     pub next: Next,
-    pub substeps: u32,
-}
-
-pub struct HydronicEnd {
-    pub run: HydronicRun,
-    pub end: End,
     pub substeps: u32,
 }
 

@@ -15,7 +15,7 @@ use Rattle.battery.proofs.Zones.{same-above}
 use Rattle.substep.specs.Substep.{zoneAt, zonesAfter, zoneTransfer, courseOf, passFrom, withoutLogarithm, substepFrom, withTransfer, processHeatBatteryZones}
 use Rattle.substep.specs.declared.Course.{Course}
 use Rattle.substep.specs.declared.Drive.{Drive}
-use Rattle.substep.specs.declared.Pass.{Pass}
+use Rattle.substep.specs.Pass.{Pass}
 use Rattle.substep.proofs.Passes.{untouched}
 use Rattle.substep.proofs.Stores.{stored-places}
 

@@ -15,7 +15,7 @@ use Rattle.water.specs.declared.Mode.{Mode}
 use Rattle.water.specs.declared.Mode.the-variants.{OnlyCharging, Losses, Normal}
 use Rattle.substep.specs.Substep.{zoneIndex, zoneStep, zoneAt, zonesAfter}
 use Rattle.substep.specs.declared.Course.{Course}
-use Rattle.substep.specs.declared.Pass.{Pass}
+use Rattle.substep.specs.Pass.{Pass}
 use Rattle.substep.proofs.Passes.{index-below}
 use Rattle.substep.proofs.Stores.{stored-elsewhere}
 use Rattle.substep.proofs.Above.{pass-places}

@@ -30,7 +30,7 @@ use Rattle.substep.specs.declared.Drive.{Drive}
 use Rattle.substep.specs.declared.Fault.{Fault}
 use Rattle.substep.specs.declared.Fault.the-variants.{Nothing, NotFinite}
 use Rattle.substep.specs.declared.Outcome.{Outcome}
-use Rattle.substep.specs.declared.Pass.{Pass}
+use Rattle.substep.specs.Pass.{Pass}
 use Rattle.substep.specs.declared.ZoneStep.{ZoneStep}
 use Rattle.substep.proofs.Passes.{index-below}
 use Rattle.substep.proofs.Stores.{stored-places, stored-elsewhere}

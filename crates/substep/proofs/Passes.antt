@@ -30,7 +30,7 @@ use Rattle.substep.specs.declared.Drive.{Drive}
 use Rattle.substep.specs.declared.Substep.{Substep}
 use Rattle.substep.specs.declared.Outcome.{Outcome}
 use Rattle.substep.specs.declared.Course.{Course}
-use Rattle.substep.specs.declared.Pass.{Pass}
+use Rattle.substep.specs.Pass.{Pass}
 use Rattle.substep.specs.declared.ZoneStep.{ZoneStep}
 
 module _ (x : Course) (s : ℕ → Salt) (n k : ℕ) (p q : Pass) where

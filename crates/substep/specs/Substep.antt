@@ -29,7 +29,7 @@ use Rattle.battery.specs.Battery.{zonesFinite}
 use Rattle.substep.specs.declared.Drive.{Drive}
 use Rattle.substep.specs.declared.Course.{Course}
 use Rattle.substep.specs.declared.ZoneStep.{ZoneStep}
-use Rattle.substep.specs.declared.Pass.{Pass}
+use Rattle.substep.specs.Pass.{Pass}
 use Rattle.substep.specs.declared.Substep.{Substep}
 use Rattle.substep.specs.declared.Outcome.{Outcome}
 use Rattle.substep.specs.declared.Fault.{Fault}

@@ -67,18 +67,6 @@ pub struct ZoneStep {
     pub charged: KilowattHours,
 }
 
-// What the zones passed so far have left.
-pub struct Pass {
-    pub zones: [f64; 64],
-    // kJ that each zone gave to the water or lost
-    pub energies: [f64; 64],
-    // °C of the water behind the last zone
-    pub outlet: f64,
-    // the charger's heat left
-    pub left: Kilojoules,
-    pub charged: KilowattHours,
-}
-
 // Why a substep ends its call: refusals 23 and 24.
 pub enum Fault {
     Nothing,

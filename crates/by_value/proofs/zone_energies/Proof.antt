@@ -1,6 +1,6 @@
 use Rattle.zone.specs.Layer.{zoneSalt}
 use Rattle.substep.specs.Substep.{zonesAfter}
-use Rattle.substep.specs.declared.Pass.{Pass}
+use Rattle.substep.specs.Pass.{Pass}
 use Rattle.substep.proofs.Passes.{zones-more, energies-end, not-alike}
 use mathlib.Core.Path.{_≡_, refl}
 use Prim.Native.Nat.{_≤_, _-_}

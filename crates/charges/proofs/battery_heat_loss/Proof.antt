@@ -1,7 +1,8 @@
 use mathlib.Core.Path.{ap}
+use Rattle.battery.specs.Ledger.{whole}
 use Rattle.substep.specs.declared.Drive.{Drive}
-use Rattle.runs.specs.Charge.{lossDrive}
-use Rattle.runs.proofs.InPlace.{loss-run, ended-lies}
+use Rattle.runs.specs.Charge.{lossEnded, lossDrive, batteryHeatLoss}
+use Rattle.runs.proofs.InPlace.{one-substep}
 use borrow.Author.Needs.{needs}
 use Rattle.charges.proofs.battery_heat_loss.Statement.{statement}
 use Rattle.charges.proofs.battery_heat_loss.Tie as tie
@@ -23,7 +24,10 @@ loss-ended-requires : tie.Need-loss-ended-requires
 loss-ended-requires c κs = search needs
 
 returns : tie.Need-returns
-returns c = ended-lies _ _ _ (loss-run _ _ _ _ _ _ _ (c .before .before .before .before .derived .ensures) (c .before .before .before .loss-drive .ensures _) (c .before .lose-in-place .ensures) (λ energies. c .loss-ended .ensures _ _ energies))
+unfolding batteryHeatLoss
+returns c =
+    let a = c .before .before .before .before .before .before .args in
+    rw (← (c .before .before .before .before .derived .ensures), ← (c .before .before .before .loss-drive .ensures (a .zones .now))) (one-substep (lossEnded (whole (a .l) (a .zones .now))) _ _ _ _ _ _ _ (c .before .lose-in-place .ensures) (c .loss-ended .ensures _))
 
 pub battery-heat-loss-spec : {M : Type 1} → statement M
 battery-heat-loss-spec =

@@ -1,8 +1,9 @@
 use mathlib.Core.Path.{ap}
 use mathlib.Core.List.{[]}
+use Rattle.battery.specs.Ledger.{whole}
 use Rattle.substep.specs.declared.Drive.{Drive}
-use Rattle.runs.specs.Charge.{electricDrive}
-use Rattle.runs.proofs.InPlace.{electric-run, ended-lies}
+use Rattle.runs.specs.Charge.{electricEnded, electricDrive, chargeElectric}
+use Rattle.runs.proofs.InPlace.{one-substep}
 use borrow.Author.Needs.{needs}
 use Rattle.charges.proofs.charge_battery_electric.Statement.{statement}
 use Rattle.charges.proofs.charge_battery_electric.Tie as tie
@@ -21,7 +22,10 @@ electric-ended-requires : tie.Need-electric-ended-requires
 electric-ended-requires c κs = search needs
 
 returns : tie.Need-returns
-returns c = ended-lies _ _ _ (electric-run _ _ _ _ _ _ _ _ _ (c .before .before .before .before .derived .ensures) (c .before .before .before .electric-drive .ensures _) (c .before .charge-in-place .ensures) (λ energies. c .electric-ended .ensures _ _ energies))
+unfolding chargeElectric
+returns c =
+    let a = c .before .before .before .before .before .before .args in
+    rw (← (c .before .before .before .before .derived .ensures), ← (c .before .before .before .electric-drive .ensures (a .zones .now))) (one-substep (electricEnded (whole (a .l) (a .zones .now))) _ _ _ _ _ _ _ (c .before .charge-in-place .ensures) (c .electric-ended .ensures _))
 
 pub charge-battery-electric-spec : {M : Type 1} → statement M
 charge-battery-electric-spec =

@@ -1,4 +1,4 @@
-use Rattle.runs.proofs.InPlace.{wet-lies}
+use Rattle.runs.proofs.WetTurns.{wet-ended}
 use mathlib.Core.List.{[]}
 use Rattle.runs.specs.Charge.{hydronicTask, chargeHydronic}
 use borrow.Author.Needs.{needs}
@@ -23,7 +23,7 @@ hydronic-ended-requires c κs = search needs
 
 returns : tie.Need-returns
 unfolding chargeHydronic
-returns c = rw (← (c .before .before .before .before .before .hydronic-task .ensures (c .before .before .before .before .before .before .args .zones .now)), ← (c .before .before .before .before .whole-substeps .ensures), ← (c .before .before .before .hydronic-start .ensures (c .before .before .before .before .before .before .args .zones .now))) (wet-lies _ _ _ _ _ (c .before .hydronic-run .ensures) (c .hydronic-ended .ensures))
+returns c = rw (← (c .before .before .before .before .before .hydronic-task .ensures (c .before .before .before .before .before .before .args .zones .now)), ← (c .before .before .before .before .whole-substeps .ensures), ← (c .before .before .before .hydronic-start .ensures (c .before .before .before .before .before .before .args .zones .now))) (wet-ended _ _ _ _ _ (c .before .hydronic-run .ensures) (c .hydronic-ended .ensures))
 
 pub charge-battery-hydronic-spec : {M : Type 1} → statement M
 charge-battery-hydronic-spec =

@@ -1,5 +1,4 @@
 use Rattle.runs.specs.Charge.{electricEnded}
-use Rattle.substep.specs.Substep.{substepWith}
 use borrow.Author.Needs.{needs}
 use Rattle.charges.proofs.electric_ended.Statement.{statement}
 use Rattle.charges.proofs.electric_ended.Tie as tie
@@ -8,8 +7,8 @@ fault-end-requires : tie.Need-fault-end-requires
 fault-end-requires c κs = search needs
 
 returns : tie.Need-returns
-unfolding electricEnded substepWith
-returns c before zones energies = rw (← (c .before .before .fault-end .ensures))
+unfolding electricEnded
+returns c zones = rw (← (c .before .before .fault-end .ensures))
 
 pub electric-ended-spec : {M : Type 1} → statement M
 electric-ended-spec = tie.close (tie.spec fault-end-requires returns)

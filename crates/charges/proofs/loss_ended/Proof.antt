@@ -1,5 +1,4 @@
 use Rattle.runs.specs.Charge.{lossEnded}
-use Rattle.substep.specs.Substep.{substepWith}
 use borrow.Author.Needs.{needs}
 use Rattle.charges.proofs.loss_ended.Statement.{statement}
 use Rattle.charges.proofs.loss_ended.Tie as tie
@@ -11,8 +10,8 @@ fault-end-requires : tie.Need-fault-end-requires
 fault-end-requires c κs = search needs
 
 returns : tie.Need-returns
-unfolding lossEnded substepWith
-returns c before zones energies = rw (← (c .before .kilowatt-hours .ensures), ← (c .fault-end .ensures))
+unfolding lossEnded
+returns c zones = rw (← (c .before .kilowatt-hours .ensures), ← (c .fault-end .ensures))
 
 pub loss-ended-spec : {M : Type 1} → statement M
 loss-ended-spec = tie.close (tie.spec kilowatt-hours-requires fault-end-requires returns)

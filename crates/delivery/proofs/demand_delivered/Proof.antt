@@ -1,7 +1,6 @@
 use mathlib.Core.Path.{refl}
 use Rattle.floats.proofs.Branch.{via-true, via-false}
 use Rattle.delivery.specs.Demand.{demandDelivered}
-use Rattle.substep.specs.Substep.{substepWith}
 use borrow.Author.Needs.{needs}
 use Rattle.delivery.proofs.demand_delivered.Statement.{statement}
 use Rattle.delivery.proofs.demand_delivered.Tie as tie
@@ -10,8 +9,8 @@ pace-after-requires : tie.Need-pace-after-requires
 pace-after-requires c κs = search needs
 
 returns : tie.Need-returns
-unfolding demandDelivered substepWith
-returns c before zones energies = rw (← (c .pace-after .ensures before zones energies)) (via-true _ _ (c .before .before .if1 .taken) refl)
+unfolding demandDelivered
+returns c = rw (← (c .pace-after .ensures)) (via-true _ _ (c .before .before .if1 .taken) refl)
 
 kilowatt-hours-requires : tie.Need-kilowatt-hours-requires
 kilowatt-hours-requires c κs = search needs
@@ -26,8 +25,8 @@ pace-after-requires-2 : tie.Need-pace-after-requires-2
 pace-after-requires-2 c κs = search needs
 
 returns-2 : tie.Need-returns-2
-unfolding demandDelivered substepWith
-returns-2 c before zones energies = rw (← (c .before .before .before .before .before .before .kilowatt-hours .ensures), ← (c .before .before .before .next-step .ensures), ← (c .before .before .demand-met .ensures), ← (c .pace-after2 .ensures before zones energies)) (via-false _ _ (c .before .before .before .before .before .before .before .before .if1 .left) (via-true _ _ (c .before .if2 .taken) refl))
+unfolding demandDelivered
+returns-2 c = rw (← (c .before .before .before .before .before .before .kilowatt-hours .ensures), ← (c .before .before .before .next-step .ensures), ← (c .before .before .demand-met .ensures), ← (c .pace-after2 .ensures)) (via-false _ _ (c .before .before .before .before .before .before .before .before .if1 .left) (via-true _ _ (c .before .if2 .taken) refl))
 
 cut-requires : tie.Need-cut-requires
 cut-requires c κs = search needs
@@ -36,8 +35,8 @@ pace-after-requires-3 : tie.Need-pace-after-requires-3
 pace-after-requires-3 c κs = search needs
 
 returns-3 : tie.Need-returns-3
-unfolding demandDelivered substepWith
-returns-3 c before zones energies = rw (← (c .before .before .before .before .before .before .before .before .kilowatt-hours .ensures), ← (c .before .before .before .before .before .next-step .ensures), ← (c .before .before .before .before .demand-met .ensures), ← (c .before .cut .ensures), ← (c .pace-after3 .ensures before zones energies)) (via-false _ _ (c .before .before .before .before .before .before .before .before .before .before .if1 .left) (via-false _ _ (c .before .before .before .if2 .left) refl))
+unfolding demandDelivered
+returns-3 c = rw (← (c .before .before .before .before .before .before .before .before .kilowatt-hours .ensures), ← (c .before .before .before .before .before .next-step .ensures), ← (c .before .before .before .before .demand-met .ensures), ← (c .before .cut .ensures), ← (c .pace-after3 .ensures)) (via-false _ _ (c .before .before .before .before .before .before .before .before .before .before .if1 .left) (via-false _ _ (c .before .before .before .if2 .left) refl))
 
 pub demand-delivered-spec : {M : Type 1} → statement M
 demand-delivered-spec =

@@ -5,7 +5,7 @@ use Rattle.delivery.proofs.demand_drive.Tie as tie
 
 returns : tie.Need-returns
 unfolding demandDrive
-returns c zones = refl
+returns c = refl
 
 pub demand-drive-spec : {M : Type 1} → statement M
 demand-drive-spec = tie.close (tie.spec returns)

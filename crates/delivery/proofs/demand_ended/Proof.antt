@@ -9,7 +9,7 @@ cast-t6 c = search needs
 
 returns : tie.Need-returns
 unfolding demandEnded
-returns c zones = refl
+returns c = refl
 
 pub demand-ended-spec : {M : Type 1} → statement M
 demand-ended-spec = tie.close (tie.spec cast-t6 returns)

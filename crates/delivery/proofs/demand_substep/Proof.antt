@@ -1,10 +1,8 @@
-use Rattle.delivery.proofs.InPlace.{demand-turn, turn-lies, turn-fault}
+use Rattle.delivery.proofs.InPlace.{demand-turn}
 use Rattle.runs.proofs.InPlace.{log-refused, finite-refused}
-use Rattle.substep.specs.Substep.{substepWith}
 use Rattle.substep.specs.declared.Drive.{Drive}
 use Rattle.delivery.specs.Demand.{demandDrive, demandBy}
-use mathlib.Core.Path.{sym, _∙_, ap}
-use mathlib.Core.List.{[]}
+use mathlib.Core.Path.{refl, ap}
 use borrow.Author.Needs.{needs}
 use Rattle.delivery.proofs.demand_substep.Statement.{statement}
 use Rattle.delivery.proofs.demand_substep.Tie as tie
@@ -16,7 +14,7 @@ process-in-place-requires : tie.Need-process-in-place-requires
 unfolding demandDrive
 process-in-place-requires c κs =
     let p = c .before .before .before .before .pre in
-    let e = c .before .before .before .demand-drive .ensures [] in
+    let e = c .before .before .before .demand-drive .ensures in
     (p .0, (ap (λ (d : Drive). d .mode) e, rw e (p .1)))
 
 enum-told : tie.Need-enum-told
@@ -33,15 +31,15 @@ enum-told-3 c = search needs
 
 returns : tie.Need-returns
 unfolding demandBy
-returns c = demand-turn _ _ _ _ _ _ _ (c .before .before .before .before .before .before .before .demand-drive .ensures _) (c .before .before .before .process-in-place .ensures) (λ energies. turn-lies _ _ _ (c .demand-delivered .ensures _ _ energies ∙ sym (ap (demandBy _ _ _) (c .before .enum-told .given .1))))
+returns c = demand-turn _ _ _ _ _ _ _ _ (c .before .before .before .before .before .before .before .demand-drive .ensures) (c .before .before .before .process-in-place .ensures) (c .before .enum-told .given .1) (c .demand-delivered .ensures, λ h. refl)
 
 returns-2 : tie.Need-returns-2
-unfolding demandBy substepWith
-returns-2 c = demand-turn _ _ _ _ _ _ _ (c .before .before .before .before .before .before .demand-drive .ensures _) (c .before .before .process-in-place .ensures) (λ energies. turn-fault _ _ _ _ _ log-refused (sym (ap (demandBy _ _ _) (c .enum-told2 .given .1))))
+unfolding demandBy
+returns-2 c = demand-turn _ _ _ _ _ _ _ _ (c .before .before .before .before .before .before .demand-drive .ensures) (c .before .before .process-in-place .ensures) (c .enum-told2 .given .1) (refl, λ h. absurd (log-refused h))
 
 returns-3 : tie.Need-returns-3
-unfolding demandBy substepWith
-returns-3 c = demand-turn _ _ _ _ _ _ _ (c .before .before .before .before .before .before .demand-drive .ensures _) (c .before .before .process-in-place .ensures) (λ energies. turn-fault _ _ _ _ _ finite-refused (sym (ap (demandBy _ _ _) (c .enum-told3 .given .1))))
+unfolding demandBy
+returns-3 c = demand-turn _ _ _ _ _ _ _ _ (c .before .before .before .before .before .before .demand-drive .ensures) (c .before .before .process-in-place .ensures) (c .enum-told3 .given .1) (refl, λ h. absurd (finite-refused h))
 
 pub demand-substep-spec : {M : Type 1} → statement M
 demand-substep-spec =

@@ -8,7 +8,7 @@ kilowatt-hours-requires c κs = search needs
 
 returns : tie.Need-returns
 unfolding hydronicEnded
-returns c zones = rw (← (c .kilowatt-hours .ensures))
+returns c = rw (← (c .kilowatt-hours .ensures))
 
 pub hydronic-ended-spec : {M : Type 1} → statement M
 hydronic-ended-spec = tie.close (tie.spec kilowatt-hours-requires returns)

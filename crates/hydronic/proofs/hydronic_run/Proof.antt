@@ -1,9 +1,8 @@
-use Rattle.runs.proofs.InPlace.{wet-end-lies}
-use Rattle.runs.proofs.WetTurns.{wet-took, wet-on, wet-stop}
+use Rattle.runs.proofs.InPlace.{as-defined}
 use native.Mathlib.Nat.{sub-zero}
-use Rattle.runs.specs.Apart.{wetWith}
+use Rattle.runs.specs.Zoned.{zoned}
 use Rattle.runs.specs.Hydronic.{hydronicRun}
-use Rattle.runs.proofs.Runs.{hydronic-time, hydronic-over-budget}
+use Rattle.runs.proofs.Runs.{hydronic-time, hydronic-over-budget, wet-took, wet-on, wet-stop}
 use mathlib.Core.Path.{_≡_, _∙_}
 use Prim.Native.Nat.{_≤_, _-_, _+_}
 use native.Mathlib.Omega.{arith}
@@ -13,7 +12,7 @@ use Rattle.hydronic.proofs.hydronic_run.Tie as tie
 
 abbrev Inv-loop : tie.InvT-loop
 Inv-loop x steps zones₀ budget target pace₀ substeps₀ zones pace substeps =
-    (substeps ≤ steps) × (substeps ≤ x .card .budget) × (hydronicRun x (steps - substeps) substeps (wetWith pace zones) ≡ hydronicRun x steps 0 (wetWith pace₀ zones₀))
+    (substeps ≤ steps) × (substeps ≤ x .card .budget) × (hydronicRun x (steps - substeps) substeps (zoned pace zones) ≡ hydronicRun x steps 0 (zoned pace₀ zones₀))
 
 abbrev μ-loop : tie.MeasureT-loop
 μ-loop x steps zones₀ budget target pace₀ substeps₀ zones pace substeps = steps - substeps
@@ -42,7 +41,7 @@ enum-told c = search needs
 
 took : (c : tie.After-enum-told Inv-loop μ-loop) → c .before .before .before .hydronic-step .result .substeps ≡ c .before .before .before .before .before .before .before .loop .substeps + 1
 took c =
-    wet-took (c .before .before .before .before .before .before .before .before .before .before .before .before .args .x) _ _ _ _ _ _ (c .before .before .before .before .before .before .before .loop .inv .0) (c .before .before .before .before .before .before .if1 .left) (c .before .before .before .before .before .if2 .left) (c .before .before .before .hydronic-step .ensures) (c .enum-told .given .1)
+    wet-took (c .before .before .before .before .before .before .before .before .before .before .before .before .args .x) _ _ _ (c .before .before .before .before .before .before .before .loop .inv .0) (c .before .before .before .before .before .before .if1 .left) _ _ (c .before .before .before .before .before .if2 .left) (c .before .before .before .hydronic-step .ensures) (c .enum-told .given .1)
 
 loop-less : tie.Need-loop-less Inv-loop μ-loop
 loop-less c = let n = took c in omega arith
@@ -50,17 +49,17 @@ loop-less c = let n = took c in omega arith
 loop-again : tie.Need-loop-again Inv-loop μ-loop
 loop-again c =
     let n = took c in
-    (omega arith, omega arith, wet-on (c .before .before .before .before .before .before .before .before .before .before .before .before .args .x) _ _ _ _ _ _ (c .before .before .before .before .before .before .before .loop .inv .0) (c .before .before .before .before .before .before .if1 .left) (c .before .before .before .before .before .if2 .left) (c .before .before .before .hydronic-step .ensures) (c .enum-told .given .1) ∙ c .before .before .before .before .before .before .before .loop .inv .2)
+    (omega arith, omega arith, wet-on (c .before .before .before .before .before .before .before .before .before .before .before .before .args .x) _ _ _ (c .before .before .before .before .before .before .before .loop .inv .0) (c .before .before .before .before .before .before .if1 .left) _ _ (c .before .before .before .before .before .if2 .left) (c .before .before .before .hydronic-step .ensures) (c .enum-told .given .1) ∙ c .before .before .before .before .before .before .before .loop .inv .2)
 
 returns : tie.Need-returns Inv-loop μ-loop
-returns c = wet-end-lies _ _ _ (hydronic-time _ _ _ _ (c .if1 .taken) ∙ c .before .loop .inv .2)
+returns c = as-defined _ _ _ _ (hydronic-time _ _ _ _ (c .if1 .taken) ∙ c .before .loop .inv .2)
 
 returns-2 : tie.Need-returns-2 Inv-loop μ-loop
-returns-2 c = wet-end-lies _ _ _ (hydronic-over-budget _ _ _ _ (c .before .before .loop .inv .0) (c .before .if1 .left) (c .if2 .taken) ∙ c .before .before .loop .inv .2)
+returns-2 c = as-defined _ _ _ _ (hydronic-over-budget _ _ _ _ (c .before .before .loop .inv .0) (c .before .if1 .left) (c .if2 .taken) ∙ c .before .before .loop .inv .2)
 
 returns-3 : tie.Need-returns-3 Inv-loop μ-loop
 returns-3 c =
-    wet-stop (c .before .before .before .before .before .before .before .before .before .before .before .before .before .args .x) _ _ _ _ _ _ (c .before .before .before .before .before .before .before .before .loop .inv .0) (c .before .before .before .before .before .before .before .if1 .left) (c .before .before .before .before .before .before .if2 .left) (c .before .before .before .before .hydronic-step .ensures) _ _ (c .before .next .given .1) (c .before .before .before .before .before .before .before .before .loop .inv .2)
+    wet-stop (c .before .before .before .before .before .before .before .before .before .before .before .before .before .args .x) _ _ _ (c .before .before .before .before .before .before .before .before .loop .inv .0) (c .before .before .before .before .before .before .before .if1 .left) _ _ (c .before .before .before .before .before .before .if2 .left) (c .before .before .before .before .hydronic-step .ensures) _ _ (c .before .next .given .1) (c .before .before .before .before .before .before .before .before .loop .inv .2)
 
 pub hydronic-run-spec : {M : Type 1} → statement M
 hydronic-run-spec =

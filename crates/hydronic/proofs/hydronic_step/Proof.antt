@@ -1,10 +1,8 @@
-use mathlib.Core.Path.{subst}
-use Rattle.runs.specs.Apart.{WetTurnLies}
-use Rattle.runs.proofs.InPlace.{hydronic-turn, wet-fault, log-refused, finite-refused}
-use Rattle.substep.specs.Substep.{substepWith}
+use Rattle.runs.proofs.InPlace.{log-refused, finite-refused}
+use Rattle.runs.proofs.WetTurns.{hydronic-turn}
 use Rattle.substep.specs.declared.Drive.{Drive}
 use Rattle.runs.specs.Hydronic.{wetDrive, hydronicBy}
-use mathlib.Core.Path.{sym, ap}
+use mathlib.Core.Path.{refl, ap}
 use native.Mathlib.Omega.{arith}
 use borrow.Author.Needs.{needs}
 use Rattle.hydronic.proofs.hydronic_step.Statement.{statement}
@@ -43,15 +41,15 @@ add-t21 c = search needs
 
 returns : tie.Need-returns
 unfolding hydronicBy
-returns c = hydronic-turn (c .before .before .before .before .before .before .before .before .before .before .args .x) _ _ _ _ _ _ _ _ (c .before .before .before .before .before .before .before .before .wet-drive .ensures) (c .before .before .before .before .process-in-place .ensures) (λ energies. subst (WetTurnLies _ _) (sym (ap (hydronicBy _ _ _ _) (c .before .before .enum-told .given .1))) (c .hydronic-whole .ensures energies))
+returns c = hydronic-turn (c .before .before .before .before .before .before .before .before .before .before .args .x) _ _ _ _ _ _ _ _ (c .before .before .before .before .process-in-place .ensures) (c .before .before .enum-told .given .1) _ (c .before .before .before .before .before .before .before .before .wet-drive .ensures) (c .hydronic-whole .ensures)
 
 returns-2 : tie.Need-returns-2
-unfolding hydronicBy substepWith
-returns-2 c = hydronic-turn (c .before .before .before .before .before .before .before .before .args .x) _ _ _ _ _ _ _ _ (c .before .before .before .before .before .before .wet-drive .ensures) (c .before .before .process-in-place .ensures) (λ energies. wet-fault _ _ _ _ _ _ log-refused (sym (ap (hydronicBy _ _ _ _) (c .enum-told2 .given .1))))
+unfolding hydronicBy
+returns-2 c = hydronic-turn (c .before .before .before .before .before .before .before .before .args .x) _ _ _ _ _ _ _ _ (c .before .before .process-in-place .ensures) (c .enum-told2 .given .1) _ (c .before .before .before .before .before .before .wet-drive .ensures) (refl, λ h. absurd (log-refused h))
 
 returns-3 : tie.Need-returns-3
-unfolding hydronicBy substepWith
-returns-3 c = hydronic-turn (c .before .before .before .before .before .before .before .before .args .x) _ _ _ _ _ _ _ _ (c .before .before .before .before .before .before .wet-drive .ensures) (c .before .before .process-in-place .ensures) (λ energies. wet-fault _ _ _ _ _ _ finite-refused (sym (ap (hydronicBy _ _ _ _) (c .enum-told3 .given .1))))
+unfolding hydronicBy
+returns-3 c = hydronic-turn (c .before .before .before .before .before .before .before .before .args .x) _ _ _ _ _ _ _ _ (c .before .before .process-in-place .ensures) (c .enum-told3 .given .1) _ (c .before .before .before .before .before .before .wet-drive .ensures) (refl, λ h. absurd (finite-refused h))
 
 pub hydronic-step-spec : {M : Type 1} → statement M
 hydronic-step-spec =

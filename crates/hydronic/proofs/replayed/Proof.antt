@@ -1,4 +1,4 @@
-use Rattle.runs.proofs.InPlace.{wet-turn-lies}
+use Rattle.runs.proofs.InPlace.{as-defined}
 use Rattle.runs.proofs.WetTurns.{replayed-turn}
 use Rattle.floats.proofs.Branch.{via-true}
 use borrow.Author.Tests.{eq-eqb}
@@ -14,7 +14,7 @@ cast-if1 c = search needs
 
 returns : tie.Need-returns
 unfolding replayed
-returns c = wet-turn-lies _ _ _ (via-true _ _ (eq-eqb _ _ (c .if1 .taken)) refl)
+returns c = as-defined _ _ _ _ (via-true _ _ (eq-eqb _ _ (c .if1 .taken)) refl)
 
 wet-drive-requires : tie.Need-wet-drive-requires
 wet-drive-requires c κs = search needs
@@ -34,7 +34,7 @@ replay-by-requires c κs = search needs
 
 returns-2 : tie.Need-returns-2
 returns-2 c =
-    replayed-turn (c .before .before .before .before .before .before .before .before .args .x) _ _ _ _ _ _ _ _ _ (c .before .before .before .before .before .if1 .left) (c .before .before .before .before .wet-drive .ensures) (c .before .process-in-place .ensures) (c .replay-by .ensures)
+    replayed-turn (c .before .before .before .before .before .before .before .before .args .x) _ _ _ _ _ _ _ _ (c .before .process-in-place .ensures) refl _ _ (c .before .before .before .before .before .if1 .left) (c .before .before .before .before .wet-drive .ensures) (c .replay-by .ensures _ _)
 
 pub replayed-spec : {M : Type 1} → statement M
 replayed-spec =

@@ -1,4 +1,4 @@
-use Rattle.delivery.proofs.InPlace.{demand-lies}
+use Rattle.delivery.proofs.InPlace.{demand-ended}
 use mathlib.Core.List.{[]}
 use Rattle.engine.specs.Steps.{demandTask}
 use borrow.Author.Needs.{needs}
@@ -19,7 +19,7 @@ demand-ended-requires : tie.Need-demand-ended-requires
 demand-ended-requires c κs = search needs
 
 returns : tie.Need-returns
-returns c = rw (← (c .before .before .before .before .demand-task .ensures (c .before .before .before .before .before .before .args .zones .now)), ← (c .before .before .before .demand-start .ensures (c .before .before .before .before .before .before .args .zones .now))) (demand-lies _ _ _ _ (c .before .demand-run .ensures .0) (c .demand-ended .ensures))
+returns c = rw (← (c .before .before .before .before .demand-task .ensures (c .before .before .before .before .before .before .args .zones .now)), ← (c .before .before .before .demand-start .ensures (c .before .before .before .before .before .before .args .zones .now))) (demand-ended _ _ _ _ (c .before .demand-run .ensures .0) (c .demand-ended .ensures))
 
 pub demand-stopped-spec : {M : Type 1} → statement M
 demand-stopped-spec =
