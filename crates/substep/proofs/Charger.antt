@@ -1,6 +1,7 @@
 -- The sign of the charger's heat over a substep.
-use mathlib.Core.Path.{_≡_, ap, _∙_}
-use mathlib.Core.Bool.{false}
+use mathlib.Core.Path.{_≡_, sym, ap, _∙_}
+use mathlib.Core.Bool.{true, false}
+use mathlib.Core.Logic.{inl, inr}
 use lib.Dec.{T}
 use lib.Ieee.{Float, binary64, ofBits, neg, lt, le}
 use Rattle.floats.specs.F64.{_⊗_, _⊘_}
@@ -15,6 +16,7 @@ use Rattle.floats.proofs.Difference.{neg-nonpos, neg-nonneg}
 use Rattle.zone.specs.Heat.{kilojoules}
 use Rattle.substep.specs.Substep.{chargerHeat}
 use Rattle.substep.specs.declared.Drive.{Drive}
+use Rattle.substep.proofs.Passes.{not-alike}
 
 -- power times seconds over an hour, as heat, has the sign of the product
 module _ (power seconds : Float) (N : T (number (neg power ⊗ seconds ⊘ hour ⊗ hour))) where
@@ -47,14 +49,17 @@ not-negative power seconds sign =
     (λ h. let N = lt-number-l q zero h in lt→not-le q zero h (nonnegative power seconds N (sign (product power seconds N)))) (λ h. absurd h)
 
 -- of losses the heat is not negative
+loss-sign : (power seconds : Float) → T (le power zero) → T (le zero seconds) → T (number (neg power ⊗ seconds)) → T (le zero (neg power ⊗ seconds))
+unfolding ofBits le
+loss-sign power seconds P S N = mul-nonneg binary64 (neg power) seconds N (neg-nonneg power P) S
+
 pub charger-not-negative : (d : Drive) → T (le (d .power) zero) → T (le zero (d .seconds)) → lt (chargerHeat d .0) zero ≡ false
 unfolding chargerHeat kilojoules
-charger-not-negative d P S =
-    not-negative (d .power) (d .seconds) (λ N. mul-nonneg binary64 (neg (d .power)) (d .seconds) N (neg-nonneg (d .power) P) S)
+charger-not-negative d P S = not-negative (d .power) (d .seconds) (loss-sign (d .power) (d .seconds) P S)
 
 -- nor without a power, whatever the seconds are
 no-power : (seconds : Float) → T (number (neg zero ⊗ seconds)) → T (le zero (neg zero ⊗ seconds))
-unfolding ofBits le
+unfolding ofBits le neg
 no-power seconds N =
     elim (le-total zero seconds tt (mul-number-left binary64 seconds (neg zero) (turned binary64 (neg zero) seconds N))) [
       | inl S ↦ mul-nonneg binary64 (neg zero) seconds N tt S
@@ -64,3 +69,7 @@ no-power seconds N =
 pub charger-idle : (d : Drive) → d .power ≡ zero → lt (chargerHeat d .0) zero ≡ false
 unfolding chargerHeat kilojoules
 charger-idle d e = ap (λ (p : Float). lt (neg p ⊗ d .seconds ⊘ hour ⊗ hour) zero) e ∙ not-negative zero (d .seconds) (no-power (d .seconds))
+
+-- so a zone is never charged then
+pub idle-charges-none : {A : Type 0} (d : Drive) → d .power ≡ zero → lt (chargerHeat d .0) zero ≡ true → A
+idle-charges-none d e h = not-alike (sym (charger-idle d e) ∙ h)
