@@ -4,12 +4,12 @@ use native.Mathlib.Omega.{arith}
 use Rattle.zone.specs.Layer.{zoneSalt, One}
 use Rattle.zone.proofs.Salts.{salts-one, one-salted}
 use Rattle.card.specs.declared.Card.{Card}
-use Rattle.card.specs.Derived.{saltOf, figuresOf, SaltsOf}
+use Rattle.card.specs.Derived.{saltOf, saltsOf, figuresOf, SaltsOf}
 
 first-salt : (c : Card) → zoneSalt (figuresOf c) 0 0 ≡ saltOf c
 unfolding figuresOf zoneSalt
 first-salt c = refl
 
 pub figures-salts : (c : Card) → SaltsOf c (figuresOf c) 0
-unfolding figuresOf
+unfolding figuresOf saltsOf
 figures-salts c = (one-salted (figuresOf c) (c .layers) (omega arith), salts-one (figuresOf c) 0 refl ∙ ap One (first-salt c))

@@ -22,7 +22,7 @@ saltOf c =
     record { lower = c .lower; upper = c .upper; below = c .below ⊘ layersOf c; during = c .during ⊘ layersOf c; above = c .above ⊘ layersOf c }
 
 -- the zones' salts: one for all
-abbrev pub saltsOf : Card → Salts
+unfoldable pub saltsOf : Card → Salts
 saltsOf c = One (saltOf c)
 
 -- the same as figures

@@ -3,6 +3,7 @@ use Rattle.battery.specs.Ledger.{whole}
 use Rattle.substep.specs.declared.Drive.{Drive}
 use Rattle.runs.specs.Charge.{lossEnded, lossDrive, batteryHeatLoss}
 use Rattle.runs.proofs.InPlace.{one-substep}
+use Rattle.zone.proofs.Salts.{salts-at}
 use borrow.Author.Needs.{needs}
 use Rattle.charges.proofs.battery_heat_loss.Statement.{statement}
 use Rattle.charges.proofs.battery_heat_loss.Tie as tie
@@ -16,9 +17,9 @@ loss-drive-requires c κs = search needs
 lose-in-place-requires : tie.Need-lose-in-place-requires
 unfolding lossDrive
 lose-in-place-requires c κs =
-    let p = c .before .before .before .before .pre in
-    let e = c .before .loss-drive .ensures (c .before .before .before .before .args .zones .now) in
-    (p .0, (ap (λ (d : Drive). d .mode) e, rw e (p .1)))
+    let p = c .before .before .before .before .before .pre in
+    let e = c .before .loss-drive .ensures (c .before .before .before .before .before .args .zones .now) in
+    (p .0, (p .1 .0, (ap (λ (d : Drive). d .mode) e, rw e (p .2))))
 
 loss-ended-requires : tie.Need-loss-ended-requires
 loss-ended-requires c κs = search needs
@@ -26,8 +27,9 @@ loss-ended-requires c κs = search needs
 returns : tie.Need-returns
 unfolding batteryHeatLoss
 returns c =
-    let a = c .before .before .before .before .before .before .args in
-    rw (← (c .before .before .before .before .derived .ensures), ← (c .before .before .before .loss-drive .ensures (a .zones .now))) (one-substep (lossEnded (whole (a .l) (a .zones .now))) _ _ _ _ _ _ _ (c .before .lose-in-place .ensures) (c .loss-ended .ensures _))
+    let b = c .before .before .before .before .before .before .before in
+    let a = b .args in
+    rw (← (salts-at _ _ _ (b .pre .1 .1)), ← (c .before .before .before .before .derived .ensures), ← (c .before .before .before .loss-drive .ensures (a .zones .now))) (one-substep (lossEnded (whole (a .l) (a .zones .now))) _ _ _ _ _ _ _ _ (c .before .lose-in-place .ensures) (c .loss-ended .ensures _))
 
 pub battery-heat-loss-spec : {M : Type 1} → statement M
 battery-heat-loss-spec =
