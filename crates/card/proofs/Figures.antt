@@ -1,6 +1,8 @@
 -- A card's figures are its salts.
 use mathlib.Core.Path.{_≡_, refl, _∙_, ap}
+use mathlib.Core.List.{List}
 use native.Mathlib.Omega.{arith}
+use lib.Ieee.{Float}
 use Rattle.zone.specs.Layer.{zoneSalt, One}
 use Rattle.zone.proofs.Salts.{salts-one, one-salted}
 use Rattle.card.specs.declared.Card.{Card}
@@ -10,6 +12,10 @@ first-salt : (c : Card) → zoneSalt (figuresOf c) 0 0 ≡ saltOf c
 unfolding figuresOf zoneSalt
 first-salt c = refl
 
-pub figures-salts : (c : Card) → SaltsOf c (figuresOf c) 0
+its-figures : (c : Card) → SaltsOf c (figuresOf c) 0
 unfolding figuresOf saltsOf
-figures-salts c = (one-salted (figuresOf c) (c .layers) (omega arith), salts-one (figuresOf c) 0 refl ∙ ap One (first-salt c))
+its-figures c = (one-salted (figuresOf c) (c .layers) (omega arith), salts-one (figuresOf c) 0 refl ∙ ap One (first-salt c))
+
+-- lent with the step 0
+pub figures-salts : (c : Card) (figures : List Float) → figures ≡ figuresOf c → SaltsOf c figures 0
+figures-salts c figures e = rw e (its-figures c)
