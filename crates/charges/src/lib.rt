@@ -178,12 +178,7 @@ fn loss_ended(l: Ledger, u: Outcome) -> Stopped
 }
 
 // No loss has heat of a charger.
-pub fn battery_heat_loss(
-    l: Ledger,
-    salts: &[f64],
-    step: usize,
-    zones: &mut [f64; 64],
-) -> Stopped
+pub fn battery_heat_loss(l: Ledger, salts: &[f64], step: usize, zones: &mut [f64; 64]) -> Stopped
     requires { ⌜ (l .card .layers ≤ 64) × SaltsOf (l .card) (now salts) step × (lt (chargerHeat (lossDrive (whole l (now zones))) .0) zero ≡ false) ⌝ }
     ensures { λ r. ⌜ AsDefined (endRefusal (r .end)) r (now (zones .exit)) (batteryHeatLoss (whole l (now (zones .entry)))) ⌝ }
 {

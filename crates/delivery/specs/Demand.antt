@@ -24,7 +24,7 @@ use Rattle.delivery.specs.declared.PaceEnd.{PaceEnd}
 use Rattle.runs.specs.declared.Stopped.{Stopped}
 use Rattle.runs.specs.declared.End.{End}
 use Rattle.runs.specs.declared.End.the-variants.{Negative, Met, NoStep, OverBudget, NoLogarithm, NotFiniteRun}
-use Rattle.runs.specs.Runs.{outcome, endRefusal, nextRefusal, reynoldBetween}
+use Rattle.runs.specs.Runs.{outcome, reynoldBetween}
 use Rattle.runs.specs.Zoned.{Zoned, zoned, onPart}
 
 -- a substep of the step's length; a demand charges to level 0

@@ -1,6 +1,6 @@
 use Rattle.card.proofs.Figures.{figures-salts}
 use Rattle.battery.specs.Answer.{refusedWith}
-use Rattle.replies.proofs.Settled.{settled-answer, settled-other}
+use Rattle.replies.proofs.Settled.{settled-other}
 use Rattle.own_record.proofs.Answered.{answer-is, answered-few, answered-zones}
 use Rattle.own_record.specs.Record.{shownOf, advancedBy, advancedRead, advancedOf}
 use mathlib.Core.Path.{sym, _∙_, ap}

@@ -1,8 +1,5 @@
 use Rattle.card.specs.Derived.{derived}
-use mathlib.Core.Path.{_≡_, refl, sym, _∙_, ap}
-use Prim.Native.Nat.{ℕ, _≤_, _<_, _-_, _+_}
-use native.Mathlib.Omega.{arith}
-use borrow.Author.Needs.{needs}
+use mathlib.Core.Path.{refl}
 use Rattle.pcm.proofs.derived.Statement.{statement}
 use Rattle.pcm.proofs.derived.Tie as tie
 

@@ -1,8 +1,5 @@
 use Rattle.zone.proofs.Salts.{salts-one, salts-each}
 use Rattle.card.specs.Derived.{energyAt}
-use mathlib.Core.Path.{_≡_, refl, sym, _∙_, ap}
-use Prim.Native.Nat.{ℕ, _≤_, _<_, _-_, _+_}
-use native.Mathlib.Omega.{arith}
 use borrow.Author.Needs.{needs}
 use Rattle.pcm.proofs.energy_at.Statement.{statement}
 use Rattle.pcm.proofs.energy_at.Tie as tie

@@ -1,7 +1,4 @@
 use Rattle.card.specs.Derived.{figuresOf}
-use mathlib.Core.Path.{_≡_, refl, sym, _∙_, ap}
-use Prim.Native.Nat.{ℕ, _≤_, _<_, _-_, _+_}
-use native.Mathlib.Omega.{arith}
 use borrow.Author.Needs.{needs}
 use Rattle.pcm.proofs.figures_of.Statement.{statement}
 use Rattle.pcm.proofs.figures_of.Tie as tie
