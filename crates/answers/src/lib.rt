@@ -6,8 +6,7 @@ use battery::Reply;
 use battery::Totals;
 ghost use mathlib.Core.Path.{_≡_};
 ghost use Prim.Native.Nat.{_≤_};
-ghost use Rattle.battery.specs.Answer.{refusedWith, answerFinite};
-ghost use Rattle.battery.specs.Ledger.{answerWith, numbersFinite, plainReply, refusedReply};
+ghost use Rattle.battery.specs.Answer.{refusedWith, answerFinite, answerWith, numbersFinite, plainReply, refusedReply};
 
 // The mark of an outlet that is not there.
 const ABSENT: u8 = 0;

@@ -7,7 +7,8 @@ use borrow.Author.Tests.{eqb-true, eq-eqb}
 use lib.Dec.{eqb}
 use Rattle.card.specs.Card.{cardRefusal}
 use Rattle.card.proofs.Tests.{and-true, true-and, no-both}
-use Rattle.battery.specs.Battery.{zonesFinite, totalsFinite, batteryAccepted, GoodBattery}
+use Rattle.battery.specs.Battery.{zonesFinite, batteryAccepted, GoodBattery}
+use Rattle.battery.specs.Ledger.{totalsOf, totalsFinite}
 use Rattle.battery.specs.declared.Battery.{Battery}
 use Rattle.battery.specs.Places.{SameAbove}
 
@@ -15,7 +16,7 @@ pub record AcceptedBattery (version : ℕ) (b : Battery) : Type 0 where
   pub card : cardRefusal version (b .card) ≡ 0
   pub count : b .count ≡ b .card .layers
   pub zones : zonesFinite (b .zones) (b .card .layers) ≡ true
-  pub totals : totalsFinite b ≡ true
+  pub totals : totalsFinite (totalsOf b) ≡ true
 
 both-tests : (p q r : Bool) → cond p (cond q r false) false ≡ true → (p ≡ true) × (q ≡ true) × (r ≡ true)
 both-tests true true r h = (refl, refl, h)
@@ -27,7 +28,7 @@ module _ (version : ℕ) (b : Battery) where
   unfolding batteryAccepted
   accepted-battery h =
       let t = both-tests (eqb (cardRefusal version (b .card)) 0) (eqb (b .count) (b .card .layers)) _ h in
-      let f = and-true (zonesFinite (b .zones) (b .card .layers)) (totalsFinite b) (t .2) in
+      let f = and-true (zonesFinite (b .zones) (b .card .layers)) (totalsFinite (totalsOf b)) (t .2) in
       record { card = eqb-true _ _ (t .0); count = eqb-true _ _ (t .1); zones = f .0; totals = f .1 }
 
   pub battery-accepted : AcceptedBattery version b → batteryAccepted version b ≡ true
@@ -37,7 +38,7 @@ module _ (version : ℕ) (b : Battery) where
 -- a battery of the same card and count, and the same zones above it, is good where its zones and totals are finite
 pub stays-good :
     (version : ℕ) (b c : Battery) → GoodBattery version b → c .card ≡ b .card → c .count ≡ b .count → SameAbove (b .card .layers) (b .zones) (c .zones) →
-    zonesFinite (c .zones) (c .card .layers) ≡ true → totalsFinite c ≡ true → GoodBattery version c
+    zonesFinite (c .zones) (c .card .layers) ≡ true → totalsFinite (totalsOf c) ≡ true → GoodBattery version c
 stays-good version b c g same count kept zones totals =
     let a = accepted-battery version b (g .accepted) in
     let layers : c .card .layers ≡ b .card .layers = ap (λ k. k .layers) same in

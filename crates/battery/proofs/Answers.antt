@@ -7,9 +7,9 @@ use lib.Ieee.{Float, fits, ofBits}
 use Rattle.floats.specs.Constants.{zero}
 use Rattle.floats.specs.Standins.{finite64}
 use Rattle.card.proofs.Tests.{and-true, true-and}
-use Rattle.battery.specs.Battery.{zonesFinite, totalsFinite}
-use Rattle.battery.specs.Answer.{refusedWith, answerFinite}
-use Rattle.battery.specs.Ledger.{finiteTotals, numbersFinite, answerWith}
+use Rattle.battery.specs.Battery.{zonesFinite}
+use Rattle.battery.specs.Answer.{replyOf, refusedWith, numbersFinite, answerFinite, answerWith}
+use Rattle.battery.specs.Ledger.{totalsOf, totalsFinite}
 use Rattle.battery.specs.declared.Battery.{Battery}
 use Rattle.battery.specs.declared.Ledger.{Ledger}
 use Rattle.battery.specs.declared.Answer.{Answer}
@@ -23,7 +23,7 @@ pub record FiniteTotals (b : Battery) : Type 0 where
   pub charged : finite64 (b .charged) ≡ true
   pub electric : finite64 (b .electric) ≡ true
 
-pub finite-totals : (b : Battery) → totalsFinite b ≡ true → FiniteTotals b
+pub finite-totals : (b : Battery) → totalsFinite (totalsOf b) ≡ true → FiniteTotals b
 unfolding totalsFinite
 finite-totals b h =
     let p = and-true (finite64 (b .total)) _ h in
@@ -37,43 +37,31 @@ pub record FiniteAnswer (a : Answer) : Type 0 where
   pub outlet : finite64 (a .outlet) ≡ true
   pub time : finite64 (a .time) ≡ true
   pub zones : zonesFinite (a .battery .zones) (a .battery .card .layers) ≡ true
-  pub totals : totalsFinite (a .battery) ≡ true
+  pub totals : totalsFinite (totalsOf (a .battery)) ≡ true
 
 pub finite-answer : (a : Answer) → answerFinite a ≡ true → FiniteAnswer a
-unfolding answerFinite
+unfolding answerFinite numbersFinite
 finite-answer a h =
-    let p = and-true (finite64 (a .energy)) _ h in
+    let z = and-true (numbersFinite (replyOf a)) _ h in
+    let p = and-true (finite64 (a .energy)) _ (z .0) in
     let q = and-true (finite64 (a .outlet)) _ (p .1) in
     let r = and-true (finite64 (a .time)) _ (q .1) in
-    let s = and-true (zonesFinite (a .battery .zones) (a .battery .card .layers)) (totalsFinite (a .battery)) (r .1) in
-    record { energy = p .0; outlet = q .0; time = r .0; zones = s .0; totals = s .1 }
+    record { energy = p .0; outlet = q .0; time = r .0; zones = z .1; totals = r .1 }
 
 pub zero-finite : finite64 zero ≡ true
 unfolding finite64 fits ofBits
 zero-finite = refl
 
 pub refused-finite : (version r : ℕ) (b : Battery) → AcceptedBattery version b → answerFinite (refusedWith r b) ≡ true
-unfolding answerFinite refusedWith
-refused-finite version r b a = true-and zero-finite (true-and zero-finite (true-and zero-finite (true-and (a .zones) (a .totals))))
+unfolding answerFinite numbersFinite refusedWith
+refused-finite version r b a = true-and (true-and zero-finite (true-and zero-finite (true-and zero-finite (a .totals)))) (a .zones)
 
--- the zones' test as the last
+and-with-true : (a : Bool) → (a && true) ≡ a
+and-with-true true = refl
+and-with-true false = refl
 
-fourth-last : (a b c d e : Bool) → (a && (b && (c && (d && e)))) ≡ ((a && (b && (c && e))) && d)
-fourth-last true true true true true = refl
-fourth-last true true true true false = refl
-fourth-last true true true false true = refl
-fourth-last true true true false false = refl
-fourth-last true true false d e = refl
-fourth-last true false c d e = refl
-fourth-last false b c d e = refl
-
-module _ (l : Ledger) (r : Reply) (zones : List Float) where
-  pub numbers-and-zones : answerFinite (answerWith l r zones) ≡ (numbersFinite r && zonesFinite zones (l .card .layers))
-  unfolding answerFinite numbersFinite totalsFinite finiteTotals
-  numbers-and-zones =
-      fourth-last (finite64 (r .energy)) (finite64 (r .outlet)) (finite64 (r .time)) (zonesFinite zones (l .card .layers)) (finiteTotals (r .totals))
-
-  -- with finite zones an answer is finite where its other numbers are
-  pub numbers-decide : zonesFinite zones (l .card .layers) ≡ true → answerFinite (answerWith l r zones) ≡ numbersFinite r
-  unfolding answerFinite numbersFinite totalsFinite finiteTotals
-  numbers-decide h = rw h
+-- with finite zones an answer is finite where its other numbers are
+pub numbers-decide :
+    (l : Ledger) (r : Reply) (zones : List Float) → zonesFinite zones (l .card .layers) ≡ true → answerFinite (answerWith l r zones) ≡ numbersFinite r
+unfolding answerFinite
+numbers-decide l r zones h = rw h (and-with-true (numbersFinite r))

@@ -15,7 +15,8 @@ use Rattle.card.specs.Card.{cardRefusal}
 use Rattle.card.specs.declared.Card.{Card}
 use Rattle.card.proofs.Accepted.{accepted-layers}
 use Rattle.card.proofs.Salt.{start-finite}
-use Rattle.battery.specs.Battery.{freshZones, fresh, totalsFinite, GoodBattery}
+use Rattle.battery.specs.Battery.{freshZones, fresh, GoodBattery}
+use Rattle.battery.specs.Ledger.{totalsOf, totalsFinite}
 use Rattle.battery.proofs.Zones.{zones-finite-of}
 use Rattle.battery.proofs.Accepted.{battery-accepted}
 
@@ -38,7 +39,7 @@ fresh-below (suc n) t i h k = on (λ l. fresh-below n t i (omega arith) l) (ℕ-
     on below (yes e) = rw e (getD-set-same (freshZones n t) n t nan (simp (fresh-places n t) (omega arith)))
     on below (no ne) = getD-set-other (freshZones n t) n i t nan ne ∙ below (omega arith)
 
-fresh-totals : (c : Card) → totalsFinite (fresh c) ≡ true
+fresh-totals : (c : Card) → totalsFinite (totalsOf (fresh c)) ≡ true
 unfolding totalsFinite fresh finite64 fits ofBits
 fresh-totals c = refl
 

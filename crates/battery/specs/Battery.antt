@@ -11,6 +11,7 @@ use Rattle.floats.specs.Standins.{finite64}
 use Rattle.card.specs.declared.Card.{Card}
 use Rattle.card.specs.Card.{cardRefusal}
 use Rattle.battery.specs.declared.Battery.{Battery}
+use Rattle.battery.specs.Ledger.{totalsOf, totalsFinite}
 
 -- the first n of 64 places at one temperature, the others 0
 unfoldable pub freshZones : ℕ → Float → List Float
@@ -36,16 +37,12 @@ unfoldable pub zonesFinite : List Float → ℕ → Bool
 zonesFinite zones zero = true
 zonesFinite zones (suc n) = zonesFinite zones n && finite64 (getD zones n nan)
 
-unfoldable pub totalsFinite : Battery → Bool
-totalsFinite b =
-    finite64 (b .total) && (finite64 (b .pump) && (finite64 (b .direct) && (finite64 (b .charged) && finite64 (b .electric))))
-
 -- refusal 10's test of a battery handed in: refused is one 'whose card 1 to 4 refuse or whose zones or totals aren't finite', or whose count is not its card's
 unfoldable pub batteryAccepted : ℕ → Battery → Bool
 batteryAccepted version b =
     cond (eqb (cardRefusal version (b .card)) 0)
     (cond (eqb (b .count) (b .card .layers))
-    (zonesFinite (b .zones) (b .card .layers) && totalsFinite b)
+    (zonesFinite (b .zones) (b .card .layers) && totalsFinite (totalsOf b))
     false)
     false
 

@@ -3,7 +3,7 @@ use card::Card;
 ghost use mathlib.Core.Path.{_≡_};
 ghost use Prim.Native.Nat.{_≤_};
 ghost use Rattle.battery.specs.Battery.{fresh as freshOf, zonesFinite, batteryAccepted};
-ghost use Rattle.battery.specs.Ledger.{whole, finiteTotals, ledgerOf};
+ghost use Rattle.battery.specs.Ledger.{whole, totalsFinite, ledgerOf};
 
 #[repr(C)]
 pub struct Battery {
@@ -144,7 +144,7 @@ pub fn zones_finite(zones: &[f64; 64], n: usize) -> bool
 }
 
 pub fn totals_finite(t: Totals) -> bool
-    ensures { λ r. ⌜ r ≡ finiteTotals t ⌝ }
+    ensures { λ r. ⌜ r ≡ totalsFinite t ⌝ }
 {
     floats::both(
         floats::is_finite(t.total),

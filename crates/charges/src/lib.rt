@@ -14,9 +14,8 @@ use zone::Kilojoules;
 use zone::KilowattHours;
 ghost use mathlib.Core.Path.{_≡_};
 ghost use mathlib.Core.Bool.{false};
-ghost use mathlib.Core.List.{List};
 ghost use Prim.Native.Nat.{_≤_};
-ghost use lib.Ieee.{Float, lt};
+ghost use lib.Ieee.{lt};
 ghost use Rattle.floats.specs.Constants.{zero};
 ghost use Rattle.zone.specs.Layer.{saltsIn, Salted};
 ghost use Rattle.card.specs.Derived.{SaltsOf};
@@ -28,7 +27,7 @@ ghost use Rattle.runs.specs.Charge.{electricDrive, electricEnded, chargeElectri
 
 // The call's power over the time left.
 fn electric_drive(l: Ledger, power: f64, target: f64) -> Drive
-    ensures { λ r. ⌜ ((zones : List Float) → r ≡ electricDrive (whole l zones) power target) ⌝ }
+    ensures { λ r. ⌜ r ≡ electricDrive l power target ⌝ }
 {
     let card = l.card;
     let left = floats::max_zero(runs::time_available(l, 0.0));
@@ -46,7 +45,7 @@ fn electric_drive(l: Ledger, power: f64, target: f64) -> Drive
 }
 
 fn electric_ended(l: Ledger, u: Outcome) -> Stopped
-    ensures { λ r. ⌜ ((zones : List Float) → r ≡ electricEnded (whole l zones) u) ⌝ }
+    ensures { λ r. ⌜ r ≡ electricEnded l u ⌝ }
 {
     let energy = u.charged;
     let fault = u.fault;
@@ -80,7 +79,7 @@ pub fn charge_battery_electric(
 }
 
 fn hydronic_task(l: Ledger, wet: Exchanger, target: f64) -> HydronicTask
-    ensures { λ r. ⌜ ((zones : List Float) → r ≡ hydronicTask (whole l zones) wet target) ⌝ }
+    ensures { λ r. ⌜ r ≡ hydronicTask (l .card) wet target ⌝ }
 {
     let card = l.card;
     let pcm = pcm::derived(card);
@@ -95,7 +94,7 @@ fn hydronic_task(l: Ledger, wet: Exchanger, target: f64) -> HydronicTask
 }
 
 fn hydronic_start(l: Ledger, wet: Exchanger) -> WetPace
-    ensures { λ r. ⌜ ((zones : List Float) → r ≡ hydronicStart (whole l zones) wet) ⌝ }
+    ensures { λ r. ⌜ r ≡ hydronicStart (l .card) wet ⌝ }
 {
     let card = l.card;
     let reynold = runs::reynold_between(card.inlet, card.outlet, wet.velocity, wet.diameter);
@@ -137,14 +136,14 @@ pub fn charge_battery(
     ensures { λ r. ⌜ AsDefined (endRefusal (r .end)) r (now (zones .exit)) (chargeBattery (whole l (now (zones .entry))) source target) ⌝ }
 {
     match source {
-        Source::Electric(power) => charge_battery_electric(l, salts, step, power, target, zones),
+        Source::Electric(power) => { charge_battery_electric(l, salts, step, power, target, zones) }
         Source::Wet(wet) => charge_battery_hydronic(l, salts, step, wet, target, zones),
     }
 }
 
 // The rated losses over the whole timestep.
 fn loss_drive(l: Ledger) -> Drive
-    ensures { λ r. ⌜ ((zones : List Float) → r ≡ lossDrive (whole l zones)) ⌝ }
+    ensures { λ r. ⌜ r ≡ lossDrive (l .card) ⌝ }
 {
     let card = l.card;
     Drive {
@@ -161,7 +160,7 @@ fn loss_drive(l: Ledger) -> Drive
 }
 
 fn loss_ended(l: Ledger, u: Outcome) -> Stopped
-    ensures { λ r. ⌜ ((zones : List Float) → r ≡ lossEnded (whole l zones) u) ⌝ }
+    ensures { λ r. ⌜ r ≡ lossEnded l u ⌝ }
 {
     let delivered = u.delivered;
     let energy = delivered.kilowatt_hours();
@@ -179,7 +178,7 @@ fn loss_ended(l: Ledger, u: Outcome) -> Stopped
 
 // No loss has heat of a charger.
 pub fn battery_heat_loss(l: Ledger, salts: &[f64], step: usize, zones: &mut [f64; 64]) -> Stopped
-    requires { ⌜ (l .card .layers ≤ 64) × SaltsOf (l .card) (now salts) step × (lt (chargerHeat (lossDrive (whole l (now zones))) .0) zero ≡ false) ⌝ }
+    requires { ⌜ (l .card .layers ≤ 64) × SaltsOf (l .card) (now salts) step × (lt (chargerHeat (lossDrive (l .card)) .0) zero ≡ false) ⌝ }
     ensures { λ r. ⌜ AsDefined (endRefusal (r .end)) r (now (zones .exit)) (batteryHeatLoss (whole l (now (zones .entry)))) ⌝ }
 {
     let card = l.card;
@@ -222,7 +221,7 @@ pub fn calculate_charge_energy_demand(
     soc: f64,
 ) -> KilowattHours
     requires { ⌜ (l .card .layers ≤ 64) × SaltsOf (l .card) (now salts) step ⌝ }
-    ensures { λ r. ⌜ ((zones : List Float) → r ≡ chargeEnergyDemand (whole l zones) most target soc) ⌝ }
+    ensures { λ r. ⌜ r ≡ chargeEnergyDemand (l .card) most target soc ⌝ }
 {
     let card = l.card;
     if soc > target {

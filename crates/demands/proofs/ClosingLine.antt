@@ -6,8 +6,9 @@ use lib.ListN.{getD, replicate}
 use lib.Ieee.{binary64, ofBits, fits, nan}
 use Rattle.floats.specs.Constants.{zero}
 use Rattle.floats.specs.Standins.{finite64}
-use Rattle.battery.specs.Battery.{zonesFinite, totalsFinite}
-use Rattle.battery.specs.Answer.{plainAnswer, answerFinite}
+use Rattle.battery.specs.Battery.{zonesFinite}
+use Rattle.battery.specs.Ledger.{totalsFinite}
+use Rattle.battery.specs.Answer.{plainAnswer, numbersFinite, answerFinite}
 use Rattle.battery.specs.declared.Battery.{Battery}
 use Rattle.battery.specs.declared.Call.the-variants.{CloseTimestep}
 use Rattle.replies.specs.Replies.{checked, closedBattery}
@@ -19,7 +20,7 @@ use Rattle.sheet.proofs.LineLaws as sheet
 module _ (b : Battery) (layers : b .card .layers ≡ 1) (zone : getD (b .zones) 0 nan ≡ ofBits binary64 0x404E000000000000)
     (charged : b .charged ≡ zero) (electric : b .electric ≡ zero) where
   closed-finite : answerFinite (plainAnswer zero (closedBattery b)) ≡ true
-  unfolding answerFinite plainAnswer closedBattery zonesFinite totalsFinite finite64 fits ofBits
+  unfolding answerFinite numbersFinite plainAnswer closedBattery zonesFinite totalsFinite finite64 fits ofBits
   closed-finite = rw (layers, zone, charged, electric)
 
   closed-answer : stepOf 1 b CloseTimestep ≡ plainAnswer zero (closedBattery b)

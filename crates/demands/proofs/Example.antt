@@ -13,10 +13,11 @@ use Rattle.charging.specs.Charging.{counted, chargingWithdrawn, chargingAdded, 
 use Rattle.water.specs.Water.{zoneProperties}
 use Rattle.card.specs.Card.{countsInRange, timesInRange, temperaturesInRange, capacitiesInRange, exchangerInRange, powersInRange, cardInRange, cardVerdict, verdictNumber, cardRefusal}
 use Rattle.card.specs.Derived.{saltOf, saltsOf, derived}
-use Rattle.battery.specs.Answer.{refusedWith, plainAnswer, answerFinite}
-use Rattle.battery.specs.Battery.{freshZones, fresh, zonesFinite, totalsFinite, batteryAccepted}
+use Rattle.battery.specs.Answer.{refusedWith, plainAnswer, numbersFinite, answerFinite}
+use Rattle.battery.specs.Battery.{freshZones, fresh, zonesFinite, batteryAccepted}
+use Rattle.battery.specs.Ledger.{totalsFinite}
 use Rattle.call_ranges.specs.Call.{isLevel, isGivenTemperature, demandInRange, callInRange}
-use Rattle.substep.specs.Substep.{zoneIndex, zoneCharge, zoneStep, zoneAt, zonesAfter, zoneTransfer, courseOf, chargerHeat, passFrom, passFinite, passFault, substepFrom, withTransfer, processHeatBatteryZones}
+use Rattle.substep.specs.Substep.{outcomeOf, zoneIndex, zoneCharge, zoneStep, zoneAt, zonesAfter, zoneTransfer, courseOf, chargerHeat, passFrom, passFinite, passFault, substepFrom, withTransfer, processHeatBatteryZones}
 use Rattle.runs.specs.Charge.{electricDrive, electricEnded, chargeElectric, chargeBattery}
 use Rattle.runs.specs.Runs.{faultEnd, endRefusal, timeAvailable}
 use Rattle.replies.specs.Replies.{checked, unlessRefused, chargedBattery, runAnswer}
@@ -39,5 +40,5 @@ pub example :
     × (entryOf 1 freshRecord exampleCharge (replicate 97 0) ≡ record { code = 0; record' = chargedRecord; sheet = chargeLine })
     × (entryOf 1 chargedRecord exampleDemand (replicate 109 0) ≡ record { code = 20; record' = chargedRecord; sheet = refusedLine })
     × (auditOf exampleSheet ≡ Accepted 2)
-unfolding finite64 magnitude larger nearlyEqual maxZero sum2Step sum2After sum2 be beBytes f64Of f64Bytes over kilowattHours kilojoules layerEnergyStored tempAt socToTemp zoneEnergyRequired within isSubstep isTimestep isTemperature isCapacity isVelocity isDiameter isCoefficient isFlow isPower retrievingFromBelow retrieving newZoneTemperature counted chargingWithdrawn chargingAdded zoneSimultaneousCharging zoneProperties countsInRange timesInRange temperaturesInRange capacitiesInRange exchangerInRange powersInRange cardInRange cardVerdict verdictNumber cardRefusal saltOf saltsOf derived refusedWith plainAnswer answerFinite freshZones fresh zonesFinite totalsFinite batteryAccepted isLevel isGivenTemperature demandInRange callInRange zoneIndex zoneCharge zoneStep zoneAt zonesAfter zoneTransfer courseOf chargerHeat passFrom passFinite passFault substepFrom withTransfer processHeatBatteryZones electricDrive electricEnded chargeElectric chargeBattery faultEnd endRefusal timeAvailable checked unlessRefused chargedBattery runAnswer demandGiven demandEnergy charge stepOf advanceOf callLength markOk givenAt demandAt demandCall callBy callOf cardLength cardAt zonesAt zonesBytes totalsBytes stateLength stateAt stateBytes recordLength recordOf recordBytes headLength answerLength answerAt headBytes answerBytes marksOk sameNumber sameZones sameTotals agrees lineLength lineSize lineBytes openingLength openingBytes openOf renewed lineAfter recordLaid callPart answerPart behind headOk lineCall judge auditLine auditFrom cardLineOk auditLines auditOf entryRead entryOf ofBits toBits ofInt add sub mul div neg lt le eq fits
+unfolding finite64 magnitude larger nearlyEqual maxZero sum2Step sum2After sum2 be beBytes f64Of f64Bytes over kilowattHours kilojoules layerEnergyStored tempAt socToTemp zoneEnergyRequired within isSubstep isTimestep isTemperature isCapacity isVelocity isDiameter isCoefficient isFlow isPower retrievingFromBelow retrieving newZoneTemperature counted chargingWithdrawn chargingAdded zoneSimultaneousCharging zoneProperties countsInRange timesInRange temperaturesInRange capacitiesInRange exchangerInRange powersInRange cardInRange cardVerdict verdictNumber cardRefusal saltOf saltsOf derived refusedWith plainAnswer numbersFinite answerFinite freshZones fresh zonesFinite totalsFinite batteryAccepted isLevel isGivenTemperature demandInRange callInRange zoneIndex zoneCharge zoneStep zoneAt zonesAfter zoneTransfer courseOf chargerHeat passFrom passFinite passFault outcomeOf substepFrom withTransfer processHeatBatteryZones electricDrive electricEnded chargeElectric chargeBattery faultEnd endRefusal timeAvailable checked unlessRefused chargedBattery runAnswer demandGiven demandEnergy charge stepOf advanceOf callLength markOk givenAt demandAt demandCall callBy callOf cardLength cardAt zonesAt zonesBytes totalsBytes stateLength stateAt stateBytes recordLength recordOf recordBytes headLength answerLength answerAt headBytes answerBytes marksOk sameNumber sameZones sameTotals agrees lineLength lineSize lineBytes openingLength openingBytes openOf renewed lineAfter recordLaid callPart answerPart behind headOk lineCall judge auditLine auditFrom cardLineOk auditLines auditOf entryRead entryOf ofBits toBits ofInt add sub mul div neg lt le eq fits
 example = (refl, refl, refl, refl)

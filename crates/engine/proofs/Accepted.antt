@@ -31,5 +31,5 @@ accepted-few version b x h =
 pub accepted-finite : (version : ℕ) (b : Battery) (x : Bool) → (batteryAccepted version b && x) ≡ true → zonesFinite (b .zones) (b .card .layers) ≡ true
 accepted-finite version b x h = accepted-battery version b (and-true (batteryAccepted version b) x h .0) .zones
 
-pub accepted-losses : (version : ℕ) (b : Battery) (x : Bool) → (batteryAccepted version b && x) ≡ true → lt (chargerHeat (lossDrive b) .0) zero ≡ false
+pub accepted-losses : (version : ℕ) (b : Battery) (x : Bool) → (batteryAccepted version b && x) ≡ true → lt (chargerHeat (lossDrive (b .card)) .0) zero ≡ false
 accepted-losses version b x h = no-charger version b (accepted-card version b (and-true (batteryAccepted version b) x h .0))

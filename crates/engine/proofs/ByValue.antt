@@ -7,8 +7,8 @@ use Rattle.battery.specs.declared.Battery.{Battery}
 use Rattle.battery.specs.declared.Call.{Call}
 use Rattle.battery.specs.declared.Ledger.{Ledger}
 use Rattle.battery.specs.declared.Reply.{Reply}
-use Rattle.battery.specs.Answer.{refusedWith}
-use Rattle.battery.specs.Ledger.{whole, answerWith, settled, ledgerOf}
+use Rattle.battery.specs.Answer.{refusedWith, answerWith, settled}
+use Rattle.battery.specs.Ledger.{whole, ledgerOf}
 use Rattle.replies.proofs.Settled.{settled-answer, settled-other}
 use Rattle.engine.specs.Steps.{advanceOf}
 

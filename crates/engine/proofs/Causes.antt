@@ -11,6 +11,7 @@ use Rattle.zone.specs.Layer.{saltAt}
 use Rattle.card.specs.Derived.{saltsOf, derived}
 use Rattle.card.proofs.Tests.{and-true}
 use Rattle.battery.specs.Answer.{plainAnswer, answerFinite}
+use Rattle.battery.specs.Ledger.{ledgerOf}
 use Rattle.battery.specs.declared.Battery.{Battery}
 use Rattle.battery.specs.declared.Given.{Given}
 use Rattle.battery.specs.declared.Given.the-variants.{Value}
@@ -28,13 +29,11 @@ use Rattle.runs.specs.Hydronic.{hydronicEnded}
 use Rattle.runs.specs.Charge.{electricDrive, electricEnded, chargeElectric, chargeHydronic, chargeBattery, lossDrive, lossEnded, batteryHeatLoss, chargeEnergyDemand}
 use Rattle.runs.specs.declared.End.{End}
 use Rattle.runs.specs.declared.End.the-variants.{OverBudget}
-use Rattle.runs.specs.Zoned.{Zoned}
-use Rattle.runs.specs.declared.Stopped.{Stopped}
 use Rattle.runs.specs.declared.Source.{Source}
 use Rattle.runs.specs.declared.Source.the-variants.{Electric}
 use Rattle.delivery.specs.Demand.{demandEnded}
 use Rattle.totals.specs.Classes.{serviceClass, unserved}
-use Rattle.replies.specs.Replies.{checked, unlessRefused, demandAnswer, runAnswer, chargedBattery, cooledBattery, closedBattery}
+use Rattle.replies.specs.Replies.{checked, unlessRefused, demandAnswer, chargedAnswer, cooledAnswer, closedBattery}
 use Rattle.engine.specs.Steps.{demandRunOf, demandRan, demandFrom, demandGiven, demandEnergy, charge, heatLoss, level, readLevel, demandToLevel, wetSource, stepOf}
 use Rattle.engine.specs.Budget.{hydronicRunOf, BudgetUsed}
 use Rattle.engine.specs.Faults.{DemandFaulted, AnswerNotFinite, NotFiniteFound, NoLogarithmTaken, OverFull}
@@ -50,11 +49,11 @@ module _ (n : ℕ) (l : 22 ≤ n) (b : Battery) where
   unfolding checked
   checked-refuses a e h = rw h (refused-number 23 b ∙ sym e)
 
-  run-refuses : (r : Zoned Stopped) (a : Answer) → RunWhy n r a → unlessRefused b r a .refusal ≡ n
+  run-refuses : (end : End) (a : Answer) → RunWhy n end a → unlessRefused b end a .refusal ≡ n
   unfolding unlessRefused
-  run-refuses r a (inl h) =
-      rw (ne-eqb (endRefusal (r .part .end)) 0 (λ z. omega arith)) (refused-number (endRefusal (r .part .end)) b ∙ h)
-  run-refuses r a (inr w) = rw (eq-eqb (endRefusal (r .part .end)) 0 (w .1 .ended)) (checked-refuses a (w .0) (w .1 .found))
+  run-refuses end a (inl h) =
+      rw (ne-eqb (endRefusal end) 0 (λ z. omega arith)) (refused-number (endRefusal end) b ∙ h)
+  run-refuses end a (inr w) = rw (eq-eqb (endRefusal end) 0 (w .1 .ended)) (checked-refuses a (w .0) (w .1 .found))
 
   module _ (d : Demand) (in-range : demandInRange (b .card) d ≡ true) (runs : Runs b (DemandEnergy d)) where
     -- a demand with a return temperature that 21 doesn't refuse is served
@@ -78,7 +77,7 @@ module _ (n : ℕ) (l : 22 ≤ n) (b : Battery) where
     unfolding demandFrom
     from-refuses w =
         let r = demandRan b d (w .feed) in
-        rw (is-served (w .asked) (w .feed) (w .given)) (run-refuses r (demandAnswer b d r) (w .why))
+        rw (is-served (w .asked) (w .feed) (w .given)) (run-refuses (r .part .end) (demandAnswer b d r) (w .why))
 
     demand-refuses : Why n b (DemandEnergy d) → demandEnergy b d .refusal ≡ n
     unfolding demandEnergy demandGiven
@@ -91,23 +90,23 @@ module _ (n : ℕ) (l : 22 ≤ n) (b : Battery) where
   level-refuses (inr w) = rw (w .1 .read) (checked-refuses (plainAnswer (w .1 .soc) b) (w .0) (w .1 .found))
 
   to-level-refuses :
-      (most : Given) (target : Float) → LevelWhy n b (λ soc. chargeEnergyDemand b most target soc .0) → demandToLevel b most target (level b) .refusal ≡ n
+      (most : Given) (target : Float) → LevelWhy n b (λ soc. chargeEnergyDemand (b .card) most target soc .0) → demandToLevel b most target (level b) .refusal ≡ n
   unfolding demandToLevel
   to-level-refuses most target (inl w) = rw (w .1) (refused-number 25 b ∙ sym (w .0))
   to-level-refuses most target (inr w) =
-      rw (w .1 .read) (checked-refuses (plainAnswer (chargeEnergyDemand b most target (w .1 .soc) .0) b) (w .0) (w .1 .found))
+      rw (w .1 .read) (checked-refuses (plainAnswer (chargeEnergyDemand (b .card) most target (w .1 .soc) .0) b) (w .0) (w .1 .found))
 
   charge-refuses : (source : Source) (target : Float) → ChargeWhy n b source target → charge b source target .refusal ≡ n
   unfolding charge
   charge-refuses source target w =
       let r = chargeBattery b source target in
-      run-refuses r (runAnswer r (chargedBattery b r)) w
+      run-refuses (r .part .end) (chargedAnswer b r) w
 
   loss-refuses : Why n b HeatLoss → heatLoss b .refusal ≡ n
   unfolding heatLoss
   loss-refuses w =
       let r = batteryHeatLoss b in
-      run-refuses r (runAnswer r (cooledBattery b r)) w
+      run-refuses (r .part .end) (cooledAnswer b r) w
 
 pub why-refuses : (n : ℕ) → 22 ≤ n → (version : ℕ) (b : Battery) (call : Call) → callInRange version (b .card) call ≡ true → Runs b call → Why n b call → stepOf version b call .refusal ≡ n
 unfolding stepOf callInRange
@@ -144,11 +143,11 @@ module _ (b : Battery) where
   unfolding chargeBattery wetSource chargeHydronic hydronicEnded
   hydronic-end h = refl
 
-  electric-end : (power target : Float) → chargeBattery b (Electric power) target .part .end ≡ faultEnd (processHeatBatteryZones (b .card) (derived (b .card)) (saltAt (saltsOf (b .card))) (electricDrive b power target) (b .zones) .fault)
+  electric-end : (power target : Float) → chargeBattery b (Electric power) target .part .end ≡ faultEnd (processHeatBatteryZones (b .card) (derived (b .card)) (saltAt (saltsOf (b .card))) (electricDrive (ledgerOf b) power target) (b .zones) .fault)
   unfolding chargeBattery chargeElectric electricEnded outcomeOf
   electric-end power target = refl
 
-  loss-end : batteryHeatLoss b .part .end ≡ faultEnd (processHeatBatteryZones (b .card) (derived (b .card)) (saltAt (saltsOf (b .card))) (lossDrive b) (b .zones) .fault)
+  loss-end : batteryHeatLoss b .part .end ≡ faultEnd (processHeatBatteryZones (b .card) (derived (b .card)) (saltAt (saltsOf (b .card))) (lossDrive (b .card)) (b .zones) .fault)
   unfolding batteryHeatLoss lossEnded outcomeOf
   loss-end = refl
 
@@ -176,9 +175,9 @@ module _ (b : Battery) where
   logarithm-why (ChargeEnergyDemand most target) w = absurd w
 
   -- a run's own substep, or its answer
-  run-23 : {A : Type 0} (r : Zoned Stopped) (a : Answer) → (A → r .part .end ≡ faultEnd NotFinite) → A ⊎ AnswerNotFinite r a → RunWhy 23 r a
-  run-23 r a f (inl w) = inl (not-finite-23 (r .part .end) (f w))
-  run-23 r a f (inr w) = inr (refl, w)
+  run-23 : {A : Type 0} (end : End) (a : Answer) → (A → end ≡ faultEnd NotFinite) → A ⊎ AnswerNotFinite end a → RunWhy 23 end a
+  run-23 end a f (inl w) = inl (not-finite-23 end (f w))
+  run-23 end a f (inr w) = inr (refl, w)
 
   pub not-finite-why : (call : Call) → NotFiniteFound b call → Why 23 b call
   not-finite-why (DemandEnergy d) (inl w) = inr (demand-ended 23 NotFinite not-finite-23 d w)

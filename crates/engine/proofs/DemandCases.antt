@@ -27,7 +27,7 @@ use Rattle.battery.specs.declared.Given.the-variants.{Absent, Value}
 use Rattle.runs.specs.Runs.{endRefusal}
 use Rattle.runs.specs.Charge.{chargeBattery, batteryHeatLoss, chargeEnergyDemand}
 use Rattle.totals.specs.Classes.{serviceClass, unserved}
-use Rattle.replies.specs.Replies.{checked, unlessRefused, demandAnswer, chargedBattery, cooledBattery, closedBattery, runAnswer}
+use Rattle.replies.specs.Replies.{checked, unlessRefused, demandAnswer, closedBattery, runAnswer, chargedAnswer, cooledAnswer}
 use Rattle.engine.specs.Steps.{demandRan, demandFrom, demandGiven, demandEnergy, charge, heatLoss, level, readLevel, demandToLevel, wetSource, stepOf}
 use Rattle.runs.specs.declared.End.{End}
 use Rattle.runs.specs.declared.End.the-variants.{Done, Negative, Met, NoStep, Level, Limit, Time, OverBudget, NoLogarithm, NotFiniteRun}
@@ -65,22 +65,22 @@ module _ (b : Battery) (a : Answer) (z : a .refusal ≡ 0) where
       on true = inl z
       on false = inr (omega arith)
 
-  run-late : (r : Zoned Stopped) → Late (unlessRefused b r a .refusal)
+  run-late : (end : End) → Late (unlessRefused b end a .refusal)
   unfolding unlessRefused
-  run-late r = on (eqb (endRefusal (r .part .end)) 0)
+  run-late end = on (eqb (endRefusal end) 0)
     where
-      on : (t : Bool) → Late (cond t (checked b a) (refusedWith (endRefusal (r .part .end)) b) .refusal)
+      on : (t : Bool) → Late (cond t (checked b a) (refusedWith (endRefusal end) b) .refusal)
       on true = checked-late
-      on false = unfold refusedWith in end-late (r .part .end)
+      on false = unfold refusedWith in end-late end
 
 module _ (b : Battery) where
   pub charge-late : (source : Source) (target : Float) → Late (charge b source target .refusal)
   unfolding charge runAnswer
-  charge-late source target = let r = chargeBattery b source target in run-late b (runAnswer r (chargedBattery b r)) refl r
+  charge-late source target = let r = chargeBattery b source target in run-late b (chargedAnswer b r) refl (r .part .end)
 
   pub loss-late : Late (heatLoss b .refusal)
   unfolding heatLoss runAnswer
-  loss-late = let r = batteryHeatLoss b in run-late b (runAnswer r (cooledBattery b r)) refl r
+  loss-late = let r = batteryHeatLoss b in run-late b (cooledAnswer b r) refl (r .part .end)
 
   pub plain-late : (c : Battery) (energy : Float) → Late (checked b (plainAnswer energy c) .refusal)
   unfolding plainAnswer
@@ -94,7 +94,7 @@ module _ (b : Battery) where
   pub to-level-late : (most : Given) (target : Float) (s : StateOfCharge) → Late (demandToLevel b most target s .refusal)
   unfolding demandToLevel refusedWith
   to-level-late most target Above = inr (omega arith)
-  to-level-late most target (Charged soc) = plain-late b (chargeEnergyDemand b most target soc .0)
+  to-level-late most target (Charged soc) = plain-late b (chargeEnergyDemand (b .card) most target soc .0)
 
 -- ---- a demand
 
@@ -116,9 +116,9 @@ module _ (b : Battery) (d : Demand) where
       r : Zoned Stopped
       r = demandRan b d feed
 
-      on : (t : Bool) → (d .commit && combi) ≡ t → DemandWay b d (cond t (refusedWith 21 b) (unlessRefused b r (demandAnswer b d r)) .refusal)
+      on : (t : Bool) → (d .commit && combi) ≡ t → DemandWay b d (cond t (refusedWith 21 b) (unlessRefused b (r .part .end) (demandAnswer b d r)) .refusal)
       on true k = let p = and-true (d .commit) combi k in unfold refusedWith in twenty-one h feed e (p .0) (p .1) refl
-      on false k = late (run-late b (demandAnswer b d r) (unfold demandAnswer in refl) r)
+      on false k = late (run-late b (demandAnswer b d r) (unfold demandAnswer in refl) (r .part .end))
 
   given-way : le (d .required) tolerance ≡ false → (g : Given) → d .feed ≡ g → DemandWay b d (demandGiven b d g .refusal)
   unfolding demandGiven refusedWith

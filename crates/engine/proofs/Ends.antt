@@ -39,9 +39,9 @@ module _ (x : DemandTask) (salts : ℕ → Salt) where
       (λ k n s e h. omega arith)
       (λ k n s d h r. omega arith)
 
-  pub demand-run-over : (k n : ℕ) (s : Zoned Pace) → demandRun x salts k n s .part .end ≡ OverBudget → DemandOver (n + k) (demandRun x salts k n s)
+  pub demand-run-over : (k n : ℕ) (s : Zoned Pace) → demandRun x salts k n s .part .end ≡ OverBudget → DemandOver (n + k) (demandRun x salts k n s .part)
   demand-run-over =
-      demand-induction x salts (λ k n s d. d .part .end ≡ OverBudget → DemandOver (n + k) d)
+      demand-induction x salts (λ k n s d. d .part .end ≡ OverBudget → DemandOver (n + k) (d .part))
       (λ k n s h. never (cc))
       (λ n s p h. record { ended = refl; used = omega arith; due = p })
       (λ k n s e p h. absurd (demand-keeps x salts s .within (p ∙ ap Stop h)))
@@ -69,7 +69,7 @@ module _ (x : HydronicTask) (salts : ℕ → Salt) where
       HydronicOver x salts steps (hydronicEnd (onPart wetPace (hydronicStep x salts n s)) e (hydronicStep x salts n s .part .substeps))
   last-turn steps n s e p h =
       let k = hydronic-keeps x salts n s in
-      record { ended = h; used = k .used p; due = inr (subst (λ (v : Zoned WetPace). FractionDue x v (wholeFrom x salts v)) (sym (k .same p)) (k .due p)) }
+      record { ended = h; used = k .used p; due = inr (subst (λ (v : Zoned WetPace). FractionDue x (v .part) (wholeFrom x salts v)) (sym (k .same p)) (k .due p)) }
 
   pub hydronic-run-over : (k n : ℕ) (s : Zoned WetPace) → hydronicRun x salts k n s .part .end ≡ OverBudget → HydronicOver x salts (n + k) (hydronicRun x salts k n s)
   hydronic-run-over =

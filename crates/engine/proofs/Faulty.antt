@@ -127,10 +127,10 @@ demandFromRun x salts s = processHeatBatteryZones (x .card) (x .pcm) salts (dema
 
 -- the fractional substep behind the whole substep u from s
 abbrev fractionFrom : HydronicTask → (ℕ → Salt) → Zoned WetPace → Substep → Substep
-fractionFrom x salts s u = processHeatBatteryZones (x .card) (x .pcm) salts (fractionDrive x s u) (s .zones)
+fractionFrom x salts s u = processHeatBatteryZones (x .card) (x .pcm) salts (fractionDrive x (s .part) u) (s .zones)
 
 record FractionTold (x : HydronicTask) (salts : ℕ → Salt) (s : Zoned WetPace) (u : Substep) (f : Fault) : Type 0 where
-  due : FractionDue x s u
+  due : FractionDue x (s .part) u
   fault : fractionFrom x salts s u .fault ≡ f
 
 -- the fault that an end tells of
@@ -197,7 +197,7 @@ module _ (x : HydronicTask) (salts : ℕ → Salt) (n : ℕ) (s : Zoned WetPace)
   abbrev Told : Zoned WetTurn → Type 0
   Told = HydronicTold x salts s u
 
-  module _ (w : FractionDue x s u) (seconds reynold : Float) where
+  module _ (w : FractionDue x (s .part) u) (seconds reynold : Float) where
     told-replay : (f : Fault) → fractionFrom x salts s u .fault ≡ f → Told (replayBy x (n + 1) s seconds reynold (outcome (fractionFrom x salts s u)) f)
     unfolding replayBy
     told-replay Nothing h = record { same = λ q. absurd (q refl); fault = λ q. absurd (q refl) }
@@ -205,8 +205,8 @@ module _ (x : HydronicTask) (salts : ℕ → Salt) (n : ℕ) (s : Zoned WetPace)
     told-replay NotFinite h = record { same = λ q. refl; fault = λ q. inr (record { due = w; fault = h }) }
 
   told-replayed :
-      FractionDue x s u →
-      Told (replayed x salts n s (fractionSeconds x (absorbedWith s u) (heatOf u)) (reynoldBetween (x .wet .inlet) (u .outlet) (x .wet .velocity) (x .wet .diameter)))
+      FractionDue x (s .part) u →
+      Told (replayed x salts n s (fractionSeconds x (absorbedWith (s .part) u) (heatOf u)) (reynoldBetween (x .wet .inlet) (u .outlet) (x .wet .velocity) (x .wet .diameter)))
   unfolding replayed outcomeOf
   told-replayed w =
       by-test Told (eqb n (x .card .budget)) _ _
@@ -217,7 +217,7 @@ module _ (x : HydronicTask) (salts : ℕ → Salt) (n : ℕ) (s : Zoned WetPace)
   unfolding hydronicWhole outcomeOf
   told-whole w =
       by-test Told (clearlyBelow (u .outlet) (x .wet .inlet)) _ _
-      (λ a. by-test Told (limitReached (absorbedWith s u) (x .limit)) _ _
+      (λ a. by-test Told (limitReached (absorbedWith (s .part) u) (x .limit)) _ _
       (λ b. by-test Told (lt Constants.zero (heatOf u .0)) _ _
       (λ c. told-replayed (record { worked = w; below = a; passed = b; heat = c }))
       (λ c. record { same = λ q. absurd (q refl); fault = λ q. absurd (q refl) }))
@@ -256,7 +256,7 @@ module _ (x : HydronicTask) (salts : ℕ → Salt) where
   at-test : (s : Zoned WetPace) (f : Fault) → (f ≡ Nothing → ⊥) → Ends s f → HydronicFault f x salts s
   at-test s f q (inl h) = inl (substep-fault (x .card) (x .pcm) salts (wetDrive x (x .card .substep) (s .part .reynold)) (s .zones) f q h)
   at-test s f q (inr w) =
-      inr (record { due = w .due; fault = substep-fault (x .card) (x .pcm) salts (fractionDrive x s (wholeFrom x salts s)) (s .zones) f q (w .fault) })
+      inr (record { due = w .due; fault = substep-fault (x .card) (x .pcm) salts (fractionDrive x (s .part) (wholeFrom x salts s)) (s .zones) f q (w .fault) })
 
   pub hydronic-run-faults :
       (k n : ℕ) (s : Zoned WetPace) → (endFault (hydronicRun x salts k n s .part .end) ≡ Nothing → ⊥) → HydronicFault (endFault (hydronicRun x salts k n s .part .end)) x salts (onPart wetEndPace (hydronicRun x salts k n s))

@@ -21,6 +21,7 @@ use Rattle.card.specs.declared.Card.{Card}
 use Rattle.card.specs.declared.HeatBatteryPcm.{HeatBatteryPcm}
 use Rattle.card.proofs.Tests.{and-true}
 use Rattle.battery.specs.Battery.{zonesFinite}
+use Rattle.battery.specs.Ledger.{ledgerOf}
 use Rattle.battery.specs.declared.Battery.{Battery}
 use Rattle.battery.specs.declared.Demand.{Demand}
 use Rattle.substep.specs.Substep.{outcomeOf, zoneTransfer, passFinite, passFault, withoutLogarithm, substepFrom, withTransfer, processHeatBatteryZones}
@@ -168,18 +169,18 @@ hydronic-run-finite x salts =
 module _ (b : Battery) where
   electric-finite : (power target : Float) → endRefusal (chargeElectric b power target .part .end) ≡ 0 → Finite (b .card .layers) (chargeElectric b power target .zones)
   unfolding chargeElectric electricEnded outcomeOf
-  electric-finite power target e = substep-finite (b .card) (derived (b .card)) (saltAt (saltsOf (b .card))) (electricDrive b power target) (b .zones) (answers-faultless _ e)
+  electric-finite power target e = substep-finite (b .card) (derived (b .card)) (saltAt (saltsOf (b .card))) (electricDrive (ledgerOf b) power target) (b .zones) (answers-faultless _ e)
 
   pub loss-leaves-finite : endRefusal (batteryHeatLoss b .part .end) ≡ 0 → zonesFinite (batteryHeatLoss b .zones) (b .card .layers) ≡ true
   unfolding batteryHeatLoss lossEnded outcomeOf
-  loss-leaves-finite e = substep-finite (b .card) (derived (b .card)) (saltAt (saltsOf (b .card))) (lossDrive b) (b .zones) (answers-faultless _ e)
+  loss-leaves-finite e = substep-finite (b .card) (derived (b .card)) (saltAt (saltsOf (b .card))) (lossDrive (b .card)) (b .zones) (answers-faultless _ e)
 
   module _ (h : zonesFinite (b .zones) (b .card .layers) ≡ true) where
     hydronic-finite : (wet : Exchanger) (target : Float) → Finite (b .card .layers) (chargeHydronic b wet target .zones)
     unfolding chargeHydronic hydronicEnded hydronicTask hydronicStart
     hydronic-finite wet target =
-        let x = hydronicTask b wet target in
-        hydronic-run-finite x (saltAt (saltsOf (b .card))) (wholeSubsteps x) 0 (zoned (hydronicStart b wet) (b .zones)) h
+        let x = hydronicTask (b .card) wet target in
+        hydronic-run-finite x (saltAt (saltsOf (b .card))) (wholeSubsteps x) 0 (zoned (hydronicStart (b .card) wet) (b .zones)) h
 
     pub charge-leaves-finite :
         (source : Source) (target : Float) → endRefusal (chargeBattery b source target .part .end) ≡ 0 →
@@ -191,7 +192,7 @@ module _ (b : Battery) where
     -- however it ended
     pub demand-leaves-finite : (d : Demand) (feed : Float) → zonesFinite (demandRan b d feed .zones) (b .card .layers) ≡ true
     unfolding demandEnded demandTask demandStart
-    demand-leaves-finite d feed = demand-run-finite (demandTask b d feed) (saltAt (saltsOf (b .card))) (b .card .budget) 0 (zoned (demandStart b) (b .zones)) h
+    demand-leaves-finite d feed = demand-run-finite (demandTask (ledgerOf b) d feed) (saltAt (saltsOf (b .card))) (b .card .budget) 0 (zoned (demandStart (ledgerOf b)) (b .zones)) h
 
 -- where the run's zones lie apart, those that it left
 pub left-finite :

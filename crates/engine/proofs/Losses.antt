@@ -36,8 +36,8 @@ unfolding timesInRange isTimestep ofBits le
 timestep-nonneg c h =
     le-trans zero hundredth (c .timestep) tt (within-low hundredth day (c .timestep) (and-true (isSubstep (c .substep)) (isTimestep (c .timestep)) h .1))
 
-pub no-charger : (version : ℕ) (b : Battery) → cardRefusal version (b .card) ≡ 0 → lt (chargerHeat (lossDrive b) .0) zero ≡ false
+pub no-charger : (version : ℕ) (b : Battery) → cardRefusal version (b .card) ≡ 0 → lt (chargerHeat (lossDrive (b .card)) .0) zero ≡ false
 unfolding lossDrive ofBits
 no-charger version b h =
     let c = accepted version (b .card) h in
-    charger-not-negative (lossDrive b) (neg-nonpos (b .card .losses) (losses-nonneg (b .card) (c .powers))) (seconds-nonneg (b .card .timestep) (timestep-nonneg (b .card) (c .times)))
+    charger-not-negative (lossDrive (b .card)) (neg-nonpos (b .card .losses) (losses-nonneg (b .card) (c .powers))) (seconds-nonneg (b .card .timestep) (timestep-nonneg (b .card) (c .times)))

@@ -9,6 +9,7 @@ use Rattle.floats.specs.Constants.{tolerance}
 use Rattle.water.specs.declared.Mode.the-variants.{OnlyCharging, Losses, Normal}
 use Rattle.zone.specs.Layer.{saltAt}
 use Rattle.card.specs.Derived.{saltsOf, derived}
+use Rattle.battery.specs.Ledger.{ledgerOf}
 use Rattle.battery.specs.declared.Battery.{Battery}
 use Rattle.battery.specs.declared.Given.the-variants.{Value}
 use Rattle.battery.specs.declared.Demand.{Demand}
@@ -25,12 +26,11 @@ use Rattle.runs.specs.Hydronic.{hydronicEnded, wholeSubsteps}
 use Rattle.runs.specs.Charge.{electricDrive, electricEnded, chargeElectric, hydronicStart, chargeHydronic, chargeBattery, lossDrive, lossEnded, batteryHeatLoss}
 use Rattle.runs.specs.declared.End.{End}
 use Rattle.runs.specs.declared.End.the-variants.{Done, Negative, Met, NoStep, Level, Limit, Time, OverBudget, NoLogarithm, NotFiniteRun}
-use Rattle.runs.specs.declared.Stopped.{Stopped}
 use Rattle.runs.specs.declared.Source.the-variants.{Electric}
 use Rattle.replies.specs.Replies.{demandStart}
-use Rattle.runs.specs.Zoned.{Zoned, zoned, onPart}
-use Rattle.engine.specs.Steps.{demandRunOf, demandRan, demandTask, wetSource, stepOf}
-use Rattle.engine.specs.Budget.{hydronicTaskOf, hydronicRunOf, wetOf}
+use Rattle.runs.specs.Zoned.{zoned, onPart}
+use Rattle.engine.specs.Steps.{demandRunOf, demandRan, demandTask, wetSource, stepOf, wetOf}
+use Rattle.engine.specs.Budget.{hydronicTaskOf, hydronicRunOf}
 use Rattle.engine.specs.Faults.{DemandFaulted, HydronicFaulted, NoLogarithmTaken}
 use Rattle.engine.proofs.Turns.{never}
 use Rattle.engine.proofs.Faulty.{logarithm-only, substep-fault, demandFromRun, endFault, demand-run-faults, hydronic-run-faults}
@@ -86,10 +86,10 @@ module _ (f : Fault) (some : f ≡ Nothing → ⊥) where
 
   demand-faulty :
       (b : Battery) (d : Demand) (feed : Float) → endFault (demandRan b d feed .part .end) ≡ f →
-      demandFromRun (demandTask b d feed) (saltAt (saltsOf (b .card))) (onPart endPace (demandRunOf b d feed)) .fault ≡ f
+      demandFromRun (demandTask (ledgerOf b) d feed) (saltAt (saltsOf (b .card))) (onPart endPace (demandRunOf b d feed)) .fault ≡ f
   unfolding demandEnded
   demand-faulty b d feed h =
-      demand-run-faults (demandTask b d feed) (saltAt (saltsOf (b .card))) (b .card .budget) 0 (zoned (demandStart b) (b .zones)) (λ z. some (sym h ∙ z)) ∙ h
+      demand-run-faults (demandTask (ledgerOf b) d feed) (saltAt (saltsOf (b .card))) (b .card .budget) 0 (zoned (demandStart (ledgerOf b)) (b .zones)) (λ z. some (sym h ∙ z)) ∙ h
 
   demand-ended : (b : Battery) (d : Demand) (feed : Float) → endFault (demandRan b d feed .part .end) ≡ f → demandRunOf b d feed .part .end ≡ faultEnd f
   unfolding demandEnded
@@ -106,7 +106,7 @@ module _ (f : Fault) (some : f ≡ Nothing → ⊥) where
         feed = feed;
         given = given;
         ended = demand-ended b d feed h;
-        fault = substep-fault (b .card) (derived (b .card)) (saltAt (saltsOf (b .card))) (demandDrive (demandTask b d feed) (e .part .pace)) (e .zones) f some (demand-faulty b d feed h);
+        fault = substep-fault (b .card) (derived (b .card)) (saltAt (saltsOf (b .card))) (demandDrive (demandTask (ledgerOf b) d feed) (e .part .pace)) (e .zones) f some (demand-faulty b d feed h);
       }
 
   pub hydronic-faults : (b : Battery) (h : Hydronic) → endFault (chargeBattery b (wetSource h) (h .target) .part .end) ≡ f → HydronicFaulted f b h
@@ -115,7 +115,7 @@ module _ (f : Fault) (some : f ≡ Nothing → ⊥) where
       let x = hydronicTaskOf b h in
       record {
         ended = end-of-fault (hydronicRunOf b h .part .end) e;
-        fault = rw e at (hydronic-run-faults x (saltAt (saltsOf (b .card))) (wholeSubsteps x) 0 (zoned (hydronicStart b (wetOf h)) (b .zones)) (λ z. some (sym e ∙ z)));
+        fault = rw e at (hydronic-run-faults x (saltAt (saltsOf (b .card))) (wholeSubsteps x) 0 (zoned (hydronicStart (b .card) (wetOf h)) (b .zones)) (λ z. some (sym e ∙ z)));
       }
 
 pub some-logarithm : Logarithm ≡ Nothing → ⊥
@@ -128,9 +128,9 @@ modes-apart h = never (cc)
 losses-apart : Losses ≡ Normal → ⊥
 losses-apart h = never (cc)
 
-run-24 : (r : Zoned Stopped) (a : Answer) → RunWhy 24 r a → endFault (r .part .end) ≡ Logarithm
-run-24 r a (inl h) = end-fault-24 (r .part .end) h
-run-24 r a (inr w) = let n = w .0 in absurd (omega arith)
+run-24 : (end : End) (a : Answer) → RunWhy 24 end a → endFault end ≡ Logarithm
+run-24 end a (inl h) = end-fault-24 end h
+run-24 end a (inr w) = let n = w .0 in absurd (omega arith)
 
 demand-24 : (b : Battery) (d : Demand) → Why 24 b (DemandEnergy d) → DemandFaulted Logarithm b d
 demand-24 b d (inl w) = let n = w .0 in absurd (omega arith)
@@ -145,13 +145,13 @@ module _ (b : Battery) where
   electric-24 : (power target : Float) → endFault (chargeBattery b (Electric power) target .part .end) ≡ Logarithm → ⊥
   unfolding chargeBattery chargeElectric electricEnded electricDrive outcomeOf
   electric-24 power target h =
-      let m = logarithm-only (b .card) (derived (b .card)) (saltAt (saltsOf (b .card))) (electricDrive b power target) (b .zones) (sym (fault-of-end _) ∙ h) .normal in
+      let m = logarithm-only (b .card) (derived (b .card)) (saltAt (saltsOf (b .card))) (electricDrive (ledgerOf b) power target) (b .zones) (sym (fault-of-end _) ∙ h) .normal in
       modes-apart m
 
   loss-24 : endFault (batteryHeatLoss b .part .end) ≡ Logarithm → ⊥
   unfolding batteryHeatLoss lossEnded lossDrive outcomeOf
   loss-24 h =
-      let m = logarithm-only (b .card) (derived (b .card)) (saltAt (saltsOf (b .card))) (lossDrive b) (b .zones) (sym (fault-of-end _) ∙ h) .normal in
+      let m = logarithm-only (b .card) (derived (b .card)) (saltAt (saltsOf (b .card))) (lossDrive (b .card)) (b .zones) (sym (fault-of-end _) ∙ h) .normal in
       losses-apart m
 
 why-24 : (b : Battery) (call : Call) → Why 24 b call → NoLogarithmTaken b call

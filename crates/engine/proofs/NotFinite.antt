@@ -6,6 +6,7 @@ use native.Mathlib.Omega.{arith}
 use lib.Ieee.{Float}
 use Rattle.zone.specs.Layer.{saltAt}
 use Rattle.card.specs.Derived.{saltsOf, derived}
+use Rattle.battery.specs.Ledger.{ledgerOf}
 use Rattle.battery.specs.declared.Battery.{Battery}
 use Rattle.battery.specs.declared.Demand.{Demand}
 use Rattle.battery.specs.declared.Answer.{Answer}
@@ -13,11 +14,10 @@ use Rattle.battery.specs.declared.Call.{Call}
 use Rattle.battery.specs.declared.Call.the-variants.{DemandEnergy, ChargeElectric, ChargeHydronic, HeatLoss, CloseTimestep, ReadStateOfCharge, ChargeEnergyDemand}
 use Rattle.substep.specs.Substep.{outcomeOf}
 use Rattle.substep.specs.declared.Fault.the-variants.{Nothing, NotFinite}
+use Rattle.runs.specs.declared.End.{End}
 use Rattle.runs.specs.Charge.{electricDrive, electricEnded, chargeElectric, chargeBattery, lossDrive, lossEnded, batteryHeatLoss}
-use Rattle.runs.specs.declared.Stopped.{Stopped}
 use Rattle.runs.specs.declared.Source.the-variants.{Electric}
 use Rattle.replies.specs.Replies.{demandAnswer}
-use Rattle.runs.specs.Zoned.{Zoned}
 use Rattle.engine.specs.Steps.{demandRan, stepOf}
 use Rattle.engine.specs.Faults.{SubstepFault, AnswerNotFinite, LevelNotFinite, NotFiniteFound}
 use Rattle.engine.proofs.Turns.{never}
@@ -29,9 +29,9 @@ some-not-finite : NotFinite ≡ Nothing → ⊥
 some-not-finite h = never (cc)
 
 -- a run that ended for its substep's sake, or an answer
-run-23 : {A : Type 0} (r : Zoned Stopped) (a : Answer) → (endFault (r .part .end) ≡ NotFinite → A) → RunWhy 23 r a → A ⊎ AnswerNotFinite r a
-run-23 r a f (inl h) = inl (f (end-fault-23 (r .part .end) h))
-run-23 r a f (inr w) = inr (w .1)
+run-23 : {A : Type 0} (end : End) (a : Answer) → (endFault end ≡ NotFinite → A) → RunWhy 23 end a → A ⊎ AnswerNotFinite end a
+run-23 end a f (inl h) = inl (f (end-fault-23 end h))
+run-23 end a f (inr w) = inr (w .1)
 
 level-23 : (b : Battery) (energy : Float → Float) → LevelWhy 23 b energy → LevelNotFinite b energy
 level-23 b energy (inl w) = let n = w .0 in absurd (omega arith)
@@ -40,7 +40,7 @@ level-23 b energy (inr w) = w .1
 module _ (b : Battery) where
   module _ (d : Demand) (w : DemandWhy 23 b d) where
     demand-run-23 :
-        RunWhy 23 (demandRan b d (w .feed)) (demandAnswer b d (demandRan b d (w .feed))) → NotFiniteFound b (DemandEnergy d)
+        RunWhy 23 (demandRan b d (w .feed) .part .end) (demandAnswer b d (demandRan b d (w .feed))) → NotFiniteFound b (DemandEnergy d)
     demand-run-23 (inl h) =
         let e = end-fault-23 (demandRan b d (w .feed) .part .end) h in
         inl (demand-faults NotFinite some-not-finite b d (w .asked) (w .feed) (w .given) e)
@@ -52,14 +52,14 @@ module _ (b : Battery) where
 
   electric-23 :
       (power target : Float) → endFault (chargeBattery b (Electric power) target .part .end) ≡ NotFinite →
-      SubstepFault NotFinite (b .card) (derived (b .card)) (saltAt (saltsOf (b .card))) (electricDrive b power target) (b .zones)
+      SubstepFault NotFinite (b .card) (derived (b .card)) (saltAt (saltsOf (b .card))) (electricDrive (ledgerOf b) power target) (b .zones)
   unfolding chargeBattery chargeElectric electricEnded outcomeOf
   electric-23 power target h =
-      substep-fault (b .card) (derived (b .card)) (saltAt (saltsOf (b .card))) (electricDrive b power target) (b .zones) NotFinite some-not-finite (sym (fault-of-end _) ∙ h)
+      substep-fault (b .card) (derived (b .card)) (saltAt (saltsOf (b .card))) (electricDrive (ledgerOf b) power target) (b .zones) NotFinite some-not-finite (sym (fault-of-end _) ∙ h)
 
-  loss-23 : endFault (batteryHeatLoss b .part .end) ≡ NotFinite → SubstepFault NotFinite (b .card) (derived (b .card)) (saltAt (saltsOf (b .card))) (lossDrive b) (b .zones)
+  loss-23 : endFault (batteryHeatLoss b .part .end) ≡ NotFinite → SubstepFault NotFinite (b .card) (derived (b .card)) (saltAt (saltsOf (b .card))) (lossDrive (b .card)) (b .zones)
   unfolding batteryHeatLoss lossEnded outcomeOf
-  loss-23 h = substep-fault (b .card) (derived (b .card)) (saltAt (saltsOf (b .card))) (lossDrive b) (b .zones) NotFinite some-not-finite (sym (fault-of-end _) ∙ h)
+  loss-23 h = substep-fault (b .card) (derived (b .card)) (saltAt (saltsOf (b .card))) (lossDrive (b .card)) (b .zones) NotFinite some-not-finite (sym (fault-of-end _) ∙ h)
 
 why-23 : (b : Battery) (call : Call) → Why 23 b call → NotFiniteFound b call
 why-23 b (DemandEnergy d) w = demand-23 b d w

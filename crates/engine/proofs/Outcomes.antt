@@ -18,7 +18,7 @@ use Rattle.battery.specs.declared.Answer.{Answer}
 use Rattle.battery.specs.Places.{SameAbove}
 use Rattle.battery.proofs.Zones.{same-above}
 use Rattle.runs.specs.Runs.{endRefusal}
-use Rattle.replies.specs.Replies.{checked, unlessRefused, runAnswer, chargedBattery, cooledBattery, closedBattery}
+use Rattle.replies.specs.Replies.{checked, unlessRefused, runAnswer, chargedBattery, cooledBattery, closedBattery, chargedAnswer, cooledAnswer}
 use Rattle.runs.specs.declared.End.{End}
 use Rattle.runs.specs.declared.End.the-variants.{Done, Negative, Met, NoStep, Level, Limit, Time, OverBudget, NoLogarithm, NotFiniteRun}
 use Rattle.runs.specs.declared.Stopped.{Stopped}
@@ -84,12 +84,12 @@ module _ (b : Battery) (charges asks : Bool) (a : Answer) (k : Kept b charges as
       (λ h. answered (is-true (answerFinite a) h) k)
       (λ h. refused-outcome b charges asks 23 (omega arith) (omega arith))
 
-  pub run-outcome : (r : Zoned Stopped) → Outcome b charges asks (unlessRefused b r a)
+  pub run-outcome : (end : End) → Outcome b charges asks (unlessRefused b end a)
   unfolding unlessRefused
-  run-outcome r =
-      by-test (Outcome b charges asks) (eqb (endRefusal (r .part .end)) 0) (checked b a) (refusedWith (endRefusal (r .part .end)) b)
+  run-outcome end =
+      by-test (Outcome b charges asks) (eqb (endRefusal end) 0) (checked b a) (refusedWith (endRefusal end) b)
       (λ h. checked-outcome)
-      (λ h. let w = end-refusals (r .part .end) (eqb-false (endRefusal (r .part .end)) 0 h) in refused-outcome b charges asks (endRefusal (r .part .end)) (omega arith) (omega arith))
+      (λ h. let w = end-refusals end (eqb-false (endRefusal end) 0 h) in refused-outcome b charges asks (endRefusal end) (omega arith) (omega arith))
 
 -- the answers' batteries
 pub plain-kept : (b : Battery) (asks : Bool) (energy : Float) → Kept b false asks (plainAnswer energy b)
@@ -110,7 +110,7 @@ closed-kept b =
     }
 
 module _ (b : Battery) (r : Zoned Stopped) (h : SameAbove (b .card .layers) (b .zones) (r .zones)) (n : 1 ≤ b .card .budget → r .part .substeps ≤ b .card .budget) where
-  pub charged-kept : Kept b true false (runAnswer r (chargedBattery b r))
+  pub charged-kept : Kept b true false (chargedAnswer b r)
   unfolding runAnswer chargedBattery
   charged-kept =
       record {
@@ -122,7 +122,7 @@ module _ (b : Battery) (r : Zoned Stopped) (h : SameAbove (b .card .layers) (b .
         same = λ e. no-both (sym e);
       }
 
-  pub cooled-kept : Kept b false false (runAnswer r (cooledBattery b r))
+  pub cooled-kept : Kept b false false (cooledAnswer b r)
   unfolding runAnswer cooledBattery
   cooled-kept =
       record {

@@ -16,6 +16,7 @@ use Rattle.card.specs.Derived.{saltsOf}
 use Rattle.substep.specs.declared.Fault.{Fault}
 use Rattle.substep.specs.declared.Fault.the-variants.{Nothing, Logarithm, NotFinite}
 use Rattle.battery.specs.Answer.{refusedWith, plainAnswer, answerFinite}
+use Rattle.battery.specs.Ledger.{ledgerOf}
 use Rattle.battery.specs.declared.Battery.{Battery}
 use Rattle.battery.specs.declared.Given.{Given}
 use Rattle.battery.specs.declared.Given.the-variants.{Absent, Value}
@@ -24,18 +25,19 @@ use Rattle.battery.specs.declared.Hydronic.{Hydronic}
 use Rattle.battery.specs.declared.Answer.{Answer}
 use Rattle.battery.specs.declared.Call.{Call}
 use Rattle.battery.specs.declared.Call.the-variants.{DemandEnergy, ChargeElectric, ChargeHydronic, HeatLoss, CloseTimestep, ReadStateOfCharge, ChargeEnergyDemand}
+use Rattle.runs.specs.declared.End.{End}
 use Rattle.runs.specs.Runs.{faultEnd, endRefusal}
 use Rattle.delivery.specs.Demand.{demandEnded}
 use Rattle.runs.specs.Hydronic.{hydronicEnded, wholeSubsteps}
 use Rattle.runs.specs.Charge.{electricEnded, chargeElectric, hydronicTask, hydronicStart, chargeHydronic, chargeBattery, lossEnded, batteryHeatLoss, chargeEnergyDemand}
 use Rattle.totals.specs.Classes.{serviceClass, unserved}
-use Rattle.replies.specs.Replies.{checked, unlessRefused, demandStart, demandAnswer, runAnswer, chargedBattery, cooledBattery, closedBattery}
-use Rattle.engine.specs.Steps.{demandRan, demandTask, demandFrom, demandGiven, demandEnergy, charge, heatLoss, level, readLevel, demandToLevel, wetSource, stepOf}
+use Rattle.replies.specs.Replies.{checked, unlessRefused, demandStart, demandAnswer, runAnswer, chargedBattery, cooledBattery, closedBattery, chargedAnswer, cooledAnswer}
+use Rattle.engine.specs.Steps.{demandRan, demandTask, demandFrom, demandGiven, demandEnergy, charge, heatLoss, level, readLevel, demandToLevel, wetSource, stepOf, wetOf}
 use Rattle.runs.specs.declared.Stopped.{Stopped}
 use Rattle.runs.specs.declared.Source.the-variants.{Electric}
 use Rattle.runs.specs.declared.End.the-variants.{OverBudget}
 use Rattle.runs.specs.Zoned.{Zoned, zoned}
-use Rattle.engine.specs.Budget.{DemandUsed, wetOf, HydronicUsed, BudgetUsed}
+use Rattle.engine.specs.Budget.{DemandUsed, HydronicUsed, BudgetUsed}
 use Rattle.engine.proofs.Outcomes.{end-over-budget}
 use Rattle.engine.proofs.Promises.{refused-number}
 use Rattle.engine.proofs.Ends.{demand-run-over, hydronic-run-over}
@@ -47,12 +49,12 @@ checked-not-over b a z =
     let n = refused-number 23 b in
     by-test (λ (c : Answer). c .refusal ≡ 22 → ⊥) (answerFinite a) a (refusedWith 23 b) (λ t h. omega arith) (λ t h. omega arith)
 
-run-over : (b : Battery) (r : Zoned Stopped) (a : Answer) → a .refusal ≡ 0 → unlessRefused b r a .refusal ≡ 22 → r .part .end ≡ OverBudget
+run-over : (b : Battery) (end : End) (a : Answer) → a .refusal ≡ 0 → unlessRefused b end a .refusal ≡ 22 → end ≡ OverBudget
 unfolding unlessRefused
-run-over b r a z =
-    by-test (λ (c : Answer). c .refusal ≡ 22 → r .part .end ≡ OverBudget) (eqb (endRefusal (r .part .end)) 0) (checked b a) (refusedWith (endRefusal (r .part .end)) b)
+run-over b end a z =
+    by-test (λ (c : Answer). c .refusal ≡ 22 → end ≡ OverBudget) (eqb (endRefusal end) 0) (checked b a) (refusedWith (endRefusal end) b)
     (λ t h. absurd (checked-not-over b a z h))
-    (λ t h. end-over-budget (r .part .end) (sym (refused-number (endRefusal (r .part .end)) b) ∙ h))
+    (λ t h. end-over-budget end (sym (refused-number (endRefusal end) b) ∙ h))
 
 -- one substep never uses a budget up
 fault-not-over : (f : Fault) → faultEnd f ≡ OverBudget → ⊥
@@ -65,7 +67,7 @@ module _ (b : Battery) (d : Demand) (asked : le (d .required) tolerance ≡ fals
   ran : (feed : Float) → d .feed ≡ Value feed → demandRan b d feed .part .end ≡ OverBudget → DemandUsed b d
   unfolding demandEnded
   ran feed e h =
-      let o = demand-run-over (demandTask b d feed) (saltAt (saltsOf (b .card))) (b .card .budget) 0 (zoned (demandStart b) (b .zones)) h in
+      let o = demand-run-over (demandTask (ledgerOf b) d feed) (saltAt (saltsOf (b .card))) (b .card .budget) 0 (zoned (demandStart (ledgerOf b)) (b .zones)) h in
       record { asked = asked; feed = feed; given = e; over = record { ended = o .ended; used = o .used ∙ zero-add (b .card .budget); due = o .due } }
 
   answers : (r : Zoned Stopped) → demandAnswer b d r .refusal ≡ 0
@@ -77,9 +79,9 @@ module _ (b : Battery) (d : Demand) (asked : le (d .required) tolerance ≡ fals
   demand-from feed e =
       let r = demandRan b d feed in
       let n = refused-number 21 b in
-      by-test (λ (c : Answer). c .refusal ≡ 22 → DemandUsed b d) (d .commit && unserved (serviceClass (b .card) (d .service))) (refusedWith 21 b) (unlessRefused b r (demandAnswer b d r))
+      by-test (λ (c : Answer). c .refusal ≡ 22 → DemandUsed b d) (d .commit && unserved (serviceClass (b .card) (d .service))) (refusedWith 21 b) (unlessRefused b (r .part .end) (demandAnswer b d r))
       (λ t h. absurd (omega arith))
-      (λ t h. ran feed e (run-over b r (demandAnswer b d r) (answers r) h))
+      (λ t h. ran feed e (run-over b (r .part .end) (demandAnswer b d r) (answers r) h))
 
   demand-given : (g : Given) → d .feed ≡ g → demandGiven b d g .refusal ≡ 22 → DemandUsed b d
   unfolding demandGiven
@@ -90,9 +92,9 @@ plain-answers : (energy : Float) (b : Battery) → plainAnswer energy b .refusal
 unfolding plainAnswer
 plain-answers energy b = refl
 
-run-answers : (r : Zoned Stopped) (b : Battery) → runAnswer r b .refusal ≡ 0
+run-answers : (s : Stopped) (b : Battery) → runAnswer s b .refusal ≡ 0
 unfolding runAnswer
-run-answers r b = refl
+run-answers s b = refl
 
 module _ (b : Battery) where
   demand-over : (d : Demand) → demandEnergy b d .refusal ≡ 22 → DemandUsed b d
@@ -106,21 +108,21 @@ module _ (b : Battery) where
   unfolding charge chargeBattery chargeElectric electricEnded
   electric-over power target h =
       let r = chargeBattery b (Electric power) target in
-      fault-not-over _ (run-over b r (runAnswer r (chargedBattery b r)) (run-answers r (chargedBattery b r)) h)
+      fault-not-over _ (run-over b (r .part .end) (chargedAnswer b r) (run-answers (r .part) (chargedBattery b r)) h)
 
   hydronic-over : (w : Hydronic) → charge b (wetSource w) (w .target) .refusal ≡ 22 → HydronicUsed b w
   unfolding charge chargeBattery wetSource chargeHydronic hydronicEnded
   hydronic-over w h =
       let r = chargeBattery b (wetSource w) (w .target) in
-      let x = hydronicTask b (wetOf w) (w .target) in
-      let e = run-over b r (runAnswer r (chargedBattery b r)) (run-answers r (chargedBattery b r)) h in
-      record { over = rw zero-add at (hydronic-run-over x (saltAt (saltsOf (b .card))) (wholeSubsteps x) 0 (zoned (hydronicStart b (wetOf w)) (b .zones)) e) }
+      let x = hydronicTask (b .card) (wetOf w) (w .target) in
+      let e = run-over b (r .part .end) (chargedAnswer b r) (run-answers (r .part) (chargedBattery b r)) h in
+      record { over = rw zero-add at (hydronic-run-over x (saltAt (saltsOf (b .card))) (wholeSubsteps x) 0 (zoned (hydronicStart (b .card) (wetOf w)) (b .zones)) e) }
 
   loss-over : heatLoss b .refusal ≡ 22 → ⊥
   unfolding heatLoss batteryHeatLoss lossEnded
   loss-over h =
       let r = batteryHeatLoss b in
-      fault-not-over _ (run-over b r (runAnswer r (cooledBattery b r)) (run-answers r (cooledBattery b r)) h)
+      fault-not-over _ (run-over b (r .part .end) (cooledAnswer b r) (run-answers (r .part) (cooledBattery b r)) h)
 
   level-over : (s : StateOfCharge) → readLevel b s .refusal ≡ 22 → ⊥
   unfolding readLevel
@@ -131,7 +133,7 @@ module _ (b : Battery) where
   unfolding demandToLevel
   to-level-over most target Above h = let n = refused-number 25 b in omega arith
   to-level-over most target (Level soc) h =
-      let e = chargeEnergyDemand b most target soc .0 in
+      let e = chargeEnergyDemand (b .card) most target soc .0 in
       checked-not-over b (plainAnswer e b) (plain-answers e b) h
 
 pub over-budget-only : (version : ℕ) (b : Battery) (call : Call) → stepOf version b call .refusal ≡ 22 → BudgetUsed b call

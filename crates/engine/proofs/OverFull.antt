@@ -22,8 +22,6 @@ use Rattle.battery.specs.declared.Call.the-variants.{DemandEnergy, ChargeElectr
 use Rattle.runs.specs.Runs.{endRefusal}
 use Rattle.runs.specs.declared.End.{End}
 use Rattle.runs.specs.declared.End.the-variants.{Done, Negative, Met, NoStep, Level as LevelEnd, Limit, Time, OverBudget, NoLogarithm, NotFiniteRun}
-use Rattle.runs.specs.declared.Stopped.{Stopped}
-use Rattle.runs.specs.Zoned.{Zoned}
 use Rattle.engine.specs.Steps.{level, stepOf}
 use Rattle.engine.specs.Faults.{AboveFull, OverFull}
 use Rattle.engine.proofs.Turns.{never}
@@ -55,9 +53,9 @@ end-not-full OverBudget h = omega arith
 end-not-full NoLogarithm h = omega arith
 end-not-full NotFiniteRun h = omega arith
 
-run-not-full : (r : Zoned Stopped) (a : Answer) → RunWhy 25 r a → ⊥
-run-not-full r a (inl h) = end-not-full (r .part .end) h
-run-not-full r a (inr w) = let n = w .0 in omega arith
+run-not-full : (end : End) (a : Answer) → RunWhy 25 end a → ⊥
+run-not-full end a (inl h) = end-not-full end h
+run-not-full end a (inr w) = let n = w .0 in omega arith
 
 demand-not-full : (b : Battery) (d : Demand) → Why 25 b (DemandEnergy d) → ⊥
 demand-not-full b d (inl w) = let n = w .0 in omega arith

@@ -19,50 +19,51 @@ use Rattle.battery.specs.declared.Demand.{Demand}
 use Rattle.battery.specs.declared.Answer.{Answer}
 use Rattle.battery.specs.declared.Call.{Call}
 use Rattle.battery.specs.declared.Call.the-variants.{DemandEnergy, ChargeElectric, ChargeHydronic, HeatLoss, CloseTimestep, ReadStateOfCharge, ChargeEnergyDemand}
+use Rattle.runs.specs.declared.End.{End}
 use Rattle.runs.specs.Runs.{endRefusal}
 use Rattle.runs.specs.Charge.{chargeBattery, batteryHeatLoss, chargeEnergyDemand}
 use Rattle.runs.specs.declared.Stopped.{Stopped}
 use Rattle.runs.specs.declared.Source.{Source}
 use Rattle.runs.specs.declared.Source.the-variants.{Electric}
 use Rattle.totals.specs.Classes.{serviceClass, unserved}
-use Rattle.replies.specs.Replies.{checked, unlessRefused, demandAnswer, runAnswer, chargedBattery, cooledBattery, closedBattery}
+use Rattle.replies.specs.Replies.{checked, unlessRefused, demandAnswer, runAnswer, chargedBattery, cooledBattery, closedBattery, chargedAnswer, cooledAnswer}
 use Rattle.runs.specs.Zoned.{Zoned}
 use Rattle.engine.specs.Steps.{demandRan, demandFrom, demandGiven, demandEnergy, charge, heatLoss, level, readLevel, demandToLevel, wetSource, stepOf}
 use Rattle.engine.specs.Faults.{AnswerNotFinite, NoDemandNotFinite, LevelNotFinite}
 use Rattle.engine.proofs.Promises.{refused-number}
 
 -- by the refusal's number
-abbrev pub RunWhy : ℕ → Zoned Stopped → Answer → Type 0
-RunWhy n r a = (endRefusal (r .part .end) ≡ n) ⊎ ((n ≡ 23) × AnswerNotFinite r a)
+abbrev pub RunWhy : ℕ → End → Answer → Type 0
+RunWhy n end a = (endRefusal end ≡ n) ⊎ ((n ≡ 23) × AnswerNotFinite end a)
 
 pub record DemandWhy (n : ℕ) (b : Battery) (d : Demand) : Type 0 where
   pub asked : le (d .required) tolerance ≡ false
   pub feed : Float
   pub given : d .feed ≡ Value feed
-  pub why : RunWhy n (demandRan b d feed) (demandAnswer b d (demandRan b d feed))
+  pub why : RunWhy n (demandRan b d feed .part .end) (demandAnswer b d (demandRan b d feed))
 
 abbrev pub LevelWhy : ℕ → Battery → (Float → Float) → Type 0
 LevelWhy n b energy = ((n ≡ 25) × (level b ≡ Above)) ⊎ ((n ≡ 23) × LevelNotFinite b energy)
 
 abbrev pub ChargeWhy : ℕ → Battery → Source → Float → Type 0
-ChargeWhy n b source target = RunWhy n (chargeBattery b source target) (runAnswer (chargeBattery b source target) (chargedBattery b (chargeBattery b source target)))
+ChargeWhy n b source target = RunWhy n (chargeBattery b source target .part .end) (chargedAnswer b (chargeBattery b source target))
 
 abbrev pub Why : ℕ → Battery → Call → Type 0
 Why n b (DemandEnergy d) = ((n ≡ 23) × NoDemandNotFinite b d) ⊎ DemandWhy n b d
 Why n b (ChargeElectric power target) = ChargeWhy n b (Electric power) target
 Why n b (ChargeHydronic h) = ChargeWhy n b (wetSource h) (h .target)
-Why n b HeatLoss = RunWhy n (batteryHeatLoss b) (runAnswer (batteryHeatLoss b) (cooledBattery b (batteryHeatLoss b)))
+Why n b HeatLoss = RunWhy n (batteryHeatLoss b .part .end) (cooledAnswer b (batteryHeatLoss b))
 Why n b CloseTimestep = (n ≡ 23) × (answerFinite (plainAnswer zero (closedBattery b)) ≡ false)
 Why n b ReadStateOfCharge = LevelWhy n b (λ soc. soc)
-Why n b (ChargeEnergyDemand most target) = LevelWhy n b (λ soc. chargeEnergyDemand b most target soc .0)
+Why n b (ChargeEnergyDemand most target) = LevelWhy n b (λ soc. chargeEnergyDemand (b .card) most target soc .0)
 
 plain-answers : (energy : Float) (b : Battery) → plainAnswer energy b .refusal ≡ 0
 unfolding plainAnswer
 plain-answers energy b = refl
 
-run-answers : (r : Zoned Stopped) (b : Battery) → runAnswer r b .refusal ≡ 0
+run-answers : (s : Stopped) (b : Battery) → runAnswer s b .refusal ≡ 0
 unfolding runAnswer
-run-answers r b = refl
+run-answers s b = refl
 
 demand-answers : (b : Battery) (d : Demand) (r : Zoned Stopped) → demandAnswer b d r .refusal ≡ 0
 unfolding demandAnswer
@@ -77,12 +78,12 @@ module _ (n : ℕ) (l : 22 ≤ n) (b : Battery) where
       (λ t h. absurd (omega arith))
       (λ t h. (sym h ∙ m, t))
 
-  run-why : (r : Zoned Stopped) (a : Answer) → a .refusal ≡ 0 → unlessRefused b r a .refusal ≡ n → RunWhy n r a
+  run-why : (end : End) (a : Answer) → a .refusal ≡ 0 → unlessRefused b end a .refusal ≡ n → RunWhy n end a
   unfolding unlessRefused
-  run-why r a z =
-      by-test (λ (c : Answer). c .refusal ≡ n → RunWhy n r a) (eqb (endRefusal (r .part .end)) 0) (checked b a) (refusedWith (endRefusal (r .part .end)) b)
-      (λ t h. let w = checked-why a z h in inr (w .0, record { ended = eqb→eq (endRefusal (r .part .end)) 0 t; found = w .1 }))
-      (λ t h. inl (sym (refused-number (endRefusal (r .part .end)) b) ∙ h))
+  run-why end a z =
+      by-test (λ (c : Answer). c .refusal ≡ n → RunWhy n end a) (eqb (endRefusal end) 0) (checked b a) (refusedWith (endRefusal end) b)
+      (λ t h. let w = checked-why a z h in inr (w .0, record { ended = eqb→eq (endRefusal end) 0 t; found = w .1 }))
+      (λ t h. inl (sym (refused-number (endRefusal end) b) ∙ h))
 
   module _ (d : Demand) (asked : le (d .required) tolerance ≡ false) where
     demand-from : (feed : Float) → d .feed ≡ Value feed → demandFrom b d feed .refusal ≡ n → DemandWhy n b d
@@ -90,9 +91,9 @@ module _ (n : ℕ) (l : 22 ≤ n) (b : Battery) where
     demand-from feed e =
         let r = demandRan b d feed in
         let m = refused-number 21 b in
-        by-test (λ (c : Answer). c .refusal ≡ n → DemandWhy n b d) (d .commit && unserved (serviceClass (b .card) (d .service))) (refusedWith 21 b) (unlessRefused b r (demandAnswer b d r))
+        by-test (λ (c : Answer). c .refusal ≡ n → DemandWhy n b d) (d .commit && unserved (serviceClass (b .card) (d .service))) (refusedWith 21 b) (unlessRefused b (r .part .end) (demandAnswer b d r))
         (λ t h. absurd (omega arith))
-        (λ t h. record { asked = asked; feed = feed; given = e; why = run-why r (demandAnswer b d r) (demand-answers b d r) h })
+        (λ t h. record { asked = asked; feed = feed; given = e; why = run-why (r .part .end) (demandAnswer b d r) (demand-answers b d r) h })
 
     demand-given : (g : Given) → d .feed ≡ g → demandGiven b d g .refusal ≡ n → DemandWhy n b d
     unfolding demandGiven
@@ -110,13 +111,13 @@ module _ (n : ℕ) (l : 22 ≤ n) (b : Battery) where
   unfolding charge
   charge-why source target h =
       let r = chargeBattery b source target in
-      run-why r (runAnswer r (chargedBattery b r)) (run-answers r (chargedBattery b r)) h
+      run-why (r .part .end) (chargedAnswer b r) (run-answers (r .part) (chargedBattery b r)) h
 
   loss-why : heatLoss b .refusal ≡ n → Why n b HeatLoss
   unfolding heatLoss
   loss-why h =
       let r = batteryHeatLoss b in
-      run-why r (runAnswer r (cooledBattery b r)) (run-answers r (cooledBattery b r)) h
+      run-why (r .part .end) (cooledAnswer b r) (run-answers (r .part) (cooledBattery b r)) h
 
   level-why : (s : StateOfCharge) → level b ≡ s → readLevel b s .refusal ≡ n → LevelWhy n b (λ soc. soc)
   unfolding readLevel
@@ -127,11 +128,11 @@ module _ (n : ℕ) (l : 22 ≤ n) (b : Battery) where
 
   to-level-why :
       (most : Given) (target : Float) (s : StateOfCharge) → level b ≡ s → demandToLevel b most target s .refusal ≡ n →
-      LevelWhy n b (λ soc. chargeEnergyDemand b most target soc .0)
+      LevelWhy n b (λ soc. chargeEnergyDemand (b .card) most target soc .0)
   unfolding demandToLevel
   to-level-why most target Above e h = inl (sym h ∙ refused-number 25 b, e)
   to-level-why most target (Level soc) e h =
-      let g = chargeEnergyDemand b most target soc .0 in
+      let g = chargeEnergyDemand (b .card) most target soc .0 in
       let w = checked-why (plainAnswer g b) (plain-answers g b) h in
       inr (w .0, record { soc = soc; read = e; found = w .1 })
 

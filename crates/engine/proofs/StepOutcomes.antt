@@ -14,6 +14,7 @@ use Rattle.card.specs.Derived.{saltsOf, derived}
 use Rattle.card.proofs.Tests.{no-both}
 use Rattle.battery.specs.Answer.{plainAnswer}
 use Rattle.battery.specs.Kinds.{isCharge, onlyAsks}
+use Rattle.battery.specs.Ledger.{ledgerOf}
 use Rattle.battery.specs.declared.Battery.{Battery}
 use Rattle.battery.specs.declared.Given.{Given}
 use Rattle.battery.specs.declared.Given.the-variants.{Absent, Value}
@@ -31,7 +32,7 @@ use Rattle.delivery.specs.Demand.{demandEnded}
 use Rattle.runs.specs.Hydronic.{hydronicEnded, wholeSubsteps}
 use Rattle.runs.specs.Charge.{electricDrive, electricEnded, chargeElectric, hydronicTask, hydronicStart, chargeHydronic, chargeBattery, lossDrive, lossEnded, batteryHeatLoss, chargeEnergyDemand}
 use Rattle.totals.specs.Classes.{serviceClass, unserved}
-use Rattle.replies.specs.Replies.{demandStart, served, demandKept, demandAnswer, chargedBattery, cooledBattery, runAnswer, closedBattery}
+use Rattle.replies.specs.Replies.{demandStart, served, demandKept, demandAnswer, closedBattery, chargedAnswer, cooledAnswer}
 use Rattle.runs.specs.Zoned.{Zoned, zoned}
 use Rattle.engine.specs.Steps.{demandRan, demandTask, demandFrom, demandGiven, demandEnergy, charge, heatLoss, level, readLevel, demandToLevel, wetSource, stepOf}
 use Rattle.engine.proofs.Ends.{demand-run-above, demand-run-count, hydronic-run-above, hydronic-run-count}
@@ -46,21 +47,21 @@ module _ (b : Battery) where
   demand-ended : (d : Demand) (feed : Float) → EndedKept b (demandRan b d feed)
   unfolding demandEnded demandTask demandStart
   demand-ended d feed =
-      let n = demand-run-count (demandTask b d feed) (saltAt (saltsOf (b .card))) (b .card .budget) 0 (zoned (demandStart b) (b .zones)) in
-      record { above = demand-run-above (demandTask b d feed) (saltAt (saltsOf (b .card))) (b .card .budget) 0 (zoned (demandStart b) (b .zones)); substeps = λ h. omega arith }
+      let n = demand-run-count (demandTask (ledgerOf b) d feed) (saltAt (saltsOf (b .card))) (b .card .budget) 0 (zoned (demandStart (ledgerOf b)) (b .zones)) in
+      record { above = demand-run-above (demandTask (ledgerOf b) d feed) (saltAt (saltsOf (b .card))) (b .card .budget) 0 (zoned (demandStart (ledgerOf b)) (b .zones)); substeps = λ h. omega arith }
 
   electric-ended : (power target : Float) → EndedKept b (chargeElectric b power target)
   unfolding chargeElectric electricEnded
   electric-ended power target =
-      record { above = substep-above (b .card) (derived (b .card)) (saltAt (saltsOf (b .card))) (electricDrive b power target) (b .zones); substeps = λ h. h }
+      record { above = substep-above (b .card) (derived (b .card)) (saltAt (saltsOf (b .card))) (electricDrive (ledgerOf b) power target) (b .zones); substeps = λ h. h }
 
   hydronic-ended : (wet : Exchanger) (target : Float) → EndedKept b (chargeHydronic b wet target)
   unfolding chargeHydronic hydronicEnded hydronicTask hydronicStart
   hydronic-ended wet target =
-      let x = hydronicTask b wet target in
+      let x = hydronicTask (b .card) wet target in
       record {
-        above = hydronic-run-above x (saltAt (saltsOf (b .card))) (wholeSubsteps x) 0 (zoned (hydronicStart b wet) (b .zones));
-        substeps = λ h. hydronic-run-count x (saltAt (saltsOf (b .card))) (wholeSubsteps x) 0 (zoned (hydronicStart b wet) (b .zones)) (omega arith);
+        above = hydronic-run-above x (saltAt (saltsOf (b .card))) (wholeSubsteps x) 0 (zoned (hydronicStart (b .card) wet) (b .zones));
+        substeps = λ h. hydronic-run-count x (saltAt (saltsOf (b .card))) (wholeSubsteps x) 0 (zoned (hydronicStart (b .card) wet) (b .zones)) (omega arith);
       }
 
   charge-ended : (source : Source) (target : Float) → EndedKept b (chargeBattery b source target)
@@ -70,7 +71,7 @@ module _ (b : Battery) where
 
   loss-ended : EndedKept b (batteryHeatLoss b)
   unfolding batteryHeatLoss lossEnded
-  loss-ended = record { above = substep-above (b .card) (derived (b .card)) (saltAt (saltsOf (b .card))) (lossDrive b) (b .zones); substeps = λ h. h }
+  loss-ended = record { above = substep-above (b .card) (derived (b .card)) (saltAt (saltsOf (b .card))) (lossDrive (b .card)) (b .zones); substeps = λ h. h }
 
 -- a demand keeps the battery where it is a trial
 same-of-not : {A : Type 0} (t : Bool) (x y : A) → not t ≡ true → cond t x y ≡ y
@@ -100,7 +101,7 @@ module _ (b : Battery) (d : Demand) where
       let r = demandRan b d feed in
       by-test Demanded (d .commit && unserved (serviceClass (b .card) (d .service))) _ _
       (λ h. refused-outcome b false (not (d .commit)) 21 (omega arith) (omega arith))
-      (λ h. run-outcome b false (not (d .commit)) (demandAnswer b d r) (demand-kept r (demand-ended b d feed)) r)
+      (λ h. run-outcome b false (not (d .commit)) (demandAnswer b d r) (demand-kept r (demand-ended b d feed)) (r .part .end))
 
   demand-given : (g : Given) → Demanded (demandGiven b d g)
   unfolding demandGiven
@@ -120,14 +121,14 @@ module _ (b : Battery) where
   charge-outcome source target =
       let r = chargeBattery b source target in
       let k = charge-ended b source target in
-      run-outcome b true false (runAnswer r (chargedBattery b r)) (charged-kept b r (k .above) (k .substeps)) r
+      run-outcome b true false (chargedAnswer b r) (charged-kept b r (k .above) (k .substeps)) (r .part .end)
 
   loss-outcome : Outcome b false false (heatLoss b)
   unfolding heatLoss
   loss-outcome =
       let r = batteryHeatLoss b in
       let k = loss-ended b in
-      run-outcome b false false (runAnswer r (cooledBattery b r)) (cooled-kept b r (k .above) (k .substeps)) r
+      run-outcome b false false (cooledAnswer b r) (cooled-kept b r (k .above) (k .substeps)) (r .part .end)
 
   level-outcome : (s : StateOfCharge) → Outcome b false true (readLevel b s)
   unfolding readLevel
@@ -138,7 +139,7 @@ module _ (b : Battery) where
   unfolding demandToLevel
   to-level-outcome most target Above = refused-outcome b false true 25 (omega arith) (omega arith)
   to-level-outcome most target (Level soc) =
-      let e = chargeEnergyDemand b most target soc .0 in
+      let e = chargeEnergyDemand (b .card) most target soc .0 in
       checked-outcome b false true (plainAnswer e b) (plain-kept b true e)
 
 pub step-outcome : (version : ℕ) (b : Battery) (call : Call) → Outcome b (isCharge call) (onlyAsks call) (stepOf version b call)

@@ -66,11 +66,11 @@ pub record HydronicKeeps (x : HydronicTask) (n : ℕ) (s : Zoned WetPace) (u : S
   pub count : n ≤ x .card .budget → t .part .substeps ≤ x .card .budget
   pub used : t .part .next ≡ Stop OverBudget → t .part .substeps ≡ x .card .budget
   pub same : t .part .next ≡ Stop OverBudget → onPart wetPace t ≡ s
-  pub due : t .part .next ≡ Stop OverBudget → FractionDue x s u
+  pub due : t .part .next ≡ Stop OverBudget → FractionDue x (s .part) u
 
 module _ (x : HydronicTask) (salts : ℕ → Salt) (n : ℕ) (s : Zoned WetPace) where
   -- the fractional substep, where it is due
-  module _ (u : Substep) (f : FractionDue x s u) (seconds reynold : Float) where
+  module _ (u : Substep) (f : FractionDue x (s .part) u) (seconds reynold : Float) where
     replay-by :
         (v : Substep) → SameAbove (x .card .layers) (s .zones) (v .zones) → (n ≡ x .card .budget → ⊥) → (e : Fault) →
         HydronicKeeps x n s u (replayBy x (n + 1) s seconds reynold (outcome v) e)

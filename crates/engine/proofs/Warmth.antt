@@ -25,28 +25,28 @@ use Rattle.battery.specs.Answer.{refusedWith, answerFinite}
 use Rattle.battery.specs.Battery.{GoodBattery}
 use Rattle.call_ranges.specs.Call.{isLevel, callInRange}
 use Rattle.battery.specs.declared.Answer.{Answer}
+use Rattle.battery.specs.Ledger.{ledgerOf}
 use Rattle.battery.specs.declared.Battery.{Battery}
 use Rattle.battery.specs.declared.Call.the-variants.{ChargeElectric, HeatLoss}
 use Rattle.battery.proofs.Accepted.{AcceptedBattery, accepted-battery}
 use Rattle.battery.proofs.Zones.{zones-finite-at}
 use Rattle.substep.proofs.Warmth.{losses-warm-none, charging-cools-none}
+use Rattle.runs.specs.declared.End.{End}
 use Rattle.runs.specs.Runs.{endRefusal, timeAvailable}
 use Rattle.runs.specs.Charge.{electricDrive, electricEnded, chargeElectric, chargeBattery, lossDrive, lossEnded, batteryHeatLoss}
 use Rattle.replies.specs.Replies.{checked, unlessRefused, runAnswer, chargedBattery, cooledBattery}
 use Rattle.engine.specs.Steps.{charge, heatLoss, stepOf}
 use Rattle.engine.proofs.Losses.{seconds-nonneg, losses-nonneg, timestep-nonneg}
-use Rattle.runs.specs.declared.Stopped.{Stopped}
 use Rattle.runs.specs.declared.Source.the-variants.{Electric}
-use Rattle.runs.specs.Zoned.{Zoned}
 
 -- what holds of the answer and of every refusal line
 pub by-refusal :
-    (P : Answer → Type 0) (b : Battery) (r : Zoned Stopped) (a : Answer) → P a → ((n : ℕ) → P (refusedWith n b)) → P (unlessRefused b r a)
+    (P : Answer → Type 0) (b : Battery) (end : End) (a : Answer) → P a → ((n : ℕ) → P (refusedWith n b)) → P (unlessRefused b end a)
 unfolding unlessRefused checked
-by-refusal P b r a h k =
-    by-test P (eqb (endRefusal (r .part .end)) 0) _ _
+by-refusal P b end a h k =
+    by-test P (eqb (endRefusal end) 0) _ _
     (λ t. by-test P (answerFinite a) _ _ (λ u. h) (λ u. k 23))
-    (λ t. k (endRefusal (r .part .end)))
+    (λ t. k (endRefusal end))
 
 module _ (version : ℕ) (b : Battery) (g : GoodBattery version b) (f : CardFits (b .card)) where
   battery-accepted : AcceptedBattery version b
@@ -70,8 +70,8 @@ module _ (version : ℕ) (b : Battery) (g : GoodBattery version b) (f : CardFits
   unfolding stepOf heatLoss batteryHeatLoss lossEnded runAnswer cooledBattery refusedWith lossDrive ofBits
   loss-warms-none i l =
       let c = accepted version (b .card) (battery-accepted .card) in
-      by-refusal (λ (a : Answer). T (le (getD (a .battery .zones) i nan) (getD (b .zones) i nan))) b (batteryHeatLoss b) _
-      (losses-warm-none (b .card) (derived (b .card)) (saltAt (saltsOf (b .card))) (lossDrive b) (b .zones) salts
+      by-refusal (λ (a : Answer). T (le (getD (a .battery .zones) i nan) (getD (b .zones) i nan))) b (batteryHeatLoss b .part .end) _
+      (losses-warm-none (b .card) (derived (b .card)) (saltAt (saltsOf (b .card))) (lossDrive (b .card)) (b .zones) salts
       (seconds-nonneg (b .card .timestep) (timestep-nonneg (b .card) (c .times))) places finite refl (neg-nonpos (b .card .losses) (losses-nonneg (b .card) (c .powers))) i l)
       (λ n. as-before i l)
 
@@ -80,8 +80,8 @@ module _ (version : ℕ) (b : Battery) (g : GoodBattery version b) (f : CardFits
       T (le (getD (b .zones) i nan) (getD (stepOf version b (ChargeElectric power target) .battery .zones) i nan))
   unfolding stepOf charge chargeBattery chargeElectric electricEnded runAnswer chargedBattery refusedWith electricDrive callInRange ofBits
   electric-cools-none power target h i l =
-      by-refusal (λ (a : Answer). T (le (getD (b .zones) i nan) (getD (a .battery .zones) i nan))) b (chargeBattery b (Electric power) target) _
-      (charging-cools-none (b .card) (derived (b .card)) (saltAt (saltsOf (b .card))) (electricDrive b power target) (b .zones) salts
-      (seconds-nonneg (maxZero (timeAvailable b zero)) (max-zero-nonneg (timeAvailable b zero))) places finite refl
+      by-refusal (λ (a : Answer). T (le (getD (b .zones) i nan) (getD (a .battery .zones) i nan))) b (chargeBattery b (Electric power) target .part .end) _
+      (charging-cools-none (b .card) (derived (b .card)) (saltAt (saltsOf (b .card))) (electricDrive (ledgerOf b) power target) (b .zones) salts
+      (seconds-nonneg (maxZero (timeAvailable (ledgerOf b) zero)) (max-zero-nonneg (timeAvailable (ledgerOf b) zero))) places finite refl
       (power-nonneg power (and-true (isPower power) (isLevel target) h .0)) i l)
       (λ n. as-before i l)

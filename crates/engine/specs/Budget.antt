@@ -21,7 +21,6 @@ use Rattle.substep.specs.Substep.{processHeatBatteryZones}
 use Rattle.substep.specs.declared.Substep.{Substep}
 use Rattle.substep.specs.declared.Fault.the-variants.{Nothing}
 use Rattle.delivery.specs.declared.PaceEnd.{PaceEnd}
-use Rattle.runs.specs.declared.Exchanger.{Exchanger}
 use Rattle.runs.specs.declared.HydronicTask.{HydronicTask}
 use Rattle.runs.specs.declared.WetPace.{WetPace}
 use Rattle.runs.specs.declared.WetEnd.{WetEnd}
@@ -29,46 +28,43 @@ use Rattle.runs.specs.declared.End.the-variants.{OverBudget}
 use Rattle.runs.specs.Hydronic.{wetDrive, clearlyBelow, limitReached, hydronicRun, wetEndPace, wholeSubsteps}
 use Rattle.runs.specs.Charge.{hydronicTask, hydronicStart}
 use Rattle.runs.specs.Zoned.{Zoned, zoned, onPart}
-use Rattle.engine.specs.Steps.{demandRunOf}
+use Rattle.engine.specs.Steps.{demandRunOf, wetOf}
 
 -- a run of a demand, with its budget: its next step is positive
-pub record DemandOver (budget : ℕ) (e : Zoned PaceEnd) : Type 0 where
-  pub ended : e .part .end ≡ OverBudget
-  pub used : e .part .substeps ≡ budget
-  pub due : T (lt zero (e .part .pace .step))
+pub record DemandOver (budget : ℕ) (e : PaceEnd) : Type 0 where
+  pub ended : e .end ≡ OverBudget
+  pub used : e .substeps ≡ budget
+  pub due : T (lt zero (e .pace .step))
 
 -- the whole substep from s
 abbrev pub wholeFrom : HydronicTask → (ℕ → Salt) → Zoned WetPace → Substep
 wholeFrom x salts s = processHeatBatteryZones (x .card) (x .pcm) salts (wetDrive x (x .card .substep) (s .part .reynold)) (s .zones)
 
 -- behind the whole substep u from s the limit is passed, and its heat is to be cut: the fractional substep is due
-pub record FractionDue (x : HydronicTask) (s : Zoned WetPace) (u : Substep) : Type 0 where
+pub record FractionDue (x : HydronicTask) (s : WetPace) (u : Substep) : Type 0 where
   pub worked : u .fault ≡ Nothing
   pub below : T (clearlyBelow (u .outlet) (x .wet .inlet))
-  pub passed : T (limitReached (kj (s .part .absorbed .0 ⊕ neg (u .delivered .0))) (x .limit))
+  pub passed : T (limitReached (kj (s .absorbed .0 ⊕ neg (u .delivered .0))) (x .limit))
   pub heat : T (lt zero (neg (u .delivered .0)))
 
 -- a hydronic run of so many whole substeps: one of them is left, or the fractional one behind the last
 pub record HydronicOver (x : HydronicTask) (salts : ℕ → Salt) (steps : ℕ) (e : Zoned WetEnd) : Type 0 where
   pub ended : e .part .end ≡ OverBudget
   pub used : e .part .substeps ≡ x .card .budget
-  pub due : (x .card .budget < steps) ⊎ FractionDue x (onPart wetEndPace e) (wholeFrom x salts (onPart wetEndPace e))
+  pub due : (x .card .budget < steps) ⊎ FractionDue x (e .part .pace) (wholeFrom x salts (onPart wetEndPace e))
 
 -- the call's run
 pub record DemandUsed (b : Battery) (d : Demand) : Type 0 where
   pub asked : le (d .required) tolerance ≡ false
   pub feed : Float
   pub given : d .feed ≡ Value feed
-  pub over : DemandOver (b .card .budget) (demandRunOf b d feed)
-
-abbrev pub wetOf : Hydronic → Exchanger
-wetOf h = record { inlet = h .inlet; hours = h .hours; flow = h .flow; limit = h .limit; a = h .a; b = h .b; velocity = h .velocity; diameter = h .diameter }
+  pub over : DemandOver (b .card .budget) (demandRunOf b d feed .part)
 
 abbrev pub hydronicTaskOf : Battery → Hydronic → HydronicTask
-hydronicTaskOf b h = hydronicTask b (wetOf h) (h .target)
+hydronicTaskOf b h = hydronicTask (b .card) (wetOf h) (h .target)
 
 abbrev pub hydronicRunOf : Battery → Hydronic → Zoned WetEnd
-hydronicRunOf b h = hydronicRun (hydronicTaskOf b h) (saltAt (saltsOf (b .card))) (wholeSubsteps (hydronicTaskOf b h)) 0 (zoned (hydronicStart b (wetOf h)) (b .zones))
+hydronicRunOf b h = hydronicRun (hydronicTaskOf b h) (saltAt (saltsOf (b .card))) (wholeSubsteps (hydronicTaskOf b h)) 0 (zoned (hydronicStart (b .card) (wetOf h)) (b .zones))
 
 pub record HydronicUsed (b : Battery) (h : Hydronic) : Type 0 where
   pub over : HydronicOver (hydronicTaskOf b h) (saltAt (saltsOf (b .card))) (wholeSubsteps (hydronicTaskOf b h)) (hydronicRunOf b h)

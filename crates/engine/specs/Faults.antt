@@ -19,6 +19,7 @@ use Rattle.card.specs.Derived.{saltsOf, storedMaximum, derived}
 use Rattle.card.specs.declared.Card.{Card}
 use Rattle.card.specs.declared.HeatBatteryPcm.{HeatBatteryPcm}
 use Rattle.battery.specs.Answer.{plainAnswer, answerFinite}
+use Rattle.battery.specs.Ledger.{ledgerOf}
 use Rattle.battery.specs.declared.Battery.{Battery}
 use Rattle.battery.specs.declared.Given.the-variants as Given
 use Rattle.battery.specs.declared.Demand.{Demand}
@@ -38,9 +39,9 @@ use Rattle.runs.specs.Hydronic.{wetDrive, fractionSeconds, wetEndPace}
 use Rattle.runs.specs.Charge.{electricDrive, lossDrive, chargeBattery, batteryHeatLoss, chargeEnergyDemand}
 use Rattle.runs.specs.declared.HydronicTask.{HydronicTask}
 use Rattle.runs.specs.declared.WetPace.{WetPace}
-use Rattle.runs.specs.declared.Stopped.{Stopped}
+use Rattle.runs.specs.declared.End.{End}
 use Rattle.runs.specs.declared.Source.the-variants.{Electric}
-use Rattle.replies.specs.Replies.{demandAnswer, runAnswer, chargedBattery, cooledBattery, closedBattery}
+use Rattle.replies.specs.Replies.{demandAnswer, chargedAnswer, cooledAnswer, closedBattery}
 use Rattle.runs.specs.Zoned.{Zoned, onPart}
 use Rattle.engine.specs.Steps.{demandTask, demandRunOf, demandRan, level, wetSource}
 use Rattle.engine.specs.Budget.{wholeFrom, FractionDue, hydronicTaskOf, hydronicRunOf}
@@ -89,18 +90,18 @@ pub record SubstepFault (f : Fault) (c : Card) (pcm : HeatBatteryPcm) (salts : �
 abbrev pub heatOf : Substep → Kilojoules
 heatOf u = kj (neg (u .delivered .0))
 
-abbrev pub absorbedWith : Zoned WetPace → Substep → Kilojoules
-absorbedWith s u = kj (s .part .absorbed .0 ⊕ heatOf u .0)
+abbrev pub absorbedWith : WetPace → Substep → Kilojoules
+absorbedWith s u = kj (s .absorbed .0 ⊕ heatOf u .0)
 
 -- the drive of the fractional substep behind the whole substep u from s
-abbrev pub fractionDrive : HydronicTask → Zoned WetPace → Substep → Drive
+abbrev pub fractionDrive : HydronicTask → WetPace → Substep → Drive
 fractionDrive x s u =
     wetDrive x (fractionSeconds x (absorbedWith s u) (heatOf u)) (reynoldBetween (x .wet .inlet) (u .outlet) (x .wet .velocity) (x .wet .diameter))
 
 -- the fractional substep behind the whole one from s is due and has the fault f
 pub record FractionFault (f : Fault) (x : HydronicTask) (salts : ℕ → Salt) (s : Zoned WetPace) : Type 0 where
-  pub due : FractionDue x s (wholeFrom x salts s)
-  pub fault : SubstepFault f (x .card) (x .pcm) salts (fractionDrive x s (wholeFrom x salts s)) (s .zones)
+  pub due : FractionDue x (s .part) (wholeFrom x salts s)
+  pub fault : SubstepFault f (x .card) (x .pcm) salts (fractionDrive x (s .part) (wholeFrom x salts s)) (s .zones)
 
 -- the whole substep from s has the fault f, or the fractional one behind it
 abbrev pub HydronicFault : Fault → HydronicTask → (ℕ → Salt) → Zoned WetPace → Type 0
@@ -113,7 +114,7 @@ pub record DemandFaulted (f : Fault) (b : Battery) (d : Demand) : Type 0 where
   pub given : d .feed ≡ Given.Value feed
   pub ended : demandRunOf b d feed .part .end ≡ faultEnd f
   pub fault :
-      SubstepFault f (b .card) (derived (b .card)) (saltAt (saltsOf (b .card))) (demandDrive (demandTask b d feed) (demandRunOf b d feed .part .pace)) (demandRunOf b d feed .zones)
+      SubstepFault f (b .card) (derived (b .card)) (saltAt (saltsOf (b .card))) (demandDrive (demandTask (ledgerOf b) d feed) (demandRunOf b d feed .part .pace)) (demandRunOf b d feed .zones)
 
 pub record HydronicFaulted (f : Fault) (b : Battery) (h : Hydronic) : Type 0 where
   pub ended : hydronicRunOf b h .part .end ≡ faultEnd f
@@ -129,15 +130,15 @@ NoLogarithmTaken b ReadStateOfCharge = ⊥
 NoLogarithmTaken b (ChargeEnergyDemand most target) = ⊥
 
 -- 'or a reported number or total isn't': the answer that the call would have got, behind a run that ended without a refusal
-pub record AnswerNotFinite (r : Zoned Stopped) (a : Answer) : Type 0 where
-  pub ended : endRefusal (r .part .end) ≡ 0
+pub record AnswerNotFinite (end : End) (a : Answer) : Type 0 where
+  pub ended : endRefusal end ≡ 0
   pub found : answerFinite a ≡ false
 
 pub record DemandNotFinite (b : Battery) (d : Demand) : Type 0 where
   pub asked : le (d .required) tolerance ≡ false
   pub feed : Float
   pub given : d .feed ≡ Given.Value feed
-  pub answer : AnswerNotFinite (demandRan b d feed) (demandAnswer b d (demandRan b d feed))
+  pub answer : AnswerNotFinite (demandRan b d feed .part .end) (demandAnswer b d (demandRan b d feed))
 
 pub record NoDemandNotFinite (b : Battery) (d : Demand) : Type 0 where
   pub asked : le (d .required) tolerance ≡ true
@@ -152,14 +153,14 @@ pub record LevelNotFinite (b : Battery) (energy : Float → Float) : Type 0 wher
 abbrev pub NotFiniteFound : Battery → Call → Type 0
 NotFiniteFound b (DemandEnergy d) = DemandFaulted NotFinite b d ⊎ (DemandNotFinite b d ⊎ NoDemandNotFinite b d)
 NotFiniteFound b (ChargeElectric power target) =
-    SubstepFault NotFinite (b .card) (derived (b .card)) (saltAt (saltsOf (b .card))) (electricDrive b power target) (b .zones)
-    ⊎ AnswerNotFinite (chargeBattery b (Electric power) target) (runAnswer (chargeBattery b (Electric power) target) (chargedBattery b (chargeBattery b (Electric power) target)))
+    SubstepFault NotFinite (b .card) (derived (b .card)) (saltAt (saltsOf (b .card))) (electricDrive (ledgerOf b) power target) (b .zones)
+    ⊎ AnswerNotFinite (chargeBattery b (Electric power) target .part .end) (chargedAnswer b (chargeBattery b (Electric power) target))
 NotFiniteFound b (ChargeHydronic h) =
     HydronicFaulted NotFinite b h
-    ⊎ AnswerNotFinite (chargeBattery b (wetSource h) (h .target)) (runAnswer (chargeBattery b (wetSource h) (h .target)) (chargedBattery b (chargeBattery b (wetSource h) (h .target))))
+    ⊎ AnswerNotFinite (chargeBattery b (wetSource h) (h .target) .part .end) (chargedAnswer b (chargeBattery b (wetSource h) (h .target)))
 NotFiniteFound b HeatLoss =
-    SubstepFault NotFinite (b .card) (derived (b .card)) (saltAt (saltsOf (b .card))) (lossDrive b) (b .zones)
-    ⊎ AnswerNotFinite (batteryHeatLoss b) (runAnswer (batteryHeatLoss b) (cooledBattery b (batteryHeatLoss b)))
+    SubstepFault NotFinite (b .card) (derived (b .card)) (saltAt (saltsOf (b .card))) (lossDrive (b .card)) (b .zones)
+    ⊎ AnswerNotFinite (batteryHeatLoss b .part .end) (cooledAnswer b (batteryHeatLoss b))
 NotFiniteFound b CloseTimestep = answerFinite (plainAnswer zero (closedBattery b)) ≡ false
 NotFiniteFound b ReadStateOfCharge = LevelNotFinite b (λ soc. soc)
-NotFiniteFound b (ChargeEnergyDemand most target) = LevelNotFinite b (λ soc. chargeEnergyDemand b most target soc .0)
+NotFiniteFound b (ChargeEnergyDemand most target) = LevelNotFinite b (λ soc. chargeEnergyDemand (b .card) most target soc .0)

@@ -14,7 +14,9 @@ use Rattle.card.specs.declared.Card.{Card}
 use Rattle.battery.specs.Battery.{batteryAccepted}
 use Rattle.call_ranges.specs.Call.{callInRange}
 use Rattle.battery.specs.Answer.{refusedWith, plainAnswer}
+use Rattle.battery.specs.Ledger.{ledgerOf}
 use Rattle.battery.specs.declared.Battery.{Battery}
+use Rattle.battery.specs.declared.Ledger.{Ledger}
 use Rattle.battery.specs.declared.Given.{Given}
 use Rattle.battery.specs.declared.Given.the-variants.{Absent, Value}
 use Rattle.battery.specs.declared.Demand.{Demand}
@@ -22,6 +24,7 @@ use Rattle.battery.specs.declared.Hydronic.{Hydronic}
 use Rattle.battery.specs.declared.Call.{Call}
 use Rattle.battery.specs.declared.Call.the-variants.{DemandEnergy, ChargeElectric, ChargeHydronic, HeatLoss, CloseTimestep, ReadStateOfCharge, ChargeEnergyDemand}
 use Rattle.battery.specs.declared.Answer.{Answer}
+use Rattle.runs.specs.declared.Exchanger.{Exchanger}
 use Rattle.runs.specs.declared.Source.{Source}
 use Rattle.runs.specs.declared.Source.the-variants.{Electric, Wet}
 use Rattle.delivery.specs.declared.DemandTask.{DemandTask}
@@ -31,33 +34,33 @@ use Rattle.runs.specs.Runs.{timeAvailable}
 use Rattle.delivery.specs.Demand.{demandRun, demandEnded}
 use Rattle.runs.specs.Charge.{chargeBattery, batteryHeatLoss, chargeEnergyDemand}
 use Rattle.totals.specs.Classes.{serviceClass, unserved}
-use Rattle.replies.specs.Replies.{checked, unlessRefused, unitsOf, demandStart, demandAnswer, chargedBattery, cooledBattery, runAnswer, closedBattery}
+use Rattle.replies.specs.Replies.{checked, unlessRefused, unitsOf, demandStart, demandAnswer, chargedAnswer, cooledAnswer, closedBattery}
 use Rattle.runs.specs.Zoned.{Zoned, zoned, onPart}
 
 -- '`electric_charge`: the card's power where the call's control flag is 1, else 0', where the card charges during a demand
 unfoldable pub demandPower : Card → Bool → Float
 demandPower c control = cond (eqb (c .simultaneous) 1 && control) (c .power) zero
 
-unfoldable pub demandTask : Battery → Demand → Float → DemandTask
-demandTask b d feed =
+unfoldable pub demandTask : Ledger → Demand → Float → DemandTask
+demandTask l d feed =
     record {
-      card = b .card;
-      pcm = derived (b .card);
+      card = l .card;
+      pcm = derived (l .card);
       feed = feed;
-      power = demandPower (b .card) (d .control);
-      demand = kwh (d .required ⊘ unitsOf (b .card));
-      seconds = timeAvailable b (d .start) ⊗ hour;
+      power = demandPower (l .card) (d .control);
+      demand = kwh (d .required ⊘ unitsOf (l .card));
+      seconds = timeAvailable l (d .start) ⊗ hour;
     }
 
 -- a demand's substeps, what they hand out, and the answer
 abbrev pub demandRunOf : Battery → Demand → Float → Zoned PaceEnd
-demandRunOf b d feed = demandRun (demandTask b d feed) (saltAt (saltsOf (b .card))) (b .card .budget) 0 (zoned (demandStart b) (b .zones))
+demandRunOf b d feed = demandRun (demandTask (ledgerOf b) d feed) (saltAt (saltsOf (b .card))) (b .card .budget) 0 (zoned (demandStart (ledgerOf b)) (b .zones))
 
 abbrev pub demandRan : Battery → Demand → Float → Zoned Stopped
 demandRan b d feed = onPart demandEnded (demandRunOf b d feed)
 
 abbrev pub demandAnswered : Battery → Demand → Float → Answer
-demandAnswered b d feed = unlessRefused b (demandRan b d feed) (demandAnswer b d (demandRan b d feed))
+demandAnswered b d feed = unlessRefused b (demandRan b d feed .part .end) (demandAnswer b d (demandRan b d feed))
 
 -- '21 committed, required above 1e-10, service type 0', before the first substep
 unfoldable pub demandFrom : Battery → Demand → Float → Answer
@@ -75,12 +78,12 @@ demandEnergy b d = cond (le (d .required) tolerance) (checked b (plainAnswer zer
 unfoldable pub charge : Battery → Source → Float → Answer
 charge b source target =
     let r = chargeBattery b source target in
-    unlessRefused b r (runAnswer r (chargedBattery b r))
+    unlessRefused b (r .part .end) (chargedAnswer b r)
 
 unfoldable pub heatLoss : Battery → Answer
 heatLoss b =
     let r = batteryHeatLoss b in
-    unlessRefused b r (runAnswer r (cooledBattery b r))
+    unlessRefused b (r .part .end) (cooledAnswer b r)
 
 -- kind 5: 'the three running times become 0'
 abbrev pub closed : Battery → Answer
@@ -97,12 +100,14 @@ readLevel b (Level soc) = checked b (plainAnswer soc b)
 -- kind 7
 unfoldable pub demandToLevel : Battery → Given → Float → StateOfCharge → Answer
 demandToLevel b most target Above = refusedWith 25 b
-demandToLevel b most target (Level soc) = checked b (plainAnswer (chargeEnergyDemand b most target soc .0) b)
+demandToLevel b most target (Level soc) = checked b (plainAnswer (chargeEnergyDemand (b .card) most target soc .0) b)
 
 -- a hydronic call as a wet source
+abbrev pub wetOf : Hydronic → Exchanger
+wetOf h = record { inlet = h .inlet; hours = h .hours; flow = h .flow; limit = h .limit; a = h .a; b = h .b; velocity = h .velocity; diameter = h .diameter }
+
 unfoldable pub wetSource : Hydronic → Source
-wetSource h =
-    Wet (record { inlet = h .inlet; hours = h .hours; flow = h .flow; limit = h .limit; a = h .a; b = h .b; velocity = h .velocity; diameter = h .diameter })
+wetSource h = Wet (wetOf h)
 
 -- 'Kind 1 is `demand_energy`, 2 `charge_battery_electric`, 3 `charge_battery_hydronic`, 4 `battery_heat_loss`, 6 `calc_state_of_charge`,
 -- 7 `calculate_charge_energy_demand` ..; 5 sets the running times to 0'

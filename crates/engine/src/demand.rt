@@ -9,12 +9,11 @@ use runs::Stopped;
 use zone::KilowattHours;
 ghost use mathlib.Core.Path.{_≡_};
 ghost use mathlib.Core.Bool.{true, false};
-ghost use mathlib.Core.List.{List};
 ghost use Prim.Native.Nat.{_≤_};
-ghost use lib.Ieee.{Float};
 ghost use Rattle.card.specs.Derived.{SaltsOf};
 ghost use Rattle.battery.specs.Battery.{zonesFinite};
-ghost use Rattle.battery.specs.Ledger.{whole, settled};
+ghost use Rattle.battery.specs.Answer.{settled};
+ghost use Rattle.battery.specs.Ledger.{whole};
 ghost use Rattle.runs.specs.Runs.{endRefusal};
 ghost use Rattle.runs.specs.Zoned.{AsDefined};
 ghost use Rattle.engine.specs.Steps.{demandPower, demandTask, demandRan, demandAnswered, demandFrom, demandGiven, demandEnergy};
@@ -30,7 +29,7 @@ fn demand_power(card: Card, control: bool) -> f64
 }
 
 fn demand_task(l: Ledger, d: Demand, feed: f64) -> DemandTask
-    ensures { λ r. ⌜ ((zones : List Float) → r ≡ demandTask (whole l zones) d feed) ⌝ }
+    ensures { λ r. ⌜ r ≡ demandTask l d feed ⌝ }
 {
     let card = l.card;
     let pcm = pcm::derived(card);

@@ -19,7 +19,8 @@ ghost use lib.Ieee.{lt};
 ghost use Rattle.floats.specs.Constants.{zero};
 ghost use Rattle.card.specs.Derived.{SaltsOf};
 ghost use Rattle.battery.specs.Battery.{zonesFinite};
-ghost use Rattle.battery.specs.Ledger.{whole, settled};
+ghost use Rattle.battery.specs.Answer.{settled};
+ghost use Rattle.battery.specs.Ledger.{whole};
 ghost use Rattle.substep.specs.Substep.{chargerHeat};
 ghost use Rattle.runs.specs.Charge.{lossDrive};
 ghost use Rattle.engine.specs.Asked.{askedOf, askedStep};
@@ -44,7 +45,7 @@ fn charge(
 }
 
 fn heat_loss(l: Ledger, salts: &[f64], step: usize, zones: &mut [f64; 64]) -> Reply
-    requires { ⌜ (l .card .layers ≤ 64) × SaltsOf (l .card) (now salts) step × (lt (chargerHeat (lossDrive (whole l (now zones))) .0) zero ≡ false) ⌝ }
+    requires { ⌜ (l .card .layers ≤ 64) × SaltsOf (l .card) (now salts) step × (lt (chargerHeat (lossDrive (l .card)) .0) zero ≡ false) ⌝ }
     ensures { λ r. ⌜ settled l (now (zones .entry)) r (now (zones .exit)) ≡ heatLoss (whole l (now (zones .entry))) ⌝ }
 {
     let s = charges::battery_heat_loss(l, salts, step, zones);
@@ -170,7 +171,7 @@ fn charge_energy_demand(
 
 // The electric and the wet charge are one call of `charge`, so that one copy of it is compiled, in place.
 fn asked_step(l: Ledger, salts: &[f64], step: usize, what: Asked, zones: &mut [f64; 64]) -> Reply
-    requires { ⌜ (l .card .layers ≤ 64) × SaltsOf (l .card) (now salts) step × (zonesFinite (now zones) (l .card .layers) ≡ true) × (lt (chargerHeat (lossDrive (whole l (now zones))) .0) zero ≡ false) ⌝ }
+    requires { ⌜ (l .card .layers ≤ 64) × SaltsOf (l .card) (now salts) step × (zonesFinite (now zones) (l .card .layers) ≡ true) × (lt (chargerHeat (lossDrive (l .card)) .0) zero ≡ false) ⌝ }
     ensures { λ r. ⌜ settled l (now (zones .entry)) r (now (zones .exit)) ≡ askedStep (whole l (now (zones .entry))) what ⌝ }
 {
     match what {
@@ -213,7 +214,7 @@ pub fn advance(version: u8, b: Battery, call: Call) -> Answer
     ensures { λ r. ⌜ r ≡ advanceOf version b call ⌝ }
 {
     let l = battery::ledger_of(b);
-    let salts = pcm::figures_of(l.card);
+    let salts = pcm::figures_of(b.card);
     let mut zones = b.zones;
     let a = advance_in_place(version, l, &salts, 0, call, &mut zones);
     if a.refusal == 0 {

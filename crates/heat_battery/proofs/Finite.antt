@@ -10,7 +10,8 @@ use Rattle.floats.specs.Standins.{finite64}
 use Rattle.codec.specs.Bytes.{nthF64}
 use Rattle.card.specs.Card.{cardRefusal}
 use Rattle.card.proofs.Accepted.{accepted-layers}
-use Rattle.battery.specs.Battery.{zonesFinite, totalsFinite, batteryAccepted}
+use Rattle.battery.specs.Battery.{zonesFinite, batteryAccepted}
+use Rattle.battery.specs.Ledger.{totalsFinite}
 use Rattle.battery.proofs.Zones.{zones-finite-of}
 use Rattle.records.specs.Cards.{cardLength, cardAt}
 use Rattle.records.specs.Records.{zonesAt, stateAt, recordOf}

@@ -10,7 +10,8 @@ use Rattle.battery.specs.declared.Battery.{Battery}
 use Rattle.battery.specs.declared.Call.{Call}
 use Rattle.battery.specs.declared.Answer.{Answer}
 use Rattle.battery.specs.Answer.{refusedWith}
-use Rattle.battery.specs.Battery.{totalsFinite, batteryAccepted}
+use Rattle.battery.specs.Battery.{batteryAccepted}
+use Rattle.battery.specs.Ledger.{totalsFinite}
 use Rattle.battery.proofs.Accepted.{accepted-battery, battery-accepted}
 use Rattle.battery.proofs.Answers.{finite-totals}
 use Rattle.battery.proofs.Zones.{zones-finite-at, zones-finite-of}
@@ -24,7 +25,7 @@ use Rattle.calls.specs.Calls.{callOf}
 use Rattle.calls.specs.declared.ReadCall.{ReadCall}
 use Rattle.calls.specs.declared.ReadCall.the-variants.{Good, Bad}
 use Rattle.calls.proofs.CallExact.{call-laid, laid-call}
-use Rattle.own_record.specs.Record.{Advanced, shownOf, advancedBy, advancedRead, advancedOf}
+use Rattle.own_record.specs.Record.{shownOf, advancedBy, advancedRead, advancedOf}
 use Rattle.heat_battery.specs.Cases.{GoodCall, GoodOwn, OwnCase10, bad-own, bad-own-call, OwnCase}
 use Rattle.heat_battery.proofs.CallCases.{no-call, same-call, not-ten}
 

@@ -5,7 +5,8 @@ use mathlib.Core.List.{List}
 use native.Mathlib.Omega.{arith}
 use lib.Ieee.{Float}
 use Rattle.card.proofs.Accepted.{accepted-layers}
-use Rattle.battery.specs.Ledger.{whole, answerWith, settled}
+use Rattle.battery.specs.Answer.{answerWith, settled}
+use Rattle.battery.specs.Ledger.{whole}
 use Rattle.battery.specs.declared.Answer.{Answer}
 use Rattle.battery.specs.declared.Call.{Call}
 use Rattle.battery.specs.declared.Ledger.{Ledger}

@@ -3,9 +3,8 @@ use Prim.Native.Nat.{ℕ, zero, suc}
 use mathlib.Core.List.{List}
 use lib.ListN.{getD, set}
 use lib.Ieee.{Float, nan}
-use Rattle.floats.specs.Constants as Constants
-use Rattle.battery.specs.Answer.{refusedWith}
-use Rattle.battery.specs.Ledger.{whole}
+use Rattle.battery.specs.Answer.{replyOf, refusedReply, refusedWith}
+use Rattle.battery.specs.Ledger.{renewedBattery}
 use Rattle.battery.specs.declared.Battery.{Battery}
 use Rattle.battery.specs.declared.Answer.{Answer}
 use Rattle.battery.specs.declared.Reply.{Reply}
@@ -22,23 +21,21 @@ pub record Advanced : Type 0 where
   pub battery : Battery
   pub shown : Shown
 
--- an answer without its battery, as a line shows it
-unfoldable pub shownOf : Answer → Shown
-shownOf a =
-    record { refusal = a .refusal; mark = a .mark; substeps = a .substeps; energy = a .energy; outlet = a .outlet; time = a .time }
-
--- the same of a reply, and of a refusal
+-- a reply without its totals, as a line shows it; the same of a refusal, and of an answer
 abbrev pub replyShown : Reply → Shown
 replyShown a =
     record { refusal = a .refusal; mark = a .mark; substeps = a .substeps; energy = a .energy; outlet = a .outlet; time = a .time }
 
 abbrev pub refusedShown : ℕ → Shown
-refusedShown n = record { refusal = n; mark = 0; substeps = 0; energy = Constants.zero; outlet = Constants.zero; time = Constants.zero }
+refusedShown n = replyShown (refusedReply n)
+
+unfoldable pub shownOf : Answer → Shown
+shownOf a = replyShown (replyOf a)
 
 -- a battery whose zones lie apart, with its totals renewed and these zones: its card and count stay
 abbrev pub renewedWith : Ledger → Renewed → List Float → Advanced
 renewedWith l r zones =
-    record { battery = whole (record { card = l .card; count = l .count; totals = r .totals }) zones; shown = r .shown }
+    record { battery = renewedBattery l (r .totals) zones; shown = r .shown }
 
 -- zones of which the first n are those of another list
 unfoldable pub renewedZones : List Float → List Float → ℕ → List Float

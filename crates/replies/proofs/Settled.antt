@@ -12,16 +12,16 @@ use Rattle.battery.specs.declared.Totals.{Totals}
 use Rattle.battery.specs.declared.Ledger.{Ledger}
 use Rattle.battery.specs.declared.Answer.{Answer}
 use Rattle.battery.specs.declared.Reply.{Reply}
-use Rattle.battery.specs.Answer.{refusedWith, plainAnswer}
-use Rattle.battery.specs.Ledger.{whole, answerWith, refusedReply, plainReply, settled}
+use Rattle.battery.specs.Answer.{refusedWith, plainAnswer, answerWith, refusedReply, plainReply, settled}
+use Rattle.battery.specs.Ledger.{whole, renewedBattery}
+use Rattle.runs.specs.declared.End.{End}
 use Rattle.runs.specs.declared.Stopped.{Stopped}
 use Rattle.runs.specs.Runs.{endRefusal}
 use Rattle.runs.specs.Zoned.{Zoned, AsDefined}
 use Rattle.totals.specs.declared.ServiceClass.{ServiceClass}
-use Rattle.totals.specs.Apart.{servedTotals, chargedTotals, closedTotals}
-use Rattle.replies.specs.Apart.{demandReply, runReply}
+use Rattle.totals.specs.Totals.{servedTotals, chargedTotals, closedTotals}
 use Rattle.totals.specs.Classes.{serviceClass}
-use Rattle.replies.specs.Replies.{checked, unlessRefused, served, demandKept, demandAnswer, chargedBattery, cooledBattery, runAnswer, closedBattery}
+use Rattle.replies.specs.Replies.{checked, unlessRefused, served, demandKept, demandReply, demandAnswer, chargedBattery, cooledBattery, runReply, runAnswer, chargedAnswer, cooledAnswer, closedBattery}
 
 module _ (l : Ledger) (before zones : List Float) (r : Reply) where
   pub settled-answer : r .refusal ≡ 0 → settled l before r zones ≡ answerWith l r zones
@@ -33,24 +33,23 @@ module _ (l : Ledger) (before zones : List Float) (r : Reply) where
   settled-other h = sym (via-false _ _ (ne-eqb _ _ h) refl)
 
   pub settled-refusal : (n : ℕ) → r ≡ refusedReply n → eqb n 0 ≡ false → settled l before r zones ≡ refusedWith n (whole l before)
-  unfolding settled refusedReply
+  unfolding settled
   settled-refusal n e h = rw (e, h)
 
   -- a reply without a run
   pub plain-refusal : (energy : Float) (totals : Totals) → r ≡ plainReply energy totals → r .refusal ≡ 0
-  unfolding plainReply
   plain-refusal energy totals e = ap (λ (x : Reply). x .refusal) e
 
   pub plain-with :
       (energy : Float) (totals : Totals) → r ≡ plainReply energy totals →
-      answerWith l r zones ≡ plainAnswer energy (whole (record { card = l .card; count = l .count; totals = totals }) zones)
-  unfolding plainReply plainAnswer
+      answerWith l r zones ≡ plainAnswer energy (renewedBattery l totals zones)
+  unfolding plainAnswer
   plain-with energy totals e = rw e
 
   pub closed-with :
       (energy : Float) (totals : Totals) → totals ≡ closedTotals l → r ≡ plainReply energy totals →
       answerWith l r zones ≡ plainAnswer energy (closedBattery (whole l zones))
-  unfolding plainReply plainAnswer closedBattery
+  unfolding plainAnswer closedBattery
   closed-with energy totals t e = rw (e, t)
 
 -- An answer to a run, where the run's zones lie apart: if the run is refused they are not shown.
@@ -59,9 +58,12 @@ pub run-end : (zones : List Float) (s : Stopped) (e : Zoned Stopped) → AsDefin
 run-end zones s e same = sym (ap (λ (x : Stopped). x .end) (same .0))
 
 module _ (l : Ledger) (before zones : List Float) (s : Stopped) (e : Zoned Stopped) (same : AsDefined (endRefusal (s .end)) s zones e) where
-  answered : (a b : Answer) → (zones ≡ e .zones → a ≡ b) → unlessRefused (whole l before) e a ≡ unlessRefused (whole l before) e b
+  by-definition : (a : Answer) → unlessRefused (whole l before) (s .end) a ≡ unlessRefused (whole l before) (e .part .end) a
+  by-definition a = sym (ap (λ (end : End). unlessRefused (whole l before) end a) (run-end zones s e same))
+
+  answered : (a b : Answer) → (zones ≡ e .zones → a ≡ b) → unlessRefused (whole l before) (s .end) a ≡ unlessRefused (whole l before) (e .part .end) b
   unfolding unlessRefused
-  answered a b f = by (eqb (endRefusal (e .part .end)) 0) (λ h. eqb-true (endRefusal (e .part .end)) 0 h)
+  answered a b f = by-definition a ∙ by (eqb (endRefusal (e .part .end)) 0) (λ h. eqb-true (endRefusal (e .part .end)) 0 h)
     where
       by : (t : Bool) → (t ≡ true → endRefusal (e .part .end) ≡ 0) →
           cond t (checked (whole l before) a) (refusedWith (endRefusal (e .part .end)) (whole l before)) ≡ cond t (checked (whole l before) b) (refusedWith (endRefusal (e .part .end)) (whole l before))
@@ -71,26 +73,29 @@ module _ (l : Ledger) (before zones : List Float) (s : Stopped) (e : Zoned Stopp
   module _ (r : Reply) where
     pub charged-with :
         (totals : Totals) → totals ≡ chargedTotals l s → r ≡ runReply s totals →
-        unlessRefused (whole l before) e (answerWith l r zones) ≡ unlessRefused (whole l before) e (runAnswer e (chargedBattery (whole l before) e))
+        unlessRefused (whole l before) (s .end) (answerWith l r zones) ≡ unlessRefused (whole l before) (e .part .end) (chargedAnswer (whole l before) e)
     unfolding runAnswer chargedBattery
     charged-with totals t g = answered _ _ (λ z. rw (g, t, z, same .0))
 
     pub cooled-with :
         r ≡ runReply s (l .totals) →
-        unlessRefused (whole l before) e (answerWith l r zones) ≡ unlessRefused (whole l before) e (runAnswer e (cooledBattery (whole l before) e))
+        unlessRefused (whole l before) (s .end) (answerWith l r zones) ≡ unlessRefused (whole l before) (e .part .end) (cooledAnswer (whole l before) e)
     unfolding runAnswer cooledBattery
     cooled-with g = answered _ _ (λ z. rw (g, z, same .0))
 
     pub committed-with :
         (d : Demand) (class : ServiceClass) (totals : Totals) → d .commit ≡ true → class ≡ serviceClass (l .card) (d .service) →
         totals ≡ servedTotals l class s → r ≡ demandReply l s totals →
-        unlessRefused (whole l before) e (answerWith l r zones) ≡ unlessRefused (whole l before) e (demandAnswer (whole l before) d e)
+        unlessRefused (whole l before) (s .end) (answerWith l r zones) ≡ unlessRefused (whole l before) (e .part .end) (demandAnswer (whole l before) d e)
     unfolding demandAnswer demandKept served
     committed-with d class totals h k t g = answered _ _ (λ z. rw (g, t, k, z, same .0, h))
 
     -- a trial's zones stay
+    trial-answer : (d : Demand) → d .commit ≡ false → r ≡ demandReply l s (l .totals) → answerWith l r before ≡ demandAnswer (whole l before) d e
+    unfolding demandAnswer demandKept
+    trial-answer d h g = rw (g, same .0, h)
+
     pub trial-with :
         (d : Demand) → d .commit ≡ false → r ≡ demandReply l s (l .totals) →
-        answerWith l r before ≡ demandAnswer (whole l before) d e
-    unfolding demandAnswer demandKept
-    trial-with d h g = rw (g, same .0, h)
+        unlessRefused (whole l before) (s .end) (answerWith l r before) ≡ unlessRefused (whole l before) (e .part .end) (demandAnswer (whole l before) d e)
+    trial-with d h g = by-definition _ ∙ ap (unlessRefused (whole l before) (e .part .end)) (trial-answer d h g)

@@ -11,7 +11,9 @@ use Rattle.zone.specs.declared.KilowattHours.{KilowattHours}
 use Rattle.water.specs.declared.Mode.the-variants.{OnlyCharging, Losses}
 use Rattle.card.specs.Derived.{saltsOf, energyAt, storedMaximum, derived}
 use Rattle.card.specs.declared.Card.{Card}
+use Rattle.battery.specs.Ledger.{ledgerOf}
 use Rattle.battery.specs.declared.Battery.{Battery}
+use Rattle.battery.specs.declared.Ledger.{Ledger}
 use Rattle.battery.specs.declared.Given.{Given}
 use Rattle.battery.specs.declared.Given.the-variants.{Absent, Value}
 use Rattle.substep.specs.Substep.{processHeatBatteryZones}
@@ -28,31 +30,31 @@ use Rattle.runs.specs.Runs.{outcome, faultEnd, reynoldBetween, timeAvail
 use Rattle.runs.specs.Hydronic.{hydronicRun, hydronicEnded, wholeSubsteps}
 
 -- the call's power over the time left, which goes through max(0.0)
-unfoldable pub electricDrive : Battery → Float → Float → Drive
-electricDrive b power target =
-    record { mode = OnlyCharging; inlet = zero; seconds = maxZero (timeAvailable b zero) ⊗ hour; reynold = zero; flow = b .card .flow; power = power; target = target; a = b .card .a; b = b .card .b }
+unfoldable pub electricDrive : Ledger → Float → Float → Drive
+electricDrive l power target =
+    record { mode = OnlyCharging; inlet = zero; seconds = maxZero (timeAvailable l zero) ⊗ hour; reynold = zero; flow = l .card .flow; power = power; target = target; a = l .card .a; b = l .card .b }
 
-unfoldable pub electricEnded : Battery → Outcome → Stopped
-electricEnded b u =
-    record { energy = u .charged; electric = kwh (b .electric ⊕ u .charged .0); outlet = zero; time = zero; end = faultEnd (u .fault); substeps = 1 }
+unfoldable pub electricEnded : Ledger → Outcome → Stopped
+electricEnded l u =
+    record { energy = u .charged; electric = kwh (l .totals .electric ⊕ u .charged .0); outlet = zero; time = zero; end = faultEnd (u .fault); substeps = 1 }
 
 unfoldable pub chargeElectric : Battery → Float → Float → Zoned Stopped
 chargeElectric b power target =
-    onPart (electricEnded b) (outcome (processHeatBatteryZones (b .card) (derived (b .card)) (saltAt (saltsOf (b .card))) (electricDrive b power target) (b .zones)))
+    onPart (electricEnded (ledgerOf b)) (outcome (processHeatBatteryZones (b .card) (derived (b .card)) (saltAt (saltsOf (b .card))) (electricDrive (ledgerOf b) power target) (b .zones)))
 
-unfoldable pub hydronicTask : Battery → Exchanger → Float → HydronicTask
-hydronicTask b wet target =
-    record { card = b .card; pcm = derived (b .card); wet = wet; target = target; limit = kilojoules (kwh (wet .limit)) }
+unfoldable pub hydronicTask : Card → Exchanger → Float → HydronicTask
+hydronicTask c wet target =
+    record { card = c; pcm = derived c; wet = wet; target = target; limit = kilojoules (kwh (wet .limit)) }
 
 -- the first Reynolds number is that of the card's initial inlet and estimated outlet
-unfoldable pub hydronicStart : Battery → Exchanger → WetPace
-hydronicStart b wet =
-    record { absorbed = kj zero; reynold = reynoldBetween (b .card .inlet) (b .card .outlet) (wet .velocity) (wet .diameter); time = zero }
+unfoldable pub hydronicStart : Card → Exchanger → WetPace
+hydronicStart c wet =
+    record { absorbed = kj zero; reynold = reynoldBetween (c .inlet) (c .outlet) (wet .velocity) (wet .diameter); time = zero }
 
 unfoldable pub chargeHydronic : Battery → Exchanger → Float → Zoned Stopped
 chargeHydronic b wet target =
-    let x = hydronicTask b wet target in
-    onPart (hydronicEnded (kwh (b .electric))) (hydronicRun x (saltAt (saltsOf (b .card))) (wholeSubsteps x) 0 (zoned (hydronicStart b wet) (b .zones)))
+    let x = hydronicTask (b .card) wet target in
+    onPart (hydronicEnded (kwh (b .electric))) (hydronicRun x (saltAt (saltsOf (b .card))) (wholeSubsteps x) 0 (zoned (hydronicStart (b .card) wet) (b .zones)))
 
 -- 'A charging source is electric with its rated power, or wet with its flow and exchanger figures'
 unfoldable pub chargeBattery : Battery → Source → Float → Zoned Stopped
@@ -60,16 +62,16 @@ chargeBattery b (Electric power) target = chargeElectric b power target
 chargeBattery b (Wet wet) target = chargeHydronic b wet target
 
 -- the rated losses over the whole timestep, against 16 °C
-unfoldable pub lossDrive : Battery → Drive
-lossDrive b =
-    record { mode = Losses; inlet = ambient; seconds = b .card .timestep ⊗ hour; reynold = zero; flow = zero; power = neg (b .card .losses); target = zero; a = b .card .a; b = b .card .b }
+unfoldable pub lossDrive : Card → Drive
+lossDrive c =
+    record { mode = Losses; inlet = ambient; seconds = c .timestep ⊗ hour; reynold = zero; flow = zero; power = neg (c .losses); target = zero; a = c .a; b = c .b }
 
-unfoldable pub lossEnded : Battery → Outcome → Stopped
-lossEnded b u =
-    record { energy = kilowattHours (u .delivered); electric = kwh (b .electric); outlet = zero; time = zero; end = faultEnd (u .fault); substeps = 1 }
+unfoldable pub lossEnded : Ledger → Outcome → Stopped
+lossEnded l u =
+    record { energy = kilowattHours (u .delivered); electric = kwh (l .totals .electric); outlet = zero; time = zero; end = faultEnd (u .fault); substeps = 1 }
 
 unfoldable pub batteryHeatLoss : Battery → Zoned Stopped
-batteryHeatLoss b = onPart (lossEnded b) (outcome (processHeatBatteryZones (b .card) (derived (b .card)) (saltAt (saltsOf (b .card))) (lossDrive b) (b .zones)))
+batteryHeatLoss b = onPart (lossEnded (ledgerOf b)) (outcome (processHeatBatteryZones (b .card) (derived (b .card)) (saltAt (saltsOf (b .card))) (lossDrive (b .card)) (b .zones)))
 
 -- the energy to the target level, or to the flow maximum where that is less
 unfoldable pub energyDeficit : Salts → Card → Given → Kilojoules → Kilojoules → Kilojoules
@@ -77,11 +79,11 @@ energyDeficit s c Absent current wanted = kj (wanted .0 ⊖ current .0)
 energyDeficit s c (Value t) current wanted = kj (min (wanted .0 ⊖ current .0) (maxZero (energyAt s c t .0 ⊖ current .0)))
 
 -- `calculate_charge_energy_demand`, from the state of charge
-unfoldable pub chargeEnergyDemand : Battery → Given → Float → Float → KilowattHours
-chargeEnergyDemand b most target soc =
-    let stored = storedMaximum (saltsOf (b .card)) (b .card) in
+unfoldable pub chargeEnergyDemand : Card → Given → Float → Float → KilowattHours
+chargeEnergyDemand c most target soc =
+    let stored = storedMaximum (saltsOf c) c in
     cond (lt target soc)
     (kwh zero)
     (cond (nearlyEqual soc target tolerance maxRelative)
     (kwh zero)
-    (kilowattHours (energyDeficit (saltsOf (b .card)) (b .card) most (kj (stored .0 ⊗ soc)) (kj (stored .0 ⊗ target)))))
+    (kilowattHours (energyDeficit (saltsOf c) c most (kj (stored .0 ⊗ soc)) (kj (stored .0 ⊗ target)))))

@@ -9,7 +9,7 @@ use Rattle.substep.specs.declared.Outcome.{Outcome}
 use Rattle.substep.specs.declared.Substep.{Substep}
 use Rattle.substep.specs.declared.Fault.{Fault}
 use Rattle.substep.specs.declared.Fault.the-variants.{Nothing, Logarithm, NotFinite}
-use Rattle.battery.specs.declared.Battery.{Battery}
+use Rattle.battery.specs.declared.Ledger.{Ledger}
 use Rattle.runs.specs.Zoned.{Zoned, zoned}
 use Rattle.runs.specs.declared.Next.{Next}
 use Rattle.runs.specs.declared.Next.the-variants.{On, Stop}
@@ -49,5 +49,5 @@ unfoldable pub reynoldBetween : Float → Float → Float → Float → Float
 reynoldBetween inlet outlet velocity diameter = reynoldNumber (kinematicViscosity inlet outlet) velocity diameter
 
 -- `time_available`, in hours
-unfoldable pub timeAvailable : Battery → Float → Float
-timeAvailable b start = (b .card .timestep ⊖ b .total) ⊗ (one ⊖ start ⊘ b .card .timestep)
+unfoldable pub timeAvailable : Ledger → Float → Float
+timeAvailable l start = (l .card .timestep ⊖ l .totals .total) ⊗ (one ⊖ start ⊘ l .card .timestep)

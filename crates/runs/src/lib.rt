@@ -4,9 +4,6 @@ use card::HeatBatteryPcm;
 use zone::Kilojoules;
 use zone::KilowattHours;
 ghost use mathlib.Core.Path.{_≡_};
-ghost use mathlib.Core.List.{List};
-ghost use lib.Ieee.{Float};
-ghost use Rattle.battery.specs.Ledger.{whole};
 ghost use Rattle.runs.specs.Runs.{faultEnd, endRefusal, reynoldBetween, timeAvailable};
 
 // How a run of substeps ends. The last three are refusals 22, 24 and 23.
@@ -129,7 +126,7 @@ pub fn reynold_between(inlet: f64, outlet: f64, velocity: f64, diameter: f64) ->
 
 // Hours.
 pub fn time_available(l: battery::Ledger, start: f64) -> f64
-    ensures { λ r. ⌜ ((zones : List Float) → r ≡ timeAvailable (whole l zones) start) ⌝ }
+    ensures { λ r. ⌜ r ≡ timeAvailable l start ⌝ }
 {
     let timestep = l.card.timestep;
     (timestep - l.totals.total) * (1.0 - start / timestep)

@@ -19,7 +19,8 @@ use Rattle.card.proofs.Accepted.{accepted-layers}
 use Rattle.battery.specs.declared.Battery.{Battery}
 use Rattle.sheet.specs.Answers.{GoodAnswer}
 use Rattle.battery.specs.Answer.{refusedWith, plainAnswer}
-use Rattle.battery.specs.Battery.{zonesFinite, totalsFinite, batteryAccepted, GoodBattery}
+use Rattle.battery.specs.Battery.{zonesFinite, batteryAccepted, GoodBattery}
+use Rattle.battery.specs.Ledger.{totalsOf, totalsFinite}
 
 -- a finite number of binary64 is held by its format
 pub held : (x : Float) → finite64 x ≡ true → T (fits binary64 x)
@@ -36,7 +37,7 @@ pub record AcceptedBattery (version : ℕ) (b : Battery) : Type 0 where
   pub charged : finite64 (b .charged) ≡ true
   pub electric : finite64 (b .electric) ≡ true
 
-totals : (b : Battery) → totalsFinite b ≡ true
+totals : (b : Battery) → totalsFinite (totalsOf b) ≡ true
     → (finite64 (b .total) ≡ true) × (finite64 (b .pump) ≡ true) × (finite64 (b .direct) ≡ true) × (finite64 (b .charged) ≡ true) × (finite64 (b .electric) ≡ true)
 unfolding totalsFinite
 totals b h =
@@ -56,8 +57,8 @@ pub accepted-battery : (version : ℕ) (b : Battery) → batteryAccepted version
 unfolding batteryAccepted
 accepted-battery version b h =
     let z = zonesFinite (b .zones) (b .card .layers) in
-    let w = one-way (eqb (cardRefusal version (b .card)) 0) (eqb (b .count) (b .card .layers)) (z && totalsFinite b) h in
-    let f = and-true z (totalsFinite b) (w .2) in
+    let w = one-way (eqb (cardRefusal version (b .card)) 0) (eqb (b .count) (b .card .layers)) (z && totalsFinite (totalsOf b)) h in
+    let f = and-true z (totalsFinite (totalsOf b)) (w .2) in
     let t = totals b (f .1) in
     record {
       card = eqb-true (cardRefusal version (b .card)) 0 (w .0);

@@ -5,7 +5,7 @@ use card::Card;
 use runs::Stopped;
 ghost use mathlib.Core.Path.{_≡_};
 ghost use Rattle.totals.specs.Classes.{serviceClass, unserved as unservedOf, pumpAfter, directAfter};
-ghost use Rattle.totals.specs.Apart.{servedTotals, chargedTotals, closedTotals};
+ghost use Rattle.totals.specs.Totals.{servedTotals, chargedTotals, closedTotals};
 
 // The class of a service type.
 pub enum ServiceClass {

@@ -1,4 +1,4 @@
-use Rattle.battery.specs.Ledger.{numbersFinite}
+use Rattle.battery.specs.Answer.{numbersFinite}
 use borrow.Author.Needs.{needs}
 use Rattle.answers.proofs.numbers_finite.Statement.{statement}
 use Rattle.answers.proofs.numbers_finite.Tie as tie

@@ -1,10 +1,8 @@
 use mathlib.Core.Path.{refl}
-use Rattle.battery.specs.Ledger.{plainReply}
 use Rattle.answers.proofs.plain_reply.Statement.{statement}
 use Rattle.answers.proofs.plain_reply.Tie as tie
 
 returns : tie.Need-returns
-unfolding plainReply
 returns c = refl
 
 pub plain-reply-spec : {M : Type 1} → statement M

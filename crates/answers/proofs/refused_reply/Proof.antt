@@ -1,10 +1,8 @@
 use mathlib.Core.Path.{refl}
-use Rattle.battery.specs.Ledger.{refusedReply}
 use Rattle.answers.proofs.refused_reply.Statement.{statement}
 use Rattle.answers.proofs.refused_reply.Tie as tie
 
 returns : tie.Need-returns
-unfolding refusedReply
 returns c = refl
 
 pub refused-reply-spec : {M : Type 1} → statement M

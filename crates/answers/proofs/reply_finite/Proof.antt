@@ -1,5 +1,5 @@
-use Rattle.battery.proofs.Answers.{numbers-and-zones}
-use mathlib.Core.Path.{sym, _∙_}
+use Rattle.battery.specs.Answer.{answerFinite}
+use mathlib.Core.Path.{_∙_}
 use borrow.Author.Needs.{needs}
 use Rattle.answers.proofs.reply_finite.Statement.{statement}
 use Rattle.answers.proofs.reply_finite.Tie as tie
@@ -17,7 +17,8 @@ both-requires : tie.Need-both-requires
 both-requires c κs = search needs
 
 returns : tie.Need-returns
-returns c = c .both .ensures ∙ rw (c .before .before .numbers-finite .ensures, c .before .zones-finite .ensures) (sym (numbers-and-zones (c .before .before .before .before .args .l) _ _))
+unfolding answerFinite
+returns c = c .both .ensures ∙ rw (c .before .before .numbers-finite .ensures, c .before .zones-finite .ensures)
 
 pub reply-finite-spec : {M : Type 1} → statement M
 reply-finite-spec =

@@ -1,4 +1,4 @@
-use Rattle.battery.specs.Ledger.{finiteTotals}
+use Rattle.battery.specs.Ledger.{totalsFinite}
 use borrow.Author.Needs.{needs}
 use Rattle.battery.proofs.totals_finite.Statement.{statement}
 use Rattle.battery.proofs.totals_finite.Tie as tie
@@ -31,7 +31,7 @@ both-requires-4 : tie.Need-both-requires-4
 both-requires-4 c κs = search needs
 
 returns : tie.Need-returns
-unfolding finiteTotals
+unfolding totalsFinite
 returns c = rw (← (c .before .before .before .before .before .before .before .before .is-finite .ensures), ← (c .before .before .before .before .before .before .before .is-finite2 .ensures), ← (c .before .before .before .before .before .before .is-finite3 .ensures), ← (c .before .before .before .before .before .is-finite4 .ensures), ← (c .before .before .before .before .is-finite5 .ensures), ← (c .before .before .before .both .ensures), ← (c .before .before .both2 .ensures), ← (c .before .both3 .ensures), ← (c .both4 .ensures))
 
 pub totals-finite-spec : {M : Type 1} → statement M

@@ -1,5 +1,4 @@
 use mathlib.Core.Path.{ap}
-use Rattle.battery.specs.Ledger.{whole}
 use Rattle.substep.specs.declared.Drive.{Drive}
 use Rattle.runs.specs.Charge.{lossEnded, lossDrive, batteryHeatLoss}
 use Rattle.runs.proofs.InPlace.{one-substep}
@@ -18,7 +17,7 @@ lose-in-place-requires : tie.Need-lose-in-place-requires
 unfolding lossDrive
 lose-in-place-requires c κs =
     let p = c .before .before .before .before .before .pre in
-    let e = c .before .loss-drive .ensures (c .before .before .before .before .before .args .zones .now) in
+    let e = c .before .loss-drive .ensures in
     (p .0, (p .1 .0, (ap (λ (d : Drive). d .mode) e, rw e (p .2))))
 
 loss-ended-requires : tie.Need-loss-ended-requires
@@ -28,8 +27,7 @@ returns : tie.Need-returns
 unfolding batteryHeatLoss
 returns c =
     let b = c .before .before .before .before .before .before .before in
-    let a = b .args in
-    rw (← (salts-at _ _ _ (b .pre .1 .1)), ← (c .before .before .before .before .derived .ensures), ← (c .before .before .before .loss-drive .ensures (a .zones .now))) (one-substep (lossEnded (whole (a .l) (a .zones .now))) _ _ _ _ _ _ _ _ (c .before .lose-in-place .ensures) (c .loss-ended .ensures _))
+    rw (← (salts-at _ _ _ (b .pre .1 .1)), ← (c .before .before .before .before .derived .ensures), ← (c .before .before .before .loss-drive .ensures)) (one-substep (lossEnded (b .args .l)) _ _ _ _ _ _ _ _ (c .before .lose-in-place .ensures) (c .loss-ended .ensures))
 
 pub battery-heat-loss-spec : {M : Type 1} → statement M
 battery-heat-loss-spec =

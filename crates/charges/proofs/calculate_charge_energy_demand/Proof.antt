@@ -7,14 +7,14 @@ use Rattle.charges.proofs.calculate_charge_energy_demand.Tie as tie
 
 returns : tie.Need-returns
 unfolding chargeEnergyDemand
-returns c zones = via-true _ _ (c .if1 .taken) refl
+returns c = via-true _ _ (c .if1 .taken) refl
 
 nearly-equal-requires : tie.Need-nearly-equal-requires
 nearly-equal-requires c κs = search needs
 
 returns-2 : tie.Need-returns-2
 unfolding chargeEnergyDemand
-returns-2 c zones = rw (← (c .before .nearly-equal .ensures)) (via-false _ _ (c .before .before .if1 .left) (via-true _ _ (c .if2 .taken) refl))
+returns-2 c = rw (← (c .before .nearly-equal .ensures)) (via-false _ _ (c .before .before .if1 .left) (via-true _ _ (c .if2 .taken) refl))
 
 energy-at-requires : tie.Need-energy-at-requires
 energy-at-requires c κs = let p = c .before .before .before .before .before .pre in (p .0, p .1 .0)
@@ -27,7 +27,7 @@ kilowatt-hours-requires c κs = search needs
 
 returns-3 : tie.Need-returns-3
 unfolding chargeEnergyDemand
-returns-3 c zones =
+returns-3 c =
     let p = c .before .before .before .before .before .before .before .before .before .before .pre in
     rw (← (p .1 .1), ← (c .before .before .before .before .energy-at .ensures), ← (c .before .before .before .before .before .before .nearly-equal .ensures), ← (c .before .energy-deficit .ensures), ← (c .kilowatt-hours .ensures))
     (via-false _ _ (c .before .before .before .before .before .before .before .if1 .left) (via-false _ _ (c .before .before .before .before .before .if2 .left) refl))

@@ -1,6 +1,4 @@
 use mathlib.Core.Path.{ap}
-use mathlib.Core.List.{[]}
-use Rattle.battery.specs.Ledger.{whole}
 use Rattle.substep.specs.declared.Drive.{Drive}
 use Rattle.runs.specs.Charge.{electricEnded, electricDrive, chargeElectric}
 use Rattle.runs.proofs.InPlace.{one-substep}
@@ -17,7 +15,7 @@ electric-drive-requires c κs = search needs
 
 charge-in-place-requires : tie.Need-charge-in-place-requires
 unfolding electricDrive
-charge-in-place-requires c κs = let p = c .before .before .before .before .before .pre in (p .0, (p .1 .0, ap (λ (d : Drive). d .mode) (c .before .electric-drive .ensures [])))
+charge-in-place-requires c κs = let p = c .before .before .before .before .before .pre in (p .0, (p .1 .0, ap (λ (d : Drive). d .mode) (c .before .electric-drive .ensures)))
 
 electric-ended-requires : tie.Need-electric-ended-requires
 electric-ended-requires c κs = search needs
@@ -26,8 +24,7 @@ returns : tie.Need-returns
 unfolding chargeElectric
 returns c =
     let b = c .before .before .before .before .before .before .before in
-    let a = b .args in
-    rw (← (salts-at _ _ _ (b .pre .1 .1)), ← (c .before .before .before .before .derived .ensures), ← (c .before .before .before .electric-drive .ensures (a .zones .now))) (one-substep (electricEnded (whole (a .l) (a .zones .now))) _ _ _ _ _ _ _ _ (c .before .charge-in-place .ensures) (c .electric-ended .ensures _))
+    rw (← (salts-at _ _ _ (b .pre .1 .1)), ← (c .before .before .before .before .derived .ensures), ← (c .before .before .before .electric-drive .ensures)) (one-substep (electricEnded (b .args .l)) _ _ _ _ _ _ _ _ (c .before .charge-in-place .ensures) (c .electric-ended .ensures))
 
 pub charge-battery-electric-spec : {M : Type 1} → statement M
 charge-battery-electric-spec =

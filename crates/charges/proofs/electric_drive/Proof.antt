@@ -11,7 +11,7 @@ max-zero-requires c κs = search needs
 
 returns : tie.Need-returns
 unfolding electricDrive
-returns c zones = rw (← (c .before .time-available .ensures zones), ← (c .max-zero .ensures))
+returns c = rw (← (c .before .time-available .ensures), ← (c .max-zero .ensures))
 
 pub electric-drive-spec : {M : Type 1} → statement M
 electric-drive-spec = tie.close (tie.spec time-available-requires max-zero-requires returns)

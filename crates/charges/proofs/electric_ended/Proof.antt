@@ -8,7 +8,7 @@ fault-end-requires c κs = search needs
 
 returns : tie.Need-returns
 unfolding electricEnded
-returns c zones = rw (← (c .before .before .fault-end .ensures))
+returns c = rw (← (c .before .before .fault-end .ensures))
 
 pub electric-ended-spec : {M : Type 1} → statement M
 electric-ended-spec = tie.close (tie.spec fault-end-requires returns)

@@ -8,7 +8,7 @@ reynold-between-requires c κs = search needs
 
 returns : tie.Need-returns
 unfolding hydronicStart
-returns c zones = rw (← (c .reynold-between .ensures))
+returns c = rw (← (c .reynold-between .ensures))
 
 pub hydronic-start-spec : {M : Type 1} → statement M
 hydronic-start-spec = tie.close (tie.spec reynold-between-requires returns)

@@ -11,7 +11,7 @@ kilojoules-requires c κs = search needs
 
 returns : tie.Need-returns
 unfolding hydronicTask
-returns c zones = rw (← (c .before .derived .ensures), ← (c .kilojoules .ensures))
+returns c = rw (← (c .before .derived .ensures), ← (c .kilojoules .ensures))
 
 pub hydronic-task-spec : {M : Type 1} → statement M
 hydronic-task-spec = tie.close (tie.spec derived-requires kilojoules-requires returns)

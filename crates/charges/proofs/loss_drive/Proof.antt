@@ -5,7 +5,7 @@ use Rattle.charges.proofs.loss_drive.Tie as tie
 
 returns : tie.Need-returns
 unfolding lossDrive
-returns c zones = refl
+returns c = refl
 
 pub loss-drive-spec : {M : Type 1} → statement M
 loss-drive-spec = tie.close (tie.spec returns)

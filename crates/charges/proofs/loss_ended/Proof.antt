@@ -11,7 +11,7 @@ fault-end-requires c κs = search needs
 
 returns : tie.Need-returns
 unfolding lossEnded
-returns c zones = rw (← (c .before .kilowatt-hours .ensures), ← (c .fault-end .ensures))
+returns c = rw (← (c .before .kilowatt-hours .ensures), ← (c .fault-end .ensures))
 
 pub loss-ended-spec : {M : Type 1} → statement M
 loss-ended-spec = tie.close (tie.spec kilowatt-hours-requires fault-end-requires returns)

@@ -11,7 +11,7 @@ reynold-between-requires c κs = search needs
 
 returns : tie.Need-returns
 unfolding demandStart
-returns c zones = rw (← (c .before .derived .ensures), ← (c .reynold-between .ensures))
+returns c = rw (← (c .before .derived .ensures), ← (c .reynold-between .ensures))
 
 pub demand-start-spec : {M : Type 1} → statement M
 demand-start-spec = tie.close (tie.spec derived-requires reynold-between-requires returns)

@@ -16,10 +16,10 @@ numbers-finite-requires c κs = search needs
 
 returns : tie.Need-returns
 unfolding checked unlessRefused
-returns c l before zones e h f =
+returns c l before zones f =
     let w = c .before .before .before .end-refusal .ensures in
     let t = c .before .before .if1 .taken in
-    rw (h, ← w)
+    rw (← w)
     (via-true _ _ (eq-eqb _ _ t)
     (via-true _ _ (numbers-decide l _ zones (f (sym w ∙ t)) ∙ sym (c .before .numbers-finite .ensures) ∙ c .if2 .taken)
     (settled-answer l before zones _ (c .before .before .before .before .pre))))
@@ -29,10 +29,10 @@ refused-reply-requires c κs = search needs
 
 returns-2 : tie.Need-returns-2
 unfolding checked unlessRefused
-returns-2 c l before zones e h f =
+returns-2 c l before zones f =
     let w = c .before .before .before .before .end-refusal .ensures in
     let t = c .before .before .before .if1 .taken in
-    rw (h, ← w)
+    rw (← w)
     (via-true _ _ (eq-eqb _ _ t)
     (via-false _ _ (numbers-decide l _ zones (f (sym w ∙ t)) ∙ sym (c .before .before .numbers-finite .ensures) ∙ c .before .if2 .left)
     (settled-refusal l before zones _ 23 (c .refused-reply .ensures) refl)))
@@ -42,9 +42,9 @@ refused-reply-requires-2 c κs = search needs
 
 returns-3 : tie.Need-returns-3
 unfolding unlessRefused
-returns-3 c l before zones e h f =
+returns-3 c l before zones f =
     let n = ne-eqb _ _ (c .before .if1 .left) in
-    rw (h, ← (c .before .before .end-refusal .ensures)) (via-false _ _ n (settled-refusal l before zones _ _ (c .refused-reply2 .ensures) n))
+    rw (← (c .before .before .end-refusal .ensures)) (via-false _ _ n (settled-refusal l before zones _ _ (c .refused-reply2 .ensures) n))
 
 pub unless-refused-spec : {M : Type 1} → statement M
 unless-refused-spec =

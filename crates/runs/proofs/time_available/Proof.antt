@@ -5,7 +5,7 @@ use Rattle.runs.proofs.time_available.Tie as tie
 
 returns : tie.Need-returns
 unfolding timeAvailable
-returns c zones = refl
+returns c = refl
 
 pub time-available-spec : {M : Type 1} → statement M
 time-available-spec = tie.close (tie.spec returns)

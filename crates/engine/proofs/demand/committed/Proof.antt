@@ -1,7 +1,5 @@
-use Rattle.replies.proofs.Settled.{run-end}
 use Rattle.battery.specs.declared.Reply.{Reply}
 use Rattle.battery.specs.Ledger.{whole}
-use Rattle.engine.specs.Steps.{demandRan}
 use Rattle.engine.proofs.FiniteZones.{demand-leaves-finite, left-finite}
 use Rattle.replies.proofs.Settled.{committed-with}
 use mathlib.Core.Path.{_∙_, ap}
@@ -30,7 +28,7 @@ returns c =
     let w = c .before .before .before .before .before .demand-stopped .ensures in
     let b = whole (a .l) (a .zones .now) in
     let f = demand-leaves-finite b (c .before .before .before .before .before .before .before .before .pre .2) (a .d) (a .feed) in
-    c .unless-refused .ensures (a .l) _ _ (demandRan b (a .d) (a .feed)) (run-end _ _ _ w) (left-finite _ _ _ _ w (λ h. f)) ∙ committed-with _ _ _ _ _ w _ _ _ _ (c .before .before .before .before .before .before .before .before .pre .3) (c .before .before .before .service-class .ensures) (c .before .before .served-totals .ensures) (c .before .demand-reply .ensures)
+    c .unless-refused .ensures (a .l) _ _ (left-finite _ _ _ _ w (λ h. f)) ∙ committed-with _ _ _ _ _ w _ _ _ _ (c .before .before .before .before .before .before .before .before .pre .3) (c .before .before .before .service-class .ensures) (c .before .before .served-totals .ensures) (c .before .demand-reply .ensures)
 
 pub committed-spec : {M : Type 1} → statement M
 committed-spec =

@@ -17,7 +17,7 @@ time-available-requires c κs = search needs
 
 returns : tie.Need-returns
 unfolding demandTask
-returns c zones = rw (← (c .before .before .before .before .derived .ensures), ← (c .before .before .before .demand-power .ensures), ← (c .before .time-available .ensures zones))
+returns c = rw (← (c .before .before .before .before .derived .ensures), ← (c .before .before .before .demand-power .ensures), ← (c .before .time-available .ensures))
 
 pub demand-task-spec : {M : Type 1} → statement M
 demand-task-spec =

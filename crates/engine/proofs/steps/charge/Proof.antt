@@ -1,4 +1,3 @@
-use Rattle.replies.proofs.Settled.{run-end}
 use Rattle.battery.specs.declared.Reply.{Reply}
 use Rattle.battery.specs.Ledger.{whole}
 use Rattle.engine.specs.Steps.{charge}
@@ -27,7 +26,7 @@ returns c =
     let a = c .before .before .before .before .before .before .args in
     let w = c .before .before .before .charge-battery .ensures in
     let f = charge-leaves-finite (whole (a .l) (a .zones .now)) (c .before .before .before .before .before .before .pre .2) (a .source) (a .target) in
-    c .unless-refused .ensures (a .l) _ _ _ (run-end _ _ _ w) (left-finite _ _ _ _ w f) ∙ charged-with _ _ _ _ _ w _ _ (c .before .before .charged-totals .ensures) (c .before .run-reply .ensures)
+    c .unless-refused .ensures (a .l) _ _ (left-finite _ _ _ _ w f) ∙ charged-with _ _ _ _ _ w _ _ (c .before .before .charged-totals .ensures) (c .before .run-reply .ensures)
 
 pub charge-spec : {M : Type 1} → statement M
 charge-spec =

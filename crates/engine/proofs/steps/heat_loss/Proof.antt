@@ -1,4 +1,3 @@
-use Rattle.replies.proofs.Settled.{run-end}
 use Rattle.battery.specs.declared.Reply.{Reply}
 use Rattle.battery.specs.Ledger.{whole}
 use Rattle.engine.specs.Steps.{heatLoss}
@@ -24,7 +23,7 @@ returns c =
     let a = c .before .before .before .before .before .before .args in
     let w = c .before .before .before .battery-heat-loss .ensures in
     let f = loss-leaves-finite (whole (a .l) (a .zones .now)) in
-    c .unless-refused .ensures (a .l) _ _ _ (run-end _ _ _ w) (left-finite _ _ _ _ w f) ∙ cooled-with _ _ _ _ _ w _ (c .before .run-reply .ensures)
+    c .unless-refused .ensures (a .l) _ _ (left-finite _ _ _ _ w f) ∙ cooled-with _ _ _ _ _ w _ (c .before .run-reply .ensures)
 
 pub heat-loss-spec : {M : Type 1} → statement M
 heat-loss-spec =

@@ -1,4 +1,4 @@
--- The totals behind a call where the zones lie apart.
+-- The five totals after a call.
 use Rattle.floats.specs.F64.{_⊕_, _⊘_}
 use Rattle.floats.specs.Constants.{zero, hour}
 use Rattle.battery.specs.declared.Totals.{Totals}
