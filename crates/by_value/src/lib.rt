@@ -11,7 +11,7 @@ ghost use mathlib.Core.Path.{_≡_};
 ghost use Prim.Native.Nat.{_≤_};
 ghost use lib.ListN.{replicate};
 ghost use Rattle.floats.specs.Constants.{zero};
-ghost use Rattle.zone.specs.Layer.{zoneSalt, Salted};
+ghost use Rattle.zone.specs.Lent.{zoneSalt, Salted};
 ghost use Rattle.substep.specs.Substep.{zonesAfter, passFrom, substepWith, processHeatBatteryZones};
 
 // Each zone's energy. The engine asks for the sum alone and an array slows it, so this is a second loop over `zone_step`.

@@ -1,14 +1,11 @@
 -- Document 01, 'Card': 'Layer capacities are totals divided by layers; the rest as `HeatBatteryPcm::new`'.
-use mathlib.Core.Path.{_≡_}
-use mathlib.Core.List.{List, _∷_, []}
-use Prim.Native.Nat.{ℕ}
 use lib.ListN.{replicate}
 use lib.IntN.{pos}
 use lib.Ieee.{Float, binary64, ofInt}
 use Rattle.floats.specs.F64.{_⊖_, _⊗_, _⊘_}
 use Rattle.floats.specs.Constants.{ratedAmbient, thousand}
 use Rattle.zone.specs.Heat.{kj}
-use Rattle.zone.specs.Layer.{layerEnergyStored, Salts, One, Each, saltsIn, Salted, storedEnergy}
+use Rattle.zone.specs.Layer.{layerEnergyStored, Salts, One, Each, storedEnergy}
 use Rattle.zone.specs.declared.Kilojoules.{Kilojoules}
 use Rattle.zone.specs.declared.Salt.{Salt}
 use Rattle.card.specs.declared.Card.{Card}
@@ -24,16 +21,6 @@ saltOf c =
 -- the zones' salts: one for all
 unfoldable pub saltsOf : Card → Salts
 saltsOf c = One (saltOf c)
-
--- the same as figures
-unfoldable pub figuresOf : Card → List Float
-figuresOf c =
-    let s = saltOf c in
-    s .lower ∷ s .upper ∷ s .below ∷ s .during ∷ s .above ∷ []
-
--- figures lent with a step that are the card's salts, enough for its layers
-abbrev pub SaltsOf : Card → List Float → ℕ → Type 0
-SaltsOf c figures step = Salted figures step (c .layers) × (saltsIn figures step ≡ saltsOf c)
 
 -- the energy of the whole battery at one temperature: of one salt a layer's times the layers, of a salt for each zone the plain sum
 unfoldable pub energyAt : Salts → Card → Float → Kilojoules

@@ -1,3 +1,4 @@
 pub mod Card
 pub mod Derived
 pub mod Fits
+pub mod Lent

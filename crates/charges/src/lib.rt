@@ -17,8 +17,8 @@ ghost use mathlib.Core.Bool.{false};
 ghost use Prim.Native.Nat.{_≤_};
 ghost use lib.Ieee.{lt};
 ghost use Rattle.floats.specs.Constants.{zero};
-ghost use Rattle.zone.specs.Layer.{saltsIn, Salted};
-ghost use Rattle.card.specs.Derived.{SaltsOf};
+ghost use Rattle.zone.specs.Lent.{saltsIn, Salted};
+ghost use Rattle.card.specs.Lent.{SaltsLent};
 ghost use Rattle.battery.specs.Ledger.{whole};
 ghost use Rattle.substep.specs.Substep.{chargerHeat};
 ghost use Rattle.runs.specs.Runs.{endRefusal};
@@ -68,7 +68,7 @@ pub fn charge_battery_electric(
     target: f64,
     zones: &mut [f64; 64],
 ) -> Stopped
-    requires { ⌜ (l .card .layers ≤ 64) × SaltsOf (l .card) (now salts) step ⌝ }
+    requires { ⌜ (l .card .layers ≤ 64) × SaltsLent (l .card) (now salts) step ⌝ }
     ensures { λ r. ⌜ AsDefined (endRefusal (r .end)) r (now (zones .exit)) (chargeElectric (whole l (now (zones .entry))) power target) ⌝ }
 {
     let card = l.card;
@@ -113,7 +113,7 @@ pub fn charge_battery_hydronic(
     target: f64,
     zones: &mut [f64; 64],
 ) -> Stopped
-    requires { ⌜ (l .card .layers ≤ 64) × SaltsOf (l .card) (now salts) step ⌝ }
+    requires { ⌜ (l .card .layers ≤ 64) × SaltsLent (l .card) (now salts) step ⌝ }
     ensures { λ r. ⌜ AsDefined (endRefusal (r .end)) r (now (zones .exit)) (chargeHydronic (whole l (now (zones .entry))) wet target) ⌝ }
 {
     let task = hydronic_task(l, wet, target);
@@ -132,7 +132,7 @@ pub fn charge_battery(
     target: f64,
     zones: &mut [f64; 64],
 ) -> Stopped
-    requires { ⌜ (l .card .layers ≤ 64) × SaltsOf (l .card) (now salts) step ⌝ }
+    requires { ⌜ (l .card .layers ≤ 64) × SaltsLent (l .card) (now salts) step ⌝ }
     ensures { λ r. ⌜ AsDefined (endRefusal (r .end)) r (now (zones .exit)) (chargeBattery (whole l (now (zones .entry))) source target) ⌝ }
 {
     match source {
@@ -178,7 +178,7 @@ fn loss_ended(l: Ledger, u: Outcome) -> Stopped
 
 // No loss has heat of a charger.
 pub fn battery_heat_loss(l: Ledger, salts: &[f64], step: usize, zones: &mut [f64; 64]) -> Stopped
-    requires { ⌜ (l .card .layers ≤ 64) × SaltsOf (l .card) (now salts) step × (lt (chargerHeat (lossDrive (l .card)) .0) zero ≡ false) ⌝ }
+    requires { ⌜ (l .card .layers ≤ 64) × SaltsLent (l .card) (now salts) step × (lt (chargerHeat (lossDrive (l .card)) .0) zero ≡ false) ⌝ }
     ensures { λ r. ⌜ AsDefined (endRefusal (r .end)) r (now (zones .exit)) (batteryHeatLoss (whole l (now (zones .entry)))) ⌝ }
 {
     let card = l.card;
@@ -220,7 +220,7 @@ pub fn calculate_charge_energy_demand(
     target: f64,
     soc: f64,
 ) -> KilowattHours
-    requires { ⌜ (l .card .layers ≤ 64) × SaltsOf (l .card) (now salts) step ⌝ }
+    requires { ⌜ (l .card .layers ≤ 64) × SaltsLent (l .card) (now salts) step ⌝ }
     ensures { λ r. ⌜ r ≡ chargeEnergyDemand (l .card) most target soc ⌝ }
 {
     let card = l.card;

@@ -14,7 +14,7 @@ ghost use mathlib.Core.Path.{_≡_};
 ghost use mathlib.Core.Bool.{true};
 ghost use Prim.Native.Nat.{_≤_};
 ghost use lib.Ieee.{Float};
-ghost use Rattle.zone.specs.Layer.{zoneSalt, Salted};
+ghost use Rattle.zone.specs.Lent.{zoneSalt, Salted};
 ghost use Rattle.substep.specs.Substep.{levelAt, zoneStep, zonesAfter, passFrom, outcomeOf, substepFrom, processHeatBatteryZones};
 
 // A zone's part of charging alone: nothing, where the charger's heat is used up.

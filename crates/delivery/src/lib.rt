@@ -11,7 +11,7 @@ use water::Mode;
 use zone::KilowattHours;
 ghost use mathlib.Core.Path.{_≡_};
 ghost use Prim.Native.Nat.{_≤_};
-ghost use Rattle.zone.specs.Layer.{zoneSalt, Salted};
+ghost use Rattle.zone.specs.Lent.{zoneSalt, Salted};
 ghost use Rattle.runs.specs.Runs.{endRefusal, nextRefusal};
 ghost use Rattle.runs.specs.Zoned.{zoned, AsDefined};
 ghost use Rattle.delivery.specs.Demand.{demandDrive, capped as cappedOf, nextStep, demandMet, cut as cutOf, paceAfter, demandDelivered, demandSubstep, demandRun, demandEnded};

@@ -10,7 +10,7 @@ use zone::KilowattHours;
 ghost use mathlib.Core.Path.{_≡_};
 ghost use mathlib.Core.Bool.{true, false};
 ghost use Prim.Native.Nat.{_≤_};
-ghost use Rattle.card.specs.Derived.{SaltsOf};
+ghost use Rattle.card.specs.Lent.{SaltsLent};
 ghost use Rattle.battery.specs.Battery.{zonesFinite};
 ghost use Rattle.battery.specs.Answer.{settled};
 ghost use Rattle.battery.specs.Ledger.{whole};
@@ -55,7 +55,7 @@ fn demand_stopped(
     feed: f64,
     zones: &mut [f64; 64],
 ) -> Stopped
-    requires { ⌜ (l .card .layers ≤ 64) × SaltsOf (l .card) (now salts) step ⌝ }
+    requires { ⌜ (l .card .layers ≤ 64) × SaltsLent (l .card) (now salts) step ⌝ }
     ensures { λ r. ⌜ AsDefined (endRefusal (r .end)) r (now (zones .exit)) (demandRan (whole l (now (zones .entry))) d feed) ⌝ }
 {
     let card = l.card;
@@ -74,7 +74,7 @@ fn committed(
     feed: f64,
     zones: &mut [f64; 64],
 ) -> Reply
-    requires { ⌜ (l .card .layers ≤ 64) × SaltsOf (l .card) (now salts) step × (zonesFinite (now zones) (l .card .layers) ≡ true) × (d .commit ≡ true) ⌝ }
+    requires { ⌜ (l .card .layers ≤ 64) × SaltsLent (l .card) (now salts) step × (zonesFinite (now zones) (l .card .layers) ≡ true) × (d .commit ≡ true) ⌝ }
     ensures { λ r. ⌜ settled l (now (zones .entry)) r (now (zones .exit)) ≡ demandAnswered (whole l (now (zones .entry))) d feed ⌝ }
 {
     let s = demand_stopped(l, salts, step, d, feed, zones);
@@ -88,7 +88,7 @@ fn committed(
 
 // On a copy of the zones.
 fn trial(l: Ledger, salts: &[f64], step: usize, d: Demand, feed: f64, zones: &[f64; 64]) -> Reply
-    requires { ⌜ (l .card .layers ≤ 64) × SaltsOf (l .card) (now salts) step × (zonesFinite (now zones) (l .card .layers) ≡ true) × (d .commit ≡ false) ⌝ }
+    requires { ⌜ (l .card .layers ≤ 64) × SaltsLent (l .card) (now salts) step × (zonesFinite (now zones) (l .card .layers) ≡ true) × (d .commit ≡ false) ⌝ }
     ensures { λ r. ⌜ settled l (now (zones .entry)) r (now (zones .entry)) ≡ demandAnswered (whole l (now (zones .entry))) d feed ⌝ }
 {
     let mut own = *zones;
@@ -107,7 +107,7 @@ fn demand_from(
     feed: f64,
     zones: &mut [f64; 64],
 ) -> Reply
-    requires { ⌜ (l .card .layers ≤ 64) × SaltsOf (l .card) (now salts) step × (zonesFinite (now zones) (l .card .layers) ≡ true) ⌝ }
+    requires { ⌜ (l .card .layers ≤ 64) × SaltsLent (l .card) (now salts) step × (zonesFinite (now zones) (l .card .layers) ≡ true) ⌝ }
     ensures { λ r. ⌜ settled l (now (zones .entry)) r (now (zones .exit)) ≡ demandFrom (whole l (now (zones .entry))) d feed ⌝ }
 {
     let card = l.card;
@@ -129,7 +129,7 @@ fn demand_given(
     given: Given,
     zones: &mut [f64; 64],
 ) -> Reply
-    requires { ⌜ (l .card .layers ≤ 64) × SaltsOf (l .card) (now salts) step × (zonesFinite (now zones) (l .card .layers) ≡ true) ⌝ }
+    requires { ⌜ (l .card .layers ≤ 64) × SaltsLent (l .card) (now salts) step × (zonesFinite (now zones) (l .card .layers) ≡ true) ⌝ }
     ensures { λ r. ⌜ settled l (now (zones .entry)) r (now (zones .exit)) ≡ demandGiven (whole l (now (zones .entry))) d given ⌝ }
 {
     match given {
@@ -145,7 +145,7 @@ pub fn demand_energy(
     d: Demand,
     zones: &mut [f64; 64],
 ) -> Reply
-    requires { ⌜ (l .card .layers ≤ 64) × SaltsOf (l .card) (now salts) step × (zonesFinite (now zones) (l .card .layers) ≡ true) ⌝ }
+    requires { ⌜ (l .card .layers ≤ 64) × SaltsLent (l .card) (now salts) step × (zonesFinite (now zones) (l .card .layers) ≡ true) ⌝ }
     ensures { λ r. ⌜ settled l (now (zones .entry)) r (now (zones .exit)) ≡ demandEnergy (whole l (now (zones .entry))) d ⌝ }
 {
     if d.required <= floats::TOLERANCE {

@@ -17,7 +17,7 @@ ghost use mathlib.Core.Bool.{true, false};
 ghost use Prim.Native.Nat.{_≤_};
 ghost use lib.Ieee.{lt};
 ghost use Rattle.floats.specs.Constants.{zero};
-ghost use Rattle.card.specs.Derived.{SaltsOf};
+ghost use Rattle.card.specs.Lent.{SaltsLent};
 ghost use Rattle.battery.specs.Battery.{zonesFinite};
 ghost use Rattle.battery.specs.Answer.{settled};
 ghost use Rattle.battery.specs.Ledger.{whole};
@@ -34,7 +34,7 @@ fn charge(
     target: f64,
     zones: &mut [f64; 64],
 ) -> Reply
-    requires { ⌜ (l .card .layers ≤ 64) × SaltsOf (l .card) (now salts) step × (zonesFinite (now zones) (l .card .layers) ≡ true) ⌝ }
+    requires { ⌜ (l .card .layers ≤ 64) × SaltsLent (l .card) (now salts) step × (zonesFinite (now zones) (l .card .layers) ≡ true) ⌝ }
     ensures { λ r. ⌜ settled l (now (zones .entry)) r (now (zones .exit)) ≡ chargeOf (whole l (now (zones .entry))) source target ⌝ }
 {
     let s = charges::charge_battery(l, salts, step, source, target, zones);
@@ -45,7 +45,7 @@ fn charge(
 }
 
 fn heat_loss(l: Ledger, salts: &[f64], step: usize, zones: &mut [f64; 64]) -> Reply
-    requires { ⌜ (l .card .layers ≤ 64) × SaltsOf (l .card) (now salts) step × (lt (chargerHeat (lossDrive (l .card)) .0) zero ≡ false) ⌝ }
+    requires { ⌜ (l .card .layers ≤ 64) × SaltsLent (l .card) (now salts) step × (lt (chargerHeat (lossDrive (l .card)) .0) zero ≡ false) ⌝ }
     ensures { λ r. ⌜ settled l (now (zones .entry)) r (now (zones .exit)) ≡ heatLoss (whole l (now (zones .entry))) ⌝ }
 {
     let s = charges::battery_heat_loss(l, salts, step, zones);
@@ -56,7 +56,7 @@ fn heat_loss(l: Ledger, salts: &[f64], step: usize, zones: &mut [f64; 64]) -> Re
 }
 
 fn level(l: Ledger, salts: &[f64], step: usize, zones: &[f64; 64]) -> StateOfCharge
-    requires { ⌜ (l .card .layers ≤ 64) × SaltsOf (l .card) (now salts) step ⌝ }
+    requires { ⌜ (l .card .layers ≤ 64) × SaltsLent (l .card) (now salts) step ⌝ }
     ensures { λ r. ⌜ r ≡ levelOf (whole l (now (zones .entry))) ⌝ }
 {
     let card = l.card;
@@ -89,7 +89,7 @@ fn demand_to_level(
     level: StateOfCharge,
     zones: &[f64; 64],
 ) -> Reply
-    requires { ⌜ (l .card .layers ≤ 64) × SaltsOf (l .card) (now salts) step ⌝ }
+    requires { ⌜ (l .card .layers ≤ 64) × SaltsLent (l .card) (now salts) step ⌝ }
     ensures { λ r. ⌜ settled l (now (zones .entry)) r (now (zones .entry)) ≡ demandToLevel (whole l (now (zones .entry))) most target level ⌝ }
 {
     match level {
@@ -147,7 +147,7 @@ fn close_timestep(l: Ledger, zones: &[f64; 64]) -> Reply
 }
 
 fn state_of_charge(l: Ledger, salts: &[f64], step: usize, zones: &[f64; 64]) -> Reply
-    requires { ⌜ (l .card .layers ≤ 64) × SaltsOf (l .card) (now salts) step ⌝ }
+    requires { ⌜ (l .card .layers ≤ 64) × SaltsLent (l .card) (now salts) step ⌝ }
     ensures { λ r. ⌜ settled l (now (zones .entry)) r (now (zones .entry)) ≡ readLevel (whole l (now (zones .entry))) (levelOf (whole l (now (zones .entry)))) ⌝ }
 {
     let soc = level(l, salts, step, zones);
@@ -162,7 +162,7 @@ fn charge_energy_demand(
     target: f64,
     zones: &[f64; 64],
 ) -> Reply
-    requires { ⌜ (l .card .layers ≤ 64) × SaltsOf (l .card) (now salts) step ⌝ }
+    requires { ⌜ (l .card .layers ≤ 64) × SaltsLent (l .card) (now salts) step ⌝ }
     ensures { λ r. ⌜ settled l (now (zones .entry)) r (now (zones .entry)) ≡ demandToLevel (whole l (now (zones .entry))) most target (levelOf (whole l (now (zones .entry)))) ⌝ }
 {
     let soc = level(l, salts, step, zones);
@@ -171,7 +171,7 @@ fn charge_energy_demand(
 
 // The electric and the wet charge are one call of `charge`, so that one copy of it is compiled, in place.
 fn asked_step(l: Ledger, salts: &[f64], step: usize, what: Asked, zones: &mut [f64; 64]) -> Reply
-    requires { ⌜ (l .card .layers ≤ 64) × SaltsOf (l .card) (now salts) step × (zonesFinite (now zones) (l .card .layers) ≡ true) × (lt (chargerHeat (lossDrive (l .card)) .0) zero ≡ false) ⌝ }
+    requires { ⌜ (l .card .layers ≤ 64) × SaltsLent (l .card) (now salts) step × (zonesFinite (now zones) (l .card .layers) ≡ true) × (lt (chargerHeat (lossDrive (l .card)) .0) zero ≡ false) ⌝ }
     ensures { λ r. ⌜ settled l (now (zones .entry)) r (now (zones .exit)) ≡ askedStep (whole l (now (zones .entry))) what ⌝ }
 {
     match what {
@@ -195,7 +195,7 @@ pub fn advance_in_place(
     call: Call,
     zones: &mut [f64; 64],
 ) -> Reply
-    requires { ⌜ SaltsOf (l .card) (now salts) step ⌝ }
+    requires { ⌜ SaltsLent (l .card) (now salts) step ⌝ }
     ensures { λ r. ⌜ settled l (now (zones .entry)) r (now (zones .exit)) ≡ advanceOf version (whole l (now (zones .entry))) call ⌝ }
 {
     let card = l.card;

@@ -16,7 +16,7 @@ ghost use mathlib.Core.Path.{_≡_};
 ghost use mathlib.Core.Bool.{not};
 ghost use mathlib.Core.List.{List};
 ghost use lib.Ieee.{Float};
-ghost use Rattle.zone.specs.Layer.{zoneSalt, Salted};
+ghost use Rattle.zone.specs.Lent.{zoneSalt, Salted};
 ghost use Rattle.runs.specs.Runs.{endRefusal, nextRefusal};
 ghost use Rattle.runs.specs.Zoned.{zoned, AsDefined};
 ghost use Prim.Native.Nat.{_+_, _≤_, _<_};

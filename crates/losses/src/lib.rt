@@ -17,7 +17,7 @@ ghost use lib.IntN.{pos};
 ghost use lib.Ieee.{Float, binary64, ofInt, lt};
 ghost use Rattle.floats.specs.Constants.{zero};
 ghost use Rattle.floats.specs.F64.{_⊘_};
-ghost use Rattle.zone.specs.Layer.{zoneSalt, Salted};
+ghost use Rattle.zone.specs.Lent.{zoneSalt, Salted};
 ghost use Rattle.substep.specs.Substep.{zoneStep, zonesAfter, passFrom, chargerHeat, outcomeOf, substepFrom, processHeatBatteryZones};
 
 // A zone's loss. `share` is a layer's part of the heat that is lost at the rated difference.

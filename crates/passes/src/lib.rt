@@ -14,7 +14,7 @@ ghost use mathlib.Core.Bool.{true};
 ghost use Prim.Native.Nat.{ℕ, _≤_, _<_};
 ghost use lib.Ieee.{lt};
 ghost use Rattle.floats.specs.Constants.{zero};
-ghost use Rattle.zone.specs.Layer.{zoneSalt, Salted};
+ghost use Rattle.zone.specs.Lent.{zoneSalt, Salted};
 ghost use Rattle.substep.specs.Substep.{levelAt, zonesAfter, targetOf, passFrom, chargerHeat, outcomeOf, substepFrom, processHeatBatteryZones};
 
 // All zones in the mode's order, where they lie. It sums the energies and tests the zones as it goes, also where charging alone goes

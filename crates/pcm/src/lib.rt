@@ -5,8 +5,9 @@ use zone::Kilojoules;
 use zone::Salt;
 ghost use mathlib.Core.Path.{_≡_};
 ghost use Prim.Native.Nat.{_≤_};
-ghost use Rattle.zone.specs.Layer.{saltsIn, Salted};
-ghost use Rattle.card.specs.Derived.{saltOf, figuresOf, energyAt, derived as derivedOf};
+ghost use Rattle.zone.specs.Lent.{saltsIn, Salted};
+ghost use Rattle.card.specs.Derived.{saltOf, energyAt, derived as derivedOf};
+ghost use Rattle.card.specs.Lent.{figuresOf};
 
 // The salt of a layer: its capacities are the card's divided by the layers.
 pub fn salt_of(card: Card) -> Salt

@@ -17,7 +17,7 @@ ghost use lib.ListN.{length};
 ghost use lib.Ieee.{Float, lt};
 ghost use Rattle.floats.specs.Constants.{zero};
 ghost use Rattle.floats.specs.Standins.{finite64};
-ghost use Rattle.zone.specs.Layer.{zoneSalt};
+ghost use Rattle.zone.specs.Lent.{zoneSalt};
 ghost use Rattle.substep.specs.Substep.{zoneIndex, zoneCharge, levelAt, zoneStep, perLayer, zoneTransfer, targetOf, courseOf, chargerHeat, withoutLogarithm, outcomeOf};
 
 // What a substep is asked, in the Rust's words.

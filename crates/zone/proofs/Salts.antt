@@ -6,7 +6,8 @@ use native.Mathlib.Omega.{arith}
 use borrow.Author.Tests.{ne-eqb}
 use lib.ListN.{length}
 use lib.Ieee.{Float}
-use Rattle.zone.specs.Layer.{zoneSalt, Salts, One, Each, saltAt, saltsIn, Salted}
+use Rattle.zone.specs.Layer.{Salts, One, Each, saltAt}
+use Rattle.zone.specs.Lent.{zoneSalt, saltsIn, Salted}
 
 -- with the step 0 every zone has the first salt
 pub one-salt : (figures : List Float) (step j : ℕ) → step ≡ 0 → zoneSalt figures step j ≡ zoneSalt figures step 0

@@ -1,9 +1,8 @@
 -- Document 01, module 1: what a layer holds above ref, the temperature of a level, the state of charge, and what a zone needs to its target.
 use mathlib.Core.Bool.{cond}
 use mathlib.Core.List.{List}
-use Prim.Native.Nat.{ℕ, zero, suc, _+_, _*_, _≤_, _<_}
-use lib.ListN.{length, getD}
-use lib.Dec.{eqb}
+use Prim.Native.Nat.{ℕ, zero, suc}
+use lib.ListN.{getD}
 use lib.Ieee.{Float, nan, lt, le}
 use Rattle.floats.specs.F64.{_⊕_, _⊖_, _⊗_, _⊘_}
 use Rattle.floats.specs.Constants as Constants
@@ -50,17 +49,6 @@ socToTemp s ref max soc =
     max
     (tempAt s ref (kj (soc ⊗ layerEnergyStored max ref s .0)) (layerEnergyStored (s .lower) ref s) (layerEnergyStored (s .upper) ref s)))
 
--- the salt of zone j among the figures: five numbers from j × step on. One salt serves all zones where the step is 0, each has its own where it is 5
-unfoldable pub zoneSalt : List Float → ℕ → ℕ → Salt
-zoneSalt figures step j =
-    record {
-      lower = getD figures (j * step) nan;
-      upper = getD figures (j * step + 1) nan;
-      below = getD figures (j * step + 2) nan;
-      during = getD figures (j * step + 3) nan;
-      above = getD figures (j * step + 4) nan;
-    }
-
 -- a battery's salts: one for all its zones, or one for each
 pub data Salts : Type 0 where
   One : Salt → Salts
@@ -70,14 +58,6 @@ pub data Salts : Type 0 where
 abbrev pub saltAt : Salts → ℕ → Salt
 saltAt (One s) j = s
 saltAt (Each s) j = s j
-
--- the salts among the figures
-unfoldable pub saltsIn : List Float → ℕ → Salts
-saltsIn figures step = cond (eqb step 0) (One (zoneSalt figures step 0)) (Each (zoneSalt figures step))
-
--- the figures have a first salt, and one for each of n zones
-abbrev pub Salted : List Float → ℕ → ℕ → Type 0
-Salted figures step n = (5 ≤ length figures) × ((j : ℕ) → j < n → j * step + 5 ≤ length figures)
 
 -- the stored energy of the first k zones: the plain sum in zone order
 unfoldable pub storedEnergy : (ℕ → Salt) → Float → List Float → ℕ → Kilojoules

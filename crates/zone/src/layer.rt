@@ -5,7 +5,8 @@ use crate::StateOfCharge;
 ghost use mathlib.Core.Path.{_≡_};
 ghost use Prim.Native.Nat.{_+_, _*_, _≤_};
 ghost use lib.ListN.{length};
-ghost use Rattle.zone.specs.Layer.{layerEnergyStored, tempAt, socToTemp, zoneSalt, Salted, storedEnergy, levelOf, stateOfCharge, zoneEnergyRequired};
+ghost use Rattle.zone.specs.Layer.{layerEnergyStored, tempAt, socToTemp, storedEnergy, levelOf, stateOfCharge, zoneEnergyRequired};
+ghost use Rattle.zone.specs.Lent.{zoneSalt, Salted};
 
 // The energy of a layer at `layer` °C above `reference`.
 pub fn calculate_layer_energy_stored(layer: f64, reference: f64, salt: Salt) -> Kilojoules

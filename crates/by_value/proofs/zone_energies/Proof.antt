@@ -1,4 +1,4 @@
-use Rattle.zone.specs.Layer.{zoneSalt}
+use Rattle.zone.specs.Lent.{zoneSalt}
 use Rattle.substep.specs.Substep.{zonesAfter}
 use Rattle.substep.specs.Pass.{Pass}
 use Rattle.substep.proofs.Passes.{zones-more, energies-end, not-alike}

@@ -1,5 +1,5 @@
 use lib.Ieee.{ofBits, add}
-use Rattle.zone.specs.Layer.{zoneSalt}
+use Rattle.zone.specs.Lent.{zoneSalt}
 use Rattle.zone.proofs.Salts.{one-salt}
 use Rattle.substep.proofs.OneLoop.{Underway, startOf, underway-start, underway-end}
 use Rattle.floats.proofs.Sum2Laws.{noSum}

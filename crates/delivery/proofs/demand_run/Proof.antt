@@ -1,4 +1,4 @@
-use Rattle.zone.specs.Layer.{zoneSalt}
+use Rattle.zone.specs.Lent.{zoneSalt}
 use Rattle.delivery.proofs.Turns.{demand-no-step, demand-over-budget, run-on, run-stops}
 use Rattle.runs.proofs.InPlace.{as-defined}
 use native.Mathlib.Nat.{sub-zero}

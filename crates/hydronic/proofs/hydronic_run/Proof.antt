@@ -1,4 +1,4 @@
-use Rattle.zone.specs.Layer.{zoneSalt}
+use Rattle.zone.specs.Lent.{zoneSalt}
 use Rattle.runs.proofs.InPlace.{as-defined}
 use native.Mathlib.Nat.{sub-zero}
 use Rattle.runs.specs.Zoned.{zoned}

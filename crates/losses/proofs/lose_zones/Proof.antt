@@ -1,4 +1,4 @@
-use Rattle.zone.specs.Layer.{zoneSalt}
+use Rattle.zone.specs.Lent.{zoneSalt}
 use Rattle.substep.proofs.OneLoop.{Underway, startOf, underway-start, underway-end}
 use Rattle.losses.proofs.Steps.{upward, losing-more}
 use mathlib.Core.Path.{refl}

@@ -1,4 +1,4 @@
-use Rattle.zone.specs.Layer.{zoneSalt}
+use Rattle.zone.specs.Lent.{zoneSalt}
 use lib.Ieee.{lt}
 use Rattle.floats.specs.Constants.{zero}
 use Rattle.zone.specs.declared.Kilojoules.{Kilojoules}

@@ -1,4 +1,4 @@
-use Rattle.card.specs.Derived.{figuresOf}
+use Rattle.card.specs.Lent.{figuresOf}
 use borrow.Author.Needs.{needs}
 use Rattle.pcm.proofs.figures_of.Statement.{statement}
 use Rattle.pcm.proofs.figures_of.Tie as tie

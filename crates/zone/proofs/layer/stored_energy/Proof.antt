@@ -1,5 +1,6 @@
 use Rattle.zone.proofs.Sums.{stored-more, stored-end}
-use Rattle.zone.specs.Layer.{zoneSalt, storedEnergy}
+use Rattle.zone.specs.Layer.{storedEnergy}
+use Rattle.zone.specs.Lent.{zoneSalt}
 use mathlib.Core.Path.{_≡_, refl}
 use Prim.Native.Nat.{_≤_, _-_}
 use native.Mathlib.Omega.{arith}

@@ -1,5 +1,5 @@
 use mathlib.Core.Path.{refl}
-use Rattle.zone.specs.Layer.{zoneSalt}
+use Rattle.zone.specs.Lent.{zoneSalt}
 use borrow.Author.Needs.{needs}
 use Rattle.zone.proofs.layer.zone_salt.Statement.{statement}
 use Rattle.zone.proofs.layer.zone_salt.Tie as tie
