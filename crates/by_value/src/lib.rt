@@ -11,16 +11,23 @@ ghost use mathlib.Core.Path.{_≡_};
 ghost use Prim.Native.Nat.{_≤_};
 ghost use lib.ListN.{replicate};
 ghost use Rattle.floats.specs.Constants.{zero};
+ghost use Rattle.zone.specs.Lent.{zoneSalt, Salted};
 ghost use Rattle.substep.specs.Substep.{zonesAfter, passFrom, substepWith, processHeatBatteryZones};
 
 // Each zone's energy. The engine asks for the sum alone and an array slows it, so this is a second loop over `zone_step`.
-fn zone_energies(card: Card, course: Course, d: Drive, zones: [f64; 64]) -> [f64; 64]
-    requires { ⌜ card .layers ≤ 64 ⌝ }
-    ensures { λ r. ⌜ r ≡ zonesAfter course (card .layers) (card .layers) (passFrom d zones) .energies ⌝ }
+fn zone_energies(
+    card: Card,
+    course: Course,
+    salts: &[f64],
+    step: usize,
+    d: Drive,
+    zones: [f64; 64],
+) -> [f64; 64]
+    requires { ⌜ (card .layers ≤ 64) × Salted (now salts) step (card .layers) ⌝ }
+    ensures { λ r. ⌜ r ≡ zonesAfter course (zoneSalt (now (salts .entry)) step) (card .layers) (card .layers) (passFrom d zones) .energies ⌝ }
 {
     let n = card.layers as usize;
     let mode = course.mode;
-    let own = course.salt;
     let mut after = zones;
     let mut energies = [0.0; 64];
     let mut outlet = d.inlet;
@@ -28,8 +35,8 @@ fn zone_energies(card: Card, course: Course, d: Drive, zones: [f64; 64]) -> [f64
     let mut charged = KilowattHours(0.0);
     for k in 0..n {
         let j = substep::zone_index(mode, n, k);
-        let salt = zone::layer::zone_salt(own, j);
-        let z = substep::zone_step(course, salt, after[j], outlet, left, charged);
+        let salt = zone::layer::zone_salt(salts, step, j);
+        let z = substep::zone_step(course, salt, false, 0.0, after[j], outlet, left, charged);
         after[j] = z.temperature;
         energies[j] = energies[j] + z.energy.0;
         outlet = z.outlet;
@@ -67,11 +74,13 @@ fn bare(o: Outcome, zones: [f64; 64]) -> Substep
 pub fn process_heat_battery_zones(
     card: Card,
     pcm: HeatBatteryPcm,
+    salts: &[f64],
+    step: usize,
     d: Drive,
     zones: [f64; 64],
 ) -> Substep
-    requires { ⌜ card .layers ≤ 64 ⌝ }
-    ensures { λ r. ⌜ r ≡ processHeatBatteryZones card pcm d zones ⌝ }
+    requires { ⌜ (card .layers ≤ 64) × Salted (now salts) step (card .layers) ⌝ }
+    ensures { λ r. ⌜ r ≡ processHeatBatteryZones card pcm (zoneSalt (now (salts .entry)) step) d zones ⌝ }
 {
     let mode = d.mode;
     let share = substep::zone_transfer(mode, card, d);
@@ -79,10 +88,9 @@ pub fn process_heat_battery_zones(
         let o = substep::without_logarithm();
         return bare(o, zones);
     };
-    let target = substep::target_of(card, pcm, d.target);
-    let course = substep::course_of(mode, card, pcm, d, target, u);
+    let course = substep::course_of(mode, card, pcm, d, u);
     let mut after = zones;
-    let o = passes::pass_in_place(card, course, d, &mut after);
-    let energies = zone_energies(card, course, d, zones);
+    let o = passes::pass_in_place(card, course, salts, step, d, false, 0.0, &mut after);
+    let energies = zone_energies(card, course, salts, step, d, zones);
     with_arrays(o, after, energies)
 }

@@ -4,3 +4,4 @@ pub mod Within
 pub mod OneTest
 pub mod Versions
 pub mod Refusals
+pub mod Figures

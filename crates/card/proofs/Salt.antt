@@ -1,7 +1,7 @@
 -- The salt of an accepted card is good: the capacities of a layer, 0.001..1e6 divided by 1..64, stay finite and above 0.
 use mathlib.Core.Path.{_≡_}
 use mathlib.Core.Bool.{true}
-use Prim.Native.Nat.{ℕ, _≤_}
+use Prim.Native.Nat.{ℕ, _≤_, _<_}
 use native.Mathlib.Omega.{arith}
 use lib.Dec.{T}
 use lib.IntN.{pos}
@@ -17,9 +17,10 @@ use Rattle.floats.proofs.Order.{le-trans, lt-of-lt-of-le}
 use Rattle.floats.proofs.Quotient.{div-number}
 use Rattle.floats.proofs.QuotientOrder.{div-mono-l, div-anti-r}
 use Rattle.zone.specs.Good.{GoodSalt}
+use Rattle.zone.specs.Layer.{saltAt}
 use Rattle.ranges.specs.Ranges.{thousandth, million, isCapacity}
 use Rattle.card.specs.Card.{capacitiesInRange, cardRefusal}
-use Rattle.card.specs.Derived.{saltOf}
+use Rattle.card.specs.Derived.{saltOf, saltsOf}
 use Rattle.card.specs.Fits.{CardFits}
 use Rattle.card.specs.declared.Card.{Card}
 use Rattle.logic.proofs.Tests.{and-true, holds}
@@ -91,7 +92,7 @@ capacities c h =
 pub start-finite : (version : ℕ) (c : Card) → cardRefusal version c ≡ 0 → T (fits binary64 (c .start)) → T (finite64 (c .start))
 start-finite version c h f = temperature-finite (c .start) (each-temperature c (accepted version c h .temperatures) .6) f
 
-pub salt-good : (version : ℕ) (c : Card) → cardRefusal version c ≡ 0 → CardFits c → GoodSalt (saltOf c)
+salt-good : (version : ℕ) (c : Card) → cardRefusal version c ≡ 0 → CardFits c → GoodSalt (saltOf c)
 unfolding saltOf
 salt-good version c h f =
     let a = accepted version c h in
@@ -109,3 +110,7 @@ salt-good version c h f =
       during-positive = share-positive (c .during) (k .1) (c .layers) (n .0) (n .1);
       above-positive = share-positive (c .above) (k .2) (c .layers) (n .0) (n .1);
     }
+
+pub salts-good : (version : ℕ) (c : Card) → cardRefusal version c ≡ 0 → CardFits c → (j : ℕ) → j < c .layers → GoodSalt (saltAt (saltsOf c) j)
+unfolding saltsOf
+salts-good version c h f j l = salt-good version c h f

@@ -2,3 +2,4 @@ pub mod Version
 pub mod Card
 pub mod Derived
 pub mod Fits
+pub mod Lent

@@ -1,8 +1,6 @@
 // The card: document 01's fields and their ranges, and whether 1 to 4 accept it.
 pub mod version;
 
-use zone::Kilojoules;
-use zone::Salt;
 ghost use mathlib.Core.Path.{_≡_};
 ghost use lib.Dec.{eqb};
 ghost use Rattle.card.specs.Card.{countsInRange, timesInRange, temperaturesInRange, capacitiesInRange, exchangerInRange, powersInRange, cardInRange, cardRefusal};
@@ -54,11 +52,8 @@ pub enum CardVerdict {
     NothingToStore,
 }
 
-// What HeatBatteryPcm::new derives from a card.
+// What HeatBatteryPcm::new derives from a card, besides its salt and the stored maximum.
 pub struct HeatBatteryPcm {
-    pub salt: Salt,
-    // the stored maximum
-    pub stored: Kilojoules,
     // temperature difference of the rated losses
     pub rated: f64,
     // metres

@@ -17,6 +17,8 @@ ghost use mathlib.Core.Bool.{false};
 ghost use Prim.Native.Nat.{_≤_};
 ghost use lib.Ieee.{lt};
 ghost use Rattle.floats.specs.Constants.{zero};
+ghost use Rattle.zone.specs.Lent.{saltsIn, Salted};
+ghost use Rattle.card.specs.Lent.{SaltsLent};
 ghost use Rattle.battery.specs.Ledger.{whole};
 ghost use Rattle.substep.specs.Substep.{chargerHeat};
 ghost use Rattle.runs.specs.Runs.{endRefusal};
@@ -58,14 +60,21 @@ fn electric_ended(l: Ledger, u: Outcome) -> Stopped
     }
 }
 
-pub fn charge_battery_electric(l: Ledger, power: f64, target: f64, zones: &mut [f64; 64]) -> Stopped
-    requires { ⌜ l .card .layers ≤ 64 ⌝ }
+pub fn charge_battery_electric(
+    l: Ledger,
+    salts: &[f64],
+    step: usize,
+    power: f64,
+    target: f64,
+    zones: &mut [f64; 64],
+) -> Stopped
+    requires { ⌜ (l .card .layers ≤ 64) × SaltsLent (l .card) (now salts) step ⌝ }
     ensures { λ r. ⌜ AsDefined (endRefusal (r .end)) r (now (zones .exit)) (chargeElectric (whole l (now (zones .entry))) power target) ⌝ }
 {
     let card = l.card;
     let pcm = pcm::derived(card);
     let drive = electric_drive(l, power, target);
-    let u = charging_alone::charge_in_place(card, pcm, drive, zones);
+    let u = charging_alone::charge_in_place(card, pcm, salts, step, drive, zones);
     electric_ended(l, u)
 }
 
@@ -98,28 +107,37 @@ fn hydronic_start(l: Ledger, wet: Exchanger) -> WetPace
 
 pub fn charge_battery_hydronic(
     l: Ledger,
+    salts: &[f64],
+    step: usize,
     wet: Exchanger,
     target: f64,
     zones: &mut [f64; 64],
 ) -> Stopped
-    requires { ⌜ l .card .layers ≤ 64 ⌝ }
+    requires { ⌜ (l .card .layers ≤ 64) × SaltsLent (l .card) (now salts) step ⌝ }
     ensures { λ r. ⌜ AsDefined (endRefusal (r .end)) r (now (zones .exit)) (chargeHydronic (whole l (now (zones .entry))) wet target) ⌝ }
 {
     let task = hydronic_task(l, wet, target);
     let steps = hydronic::whole_substeps(task);
     let start = hydronic_start(l, wet);
-    let e = hydronic::hydronic_run(task, steps, start, zones);
+    let e = hydronic::hydronic_run(task, salts, step, steps, start, zones);
     hydronic::hydronic_ended(KilowattHours(l.totals.electric), e)
 }
 
 // The charge step: by the source.
-pub fn charge_battery(l: Ledger, source: Source, target: f64, zones: &mut [f64; 64]) -> Stopped
-    requires { ⌜ l .card .layers ≤ 64 ⌝ }
+pub fn charge_battery(
+    l: Ledger,
+    salts: &[f64],
+    step: usize,
+    source: Source,
+    target: f64,
+    zones: &mut [f64; 64],
+) -> Stopped
+    requires { ⌜ (l .card .layers ≤ 64) × SaltsLent (l .card) (now salts) step ⌝ }
     ensures { λ r. ⌜ AsDefined (endRefusal (r .end)) r (now (zones .exit)) (chargeBattery (whole l (now (zones .entry))) source target) ⌝ }
 {
     match source {
-        Source::Electric(power) => charge_battery_electric(l, power, target, zones),
-        Source::Wet(wet) => charge_battery_hydronic(l, wet, target, zones),
+        Source::Electric(power) => { charge_battery_electric(l, salts, step, power, target, zones) }
+        Source::Wet(wet) => charge_battery_hydronic(l, salts, step, wet, target, zones),
     }
 }
 
@@ -159,25 +177,33 @@ fn loss_ended(l: Ledger, u: Outcome) -> Stopped
 }
 
 // No loss has heat of a charger.
-pub fn battery_heat_loss(l: Ledger, zones: &mut [f64; 64]) -> Stopped
-    requires { ⌜ (l .card .layers ≤ 64) × (lt (chargerHeat (lossDrive (l .card)) .0) zero ≡ false) ⌝ }
+pub fn battery_heat_loss(l: Ledger, salts: &[f64], step: usize, zones: &mut [f64; 64]) -> Stopped
+    requires { ⌜ (l .card .layers ≤ 64) × SaltsLent (l .card) (now salts) step × (lt (chargerHeat (lossDrive (l .card)) .0) zero ≡ false) ⌝ }
     ensures { λ r. ⌜ AsDefined (endRefusal (r .end)) r (now (zones .exit)) (batteryHeatLoss (whole l (now (zones .entry)))) ⌝ }
 {
     let card = l.card;
     let pcm = pcm::derived(card);
     let drive = loss_drive(l);
-    let u = losses::lose_in_place(card, pcm, drive, zones);
+    let u = losses::lose_in_place(card, pcm, salts, step, drive, zones);
     loss_ended(l, u)
 }
 
 // The energy to the target, or to the flow maximum where that is less.
-fn energy_deficit(card: Card, most: Given, current: Kilojoules, wanted: Kilojoules) -> Kilojoules
-    ensures { λ r. ⌜ r ≡ energyDeficit card most current wanted ⌝ }
+fn energy_deficit(
+    card: Card,
+    salts: &[f64],
+    step: usize,
+    most: Given,
+    current: Kilojoules,
+    wanted: Kilojoules,
+) -> Kilojoules
+    requires { ⌜ (card .layers ≤ 64) × Salted (now salts) step (card .layers) ⌝ }
+    ensures { λ r. ⌜ r ≡ energyDeficit (saltsIn (now (salts .entry)) step) card most current wanted ⌝ }
 {
     match most {
         Given::Absent => Kilojoules(wanted.0 - current.0),
         Given::Value(t) => {
-            let hottest = pcm::energy_at(card, t);
+            let hottest = pcm::energy_at(card, salts, step, t);
             let flow = floats::max_zero(hottest.0 - current.0);
             let least = floats::min(wanted.0 - current.0, flow);
             Kilojoules(least)
@@ -188,23 +214,25 @@ fn energy_deficit(card: Card, most: Given, current: Kilojoules, wanted: Kilojoul
 // `soc` is the battery's state of charge.
 pub fn calculate_charge_energy_demand(
     l: Ledger,
+    salts: &[f64],
+    step: usize,
     most: Given,
     target: f64,
     soc: f64,
 ) -> KilowattHours
+    requires { ⌜ (l .card .layers ≤ 64) × SaltsLent (l .card) (now salts) step ⌝ }
     ensures { λ r. ⌜ r ≡ chargeEnergyDemand (l .card) most target soc ⌝ }
 {
     let card = l.card;
-    let pcm = pcm::derived(card);
-    let stored = pcm.stored;
     if soc > target {
         return KilowattHours(0.0);
     }
     if floats::nearly_equal(soc, target, floats::TOLERANCE, floats::MAX_RELATIVE) {
         return KilowattHours(0.0);
     }
+    let stored = pcm::energy_at(card, salts, step, card.max);
     let current = Kilojoules(stored.0 * soc);
     let wanted = Kilojoules(stored.0 * target);
-    let deficit = energy_deficit(card, most, current, wanted);
+    let deficit = energy_deficit(card, salts, step, most, current, wanted);
     deficit.kilowatt_hours()
 }

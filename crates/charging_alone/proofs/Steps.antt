@@ -11,7 +11,6 @@ use Rattle.floats.specs.Standins.{finite64, nearlyEqual}
 use Rattle.floats.specs.Sum2.{sum2Step}
 use Rattle.floats.proofs.Sum2Laws.{no-more, noSum, no-sum-more}
 use Rattle.zone.specs.Heat.{kj}
-use Rattle.zone.specs.Layer.{zoneSalt}
 use Rattle.update.specs.Update.{newZoneTemperature}
 use Rattle.charging.specs.Charging.{zoneSimultaneousCharging}
 use Rattle.water.specs.Water.{zoneProperties}
@@ -21,7 +20,7 @@ use Rattle.zone.specs.declared.Salt.{Salt}
 use Rattle.update.specs.declared.ZoneUpdate.{ZoneUpdate}
 use Rattle.charging.specs.declared.Charged.{Charged}
 use Rattle.water.specs.declared.Mode.the-variants.{OnlyCharging}
-use Rattle.substep.specs.Substep.{zoneIndex, zoneCharge, zoneStep}
+use Rattle.substep.specs.Substep.{zoneIndex, levelAt, zoneCharge, zoneStep}
 use Rattle.substep.specs.declared.Course.{Course}
 use Rattle.substep.specs.Pass.{Pass}
 use Rattle.substep.specs.declared.ZoneStep.{ZoneStep}
@@ -33,7 +32,7 @@ module _ (x : Course) (s : Salt) (t inlet : Float) (q : Kilojoules) (k : Kilowat
     pub charging-on :
         (c : Charged) (u : ZoneUpdate) →
         lt (q .0) zero ≡ true →
-        c ≡ zoneSimultaneousCharging s t (x .target) q (kj zero) k →
+        c ≡ zoneSimultaneousCharging s t (levelAt x s) q (kj zero) k →
         u ≡ newZoneTemperature s t (c .heat) →
         zoneStepOf (u .temperature) (kj zero) (c .left) (c .charged) ≡ zoneStep x s t inlet q k
     unfolding zoneStep zoneCharge zoneProperties
@@ -45,9 +44,9 @@ module _ (x : Course) (s : Salt) (t inlet : Float) (q : Kilojoules) (k : Kilowat
     charging-off h = rw (m, h)
 
 -- one zone more
-module _ (x : Course) (n : ℕ) (p : Pass) (none : p .energies ≡ replicate 64 zero) (few : n ≤ 64) (k : ℕ) (h : k < n)
-    (zones : List Float) (outlet : Float) (left : Kilojoules) (charged : KilowattHours) (spread next : Float) (j : ℕ) (s : Salt) (z : ZoneStep)
-    (d : j ≡ zoneIndex (x .mode) n k) (r : s ≡ zoneSalt (x .salt) j) (e : z ≡ zoneStep x s (getD zones j nan) outlet left charged)
+module _ (x : Course) (s : ℕ → Salt) (n : ℕ) (p : Pass) (none : p .energies ≡ replicate 64 zero) (few : n ≤ 64) (k : ℕ) (h : k < n)
+    (zones : List Float) (outlet : Float) (left : Kilojoules) (charged : KilowattHours) (spread next : Float) (j : ℕ) (own : Salt) (z : ZoneStep)
+    (d : j ≡ zoneIndex (x .mode) n k) (r : own ≡ s j) (e : z ≡ zoneStep x own (getD zones j nan) outlet left charged)
     (t : eq next zero ≡ (eq spread zero && finite64 (getD (set zones j (z .temperature)) j nan))) where
   nothing-more : (f : Float) → f ≡ zero → noSum ≡ sum2Step noSum (zero ⊕ f)
   nothing-more f g = rw (g, no-more, no-sum-more)
@@ -55,8 +54,8 @@ module _ (x : Course) (n : ℕ) (p : Pass) (none : p .energies ≡ replicate 64 
   -- no heat, no sum
   pub charging-more :
       x .mode ≡ OnlyCharging →
-      Underway x n k p zones outlet left charged noSum spread →
-      Underway x n (k + 1) p (set zones j (z .temperature)) (z .outlet) (z .left) (z .charged) noSum next
+      Underway x s n k p zones outlet left charged noSum spread →
+      Underway x s n (k + 1) p (set zones j (z .temperature)) (z .outlet) (z .left) (z .charged) noSum next
   charging-more m u =
-      underway-more x n p none few k h zones outlet left charged noSum noSum spread next j s z u d r e
+      underway-more x s n p none few k h zones outlet left charged noSum noSum spread next j own z u d r e
       (nothing-more (z .energy .0) (ap (λ (y : ZoneStep). y .energy .0) e ∙ no-energy x _ _ _ _ _ m)) t

@@ -11,23 +11,28 @@ use zone::Kilojoules;
 use zone::KilowattHours;
 use zone::Salt;
 ghost use mathlib.Core.Path.{_≡_};
+ghost use mathlib.Core.Bool.{true};
 ghost use Prim.Native.Nat.{_≤_};
 ghost use lib.Ieee.{Float};
-ghost use Rattle.substep.specs.Substep.{zoneStep, zonesAfter, passFrom, outcomeOf, substepFrom, processHeatBatteryZones};
+ghost use Rattle.zone.specs.Lent.{zoneSalt, Salted};
+ghost use Rattle.substep.specs.Substep.{levelAt, zoneStep, zonesAfter, passFrom, outcomeOf, substepFrom, processHeatBatteryZones};
 
 // A zone's part of charging alone: nothing, where the charger's heat is used up.
 fn charging_step(
     course: Course,
     salt: Salt,
+    alike: bool,
+    target: f64,
     zone: f64,
     left: Kilojoules,
     charged: KilowattHours,
 ) -> ZoneStep
-    requires { ⌜ course .mode ≡ Mode.OnlyCharging ⌝ }
+    requires { ⌜ (course .mode ≡ Mode.OnlyCharging) × (alike ≡ true → target ≡ levelAt course salt) ⌝ }
     ensures { λ r. ⌜ ((inlet : Float) → r ≡ zoneStep course salt zone inlet left charged) ⌝ }
 {
     if left.0 < 0.0 {
-        let c = charging::charge_zone_alone(salt, zone, course.target, left, charged);
+        let own = substep::zone_target(course, salt, alike, target);
+        let c = charging::charge_zone_alone(salt, zone, own, left, charged);
         let heat = c.heat;
         let update = update::calculate_new_zone_temperature(salt, zone, heat);
         let left = c.left;
@@ -50,13 +55,20 @@ fn charging_step(
 }
 
 // The zones from the last to the first. No heat goes to the water, so there is nothing to sum.
-fn charge_zones(card: Card, course: Course, d: Drive, zones: &mut [f64; 64]) -> Outcome
-    requires { ⌜ (card .layers ≤ 64) × (course .mode ≡ Mode.OnlyCharging) ⌝ }
-    ensures { λ r. ⌜ (now (zones .exit) ≡ zonesAfter course (card .layers) (card .layers) (passFrom d (now (zones .entry))) .zones) × (r ≡ outcomeOf (substepFrom card (zonesAfter course (card .layers) (card .layers) (passFrom d (now (zones .entry)))))) ⌝ }
+fn charge_zones(
+    card: Card,
+    course: Course,
+    salts: &[f64],
+    step: usize,
+    d: Drive,
+    target: f64,
+    zones: &mut [f64; 64],
+) -> Outcome
+    requires { ⌜ (card .layers ≤ 64) × (Salted (now salts) step (card .layers) × ((course .mode ≡ Mode.OnlyCharging) × (target ≡ levelAt course (zoneSalt (now salts) step 0)))) ⌝ }
+    ensures { λ r. ⌜ (now (zones .exit) ≡ zonesAfter course (zoneSalt (now (salts .entry)) step) (card .layers) (card .layers) (passFrom d (now (zones .entry))) .zones) × (r ≡ outcomeOf (substepFrom card (zonesAfter course (zoneSalt (now (salts .entry)) step) (card .layers) (card .layers) (passFrom d (now (zones .entry)))))) ⌝ }
 {
     let n = card.layers as usize;
     let mode = course.mode;
-    let own = course.salt;
     let mut outlet = d.inlet;
     let mut left = substep::charger_heat(d);
     let mut charged = KilowattHours(0.0);
@@ -64,8 +76,8 @@ fn charge_zones(card: Card, course: Course, d: Drive, zones: &mut [f64; 64]) -> 
     let mut spread = 0.0;
     for k in 0..n {
         let j = substep::zone_index(mode, n, k);
-        let salt = zone::layer::zone_salt(own, j);
-        let z = charging_step(course, salt, zones[j], left, charged);
+        let salt = zone::layer::zone_salt(salts, step, j);
+        let z = charging_step(course, salt, step == 0, target, zones[j], left, charged);
         zones[j] = z.temperature;
         spread = floats::finite_step(spread, zones[j]);
         outlet = z.outlet;
@@ -82,11 +94,18 @@ fn charge_zones(card: Card, course: Course, d: Drive, zones: &mut [f64; 64]) -> 
 }
 
 // A substep of charging alone, in place.
-pub fn charge_in_place(card: Card, pcm: HeatBatteryPcm, d: Drive, zones: &mut [f64; 64]) -> Outcome
-    requires { ⌜ (card .layers ≤ 64) × (d .mode ≡ Mode.OnlyCharging) ⌝ }
-    ensures { λ r. ⌜ (now (zones .exit) ≡ processHeatBatteryZones card pcm d (now (zones .entry)) .zones) × (r ≡ outcomeOf (processHeatBatteryZones card pcm d (now (zones .entry)))) ⌝ }
+pub fn charge_in_place(
+    card: Card,
+    pcm: HeatBatteryPcm,
+    salts: &[f64],
+    step: usize,
+    d: Drive,
+    zones: &mut [f64; 64],
+) -> Outcome
+    requires { ⌜ (card .layers ≤ 64) × (Salted (now salts) step (card .layers) × (d .mode ≡ Mode.OnlyCharging)) ⌝ }
+    ensures { λ r. ⌜ (now (zones .exit) ≡ processHeatBatteryZones card pcm (zoneSalt (now (salts .entry)) step) d (now (zones .entry)) .zones) × (r ≡ outcomeOf (processHeatBatteryZones card pcm (zoneSalt (now (salts .entry)) step) d (now (zones .entry)))) ⌝ }
 {
-    let target = substep::target_of(card, pcm, d.target);
-    let course = substep::course_of(Mode::OnlyCharging, card, pcm, d, target, 0.0);
-    charge_zones(card, course, d, zones)
+    let target = substep::target_of(card, salts, step, d.target);
+    let course = substep::course_of(Mode::OnlyCharging, card, pcm, d, 0.0);
+    charge_zones(card, course, salts, step, d, target, zones)
 }

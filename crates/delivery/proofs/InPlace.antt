@@ -1,7 +1,9 @@
 -- A demand's turn and run on zones that are lent are the definition's.
 use mathlib.Core.Path.{_≡_, sym, _∙_, ap}
 use mathlib.Core.List.{List}
+use Prim.Native.Nat.{ℕ}
 use lib.Ieee.{Float}
+use Rattle.zone.specs.declared.Salt.{Salt}
 use Rattle.substep.proofs.Together.{InPlace}
 use Rattle.substep.specs.Substep.{processHeatBatteryZones}
 use Rattle.substep.specs.declared.Drive.{Drive}
@@ -18,11 +20,11 @@ use Rattle.delivery.specs.declared.PaceEnd.{PaceEnd}
 use Rattle.delivery.specs.Demand.{demandEnded, demandDrive, demandBy, demandSubstep}
 
 pub demand-turn :
-    (x : DemandTask) (s : Pace) (before zones : List Float) (d : Drive) (o : Outcome) (t : PaceTurn) (f : Fault) →
-    d ≡ demandDrive x s → InPlace (processHeatBatteryZones (x .card) (x .pcm) d before) o zones →
-    o .fault ≡ f → AsDefined (nextRefusal (t .next)) t zones (demandBy x (zoned s before) (zoned o zones) f) → AsDefined (nextRefusal (t .next)) t zones (demandSubstep x (zoned s before))
+    (x : DemandTask) (salts : ℕ → Salt) (s : Pace) (before zones : List Float) (d : Drive) (o : Outcome) (t : PaceTurn) (f : Fault) →
+    d ≡ demandDrive x s → InPlace (processHeatBatteryZones (x .card) (x .pcm) salts d before) o zones →
+    o .fault ≡ f → AsDefined (nextRefusal (t .next)) t zones (demandBy x (zoned s before) (zoned o zones) f) → AsDefined (nextRefusal (t .next)) t zones (demandSubstep x salts (zoned s before))
 unfolding demandSubstep
-demand-turn x s before zones d o t f h g e l =
+demand-turn x salts s before zones d o t f h g e l =
     rw (← h) (holds-as-defined (λ (u : Zoned Outcome) (v : Fault). AsDefined (nextRefusal (t .next)) t zones (demandBy x (zoned s before) u v)) _ o zones f g e l)
 
 -- what the run hands out

@@ -8,6 +8,7 @@ use borrow.Author.Tests.{not-true, not-false}
 use lib.Ieee.{Float, lt}
 use Rattle.floats.specs.Constants as Constants
 use Rattle.logic.proofs.Branch.{via-true, via-false}
+use Rattle.zone.specs.declared.Salt.{Salt}
 use Rattle.delivery.specs.declared.DemandTask.{DemandTask}
 use Rattle.delivery.specs.declared.Pace.{Pace}
 use Rattle.delivery.specs.declared.PaceTurn.{PaceTurn}
@@ -19,16 +20,16 @@ use Rattle.runs.specs.Runs.{endRefusal, nextRefusal}
 use Rattle.runs.specs.Zoned.{Zoned, zoned, AsDefined}
 use Rattle.delivery.specs.Demand.{demandEnd, demandThen, demandRun, demandSubstep}
 
-no-step-at : (x : DemandTask) (k n : ℕ) (s : Zoned Pace) → lt Constants.zero (s .part .step) ≡ false → demandEnd s NoStep n ≡ demandRun x k n s
+no-step-at : (x : DemandTask) (salts : ℕ → Salt) (k n : ℕ) (s : Zoned Pace) → lt Constants.zero (s .part .step) ≡ false → demandEnd s NoStep n ≡ demandRun x salts k n s
 unfolding demandRun
-no-step-at x zero n s h = via-false _ _ h refl
-no-step-at x (suc k) n s h = via-false _ _ h refl
+no-step-at x salts zero n s h = via-false _ _ h refl
+no-step-at x salts (suc k) n s h = via-false _ _ h refl
 
-module _ (x : DemandTask) (b n : ℕ) (s : Zoned Pace) where
-  pub demand-no-step : not (lt Constants.zero (s .part .step)) ≡ true → demandEnd s NoStep n ≡ demandRun x (b - n) n s
-  demand-no-step h = no-step-at x (b - n) n s (not-true (lt Constants.zero (s .part .step)) h)
+module _ (x : DemandTask) (salts : ℕ → Salt) (b n : ℕ) (s : Zoned Pace) where
+  pub demand-no-step : not (lt Constants.zero (s .part .step)) ≡ true → demandEnd s NoStep n ≡ demandRun x salts (b - n) n s
+  demand-no-step h = no-step-at x salts (b - n) n s (not-true (lt Constants.zero (s .part .step)) h)
 
-  pub demand-over-budget : n ≡ b → not (lt Constants.zero (s .part .step)) ≡ false → demandEnd s OverBudget n ≡ demandRun x (b - n) n s
+  pub demand-over-budget : n ≡ b → not (lt Constants.zero (s .part .step)) ≡ false → demandEnd s OverBudget n ≡ demandRun x salts (b - n) n s
   unfolding demandRun
   demand-over-budget e h =
       let z : b - n ≡ 0 = omega arith in
@@ -36,18 +37,18 @@ module _ (x : DemandTask) (b n : ℕ) (s : Zoned Pace) where
 
   -- a turn behind s, and the zones that it leaves
   module _ (t : PaceTurn) (after : List Float) (p : n ≤ b) (q : n ≡ b → ⊥) (h : not (lt Constants.zero (s .part .step)) ≡ false)
-      (l : AsDefined (nextRefusal (t .next)) t after (demandSubstep x s)) where
-    demand-unfolds : demandRun x (b - n) n s ≡ demandThen (demandRun x (b - (n + 1)) (n + 1)) (n + 1) (zoned (t .pace) (demandSubstep x s .zones)) (t .next)
+      (l : AsDefined (nextRefusal (t .next)) t after (demandSubstep x salts s)) where
+    demand-unfolds : demandRun x salts (b - n) n s ≡ demandThen (demandRun x salts (b - (n + 1)) (n + 1)) (n + 1) (zoned (t .pace) (demandSubstep x salts s .zones)) (t .next)
     unfolding demandRun
     demand-unfolds =
         let z : b - n ≡ suc (b - (n + 1)) = omega arith in
         rw (z, not-false (lt Constants.zero (s .part .step)) h, l .0)
 
-    pub run-on : t .next ≡ On → demandRun x (b - (n + 1)) (n + 1) (zoned (t .pace) after) ≡ demandRun x (b - n) n s
+    pub run-on : t .next ≡ On → demandRun x salts (b - (n + 1)) (n + 1) (zoned (t .pace) after) ≡ demandRun x salts (b - n) n s
     run-on g = rw (l .1 (ap nextRefusal g)) (sym (demand-unfolds ∙ rw g))
 
     pub run-stops :
-        (k : End) (e : Zoned PaceEnd) → t .next ≡ Stop k → demandRun x (b - n) n s ≡ e → AsDefined (endRefusal k) (record { pace = t .pace; end = k; substeps = n + 1 }) after e
+        (k : End) (e : Zoned PaceEnd) → t .next ≡ Stop k → demandRun x salts (b - n) n s ≡ e → AsDefined (endRefusal k) (record { pace = t .pace; end = k; substeps = n + 1 }) after e
     run-stops k e g d =
-        let w : demandEnd (zoned (t .pace) (demandSubstep x s .zones)) k (n + 1) ≡ e = sym (demand-unfolds ∙ rw g) ∙ d in
+        let w : demandEnd (zoned (t .pace) (demandSubstep x salts s .zones)) k (n + 1) ≡ e = sym (demand-unfolds ∙ rw g) ∙ d in
         (ap (λ (v : Zoned PaceEnd). v .part) w, λ r. l .1 (ap nextRefusal g ∙ r) ∙ ap (λ (v : Zoned PaceEnd). v .zones) w)

@@ -8,6 +8,7 @@ use Rattle.floats.specs.Constants.{tolerance, demandRelative}
 use Rattle.floats.specs.Standins.{nearlyEqual}
 use Rattle.zone.specs.Heat.{kwh, kilowattHours}
 use Rattle.zone.specs.declared.KilowattHours.{KilowattHours}
+use Rattle.zone.specs.declared.Salt.{Salt}
 use Rattle.water.specs.declared.Mode.the-variants.{Normal}
 use Rattle.substep.specs.Substep.{processHeatBatteryZones}
 use Rattle.substep.specs.declared.Drive.{Drive}
@@ -23,7 +24,7 @@ use Rattle.delivery.specs.declared.PaceEnd.{PaceEnd}
 use Rattle.runs.specs.declared.Stopped.{Stopped}
 use Rattle.runs.specs.declared.End.{End}
 use Rattle.runs.specs.declared.End.the-variants.{Negative, Met, NoStep, OverBudget, NoLogarithm, NotFiniteRun}
-use Rattle.runs.specs.Runs.{outcome, endRefusal, nextRefusal, reynoldBetween}
+use Rattle.runs.specs.Runs.{outcome, reynoldBetween}
 use Rattle.runs.specs.Zoned.{Zoned, zoned, onPart}
 
 -- a substep of the step's length; a demand charges to level 0
@@ -83,9 +84,9 @@ demandBy x s u Logarithm = zoned (paceTurn (s .part) (Stop NoLogarithm)) (s .zon
 demandBy x s u NotFinite = zoned (paceTurn (s .part) (Stop NotFiniteRun)) (s .zones)
 
 -- one substep
-unfoldable pub demandSubstep : DemandTask → Zoned Pace → Zoned PaceTurn
-demandSubstep x s =
-    let u = outcome (processHeatBatteryZones (x .card) (x .pcm) (demandDrive x (s .part)) (s .zones)) in
+unfoldable pub demandSubstep : DemandTask → (ℕ → Salt) → Zoned Pace → Zoned PaceTurn
+demandSubstep x salts s =
+    let u = outcome (processHeatBatteryZones (x .card) (x .pcm) salts (demandDrive x (s .part)) (s .zones)) in
     demandBy x s u (u .part .fault)
 
 abbrev pub turnPace : PaceTurn → Pace
@@ -104,11 +105,11 @@ demandThen go n s (Stop e) = demandEnd s e n
 
 -- 'The substep loop ends at the first of: negative delivery, demand met, no positive step, a refusal; and the end hands out its count':
 -- the run from s with n substeps done and k left of the budget
-unfoldable pub demandRun : DemandTask → ℕ → ℕ → Zoned Pace → Zoned PaceEnd
-demandRun x zero n s = cond (lt Constants.zero (s .part .step)) (demandEnd s OverBudget n) (demandEnd s NoStep n)
-demandRun x (suc k) n s =
+unfoldable pub demandRun : DemandTask → (ℕ → Salt) → ℕ → ℕ → Zoned Pace → Zoned PaceEnd
+demandRun x salts zero n s = cond (lt Constants.zero (s .part .step)) (demandEnd s OverBudget n) (demandEnd s NoStep n)
+demandRun x salts (suc k) n s =
     cond (lt Constants.zero (s .part .step))
-    (demandThen (demandRun x k (n + 1)) (n + 1) (onPart turnPace (demandSubstep x s)) (demandSubstep x s .part .next))
+    (demandThen (demandRun x salts k (n + 1)) (n + 1) (onPart turnPace (demandSubstep x salts s)) (demandSubstep x salts s .part .next))
     (demandEnd s NoStep n)
 
 -- what the run hands out

@@ -11,8 +11,7 @@ use water::Mode;
 use zone::KilowattHours;
 ghost use mathlib.Core.Path.{_≡_};
 ghost use Prim.Native.Nat.{_≤_};
-ghost use Rattle.floats.specs.Constants.{zero};
-ghost use Rattle.substep.specs.Substep.{targetOf};
+ghost use Rattle.zone.specs.Lent.{zoneSalt, Salted};
 ghost use Rattle.runs.specs.Runs.{endRefusal, nextRefusal};
 ghost use Rattle.runs.specs.Zoned.{zoned, AsDefined};
 ghost use Rattle.delivery.specs.Demand.{demandDrive, capped as cappedOf, nextStep, demandMet, cut as cutOf, paceAfter, demandDelivered, demandSubstep, demandRun, demandEnded};
@@ -159,15 +158,21 @@ fn demand_delivered(x: DemandTask, s: Pace, u: Outcome) -> PaceTurn
     }
 }
 
-// `target` is the temperature of level 0.
-fn demand_substep(x: DemandTask, s: Pace, target: f64, zones: &mut [f64; 64]) -> PaceTurn
-    requires { ⌜ (x .card .layers ≤ 64) × (target ≡ targetOf (x .card) (x .pcm) zero) ⌝ }
-    ensures { λ r. ⌜ AsDefined (nextRefusal (r .next)) r (now (zones .exit)) (demandSubstep x (zoned s (now (zones .entry)))) ⌝ }
+// A demand charges to level 0, which is the reference by any salt.
+fn demand_substep(
+    x: DemandTask,
+    salts: &[f64],
+    step: usize,
+    s: Pace,
+    zones: &mut [f64; 64],
+) -> PaceTurn
+    requires { ⌜ (x .card .layers ≤ 64) × Salted (now salts) step (x .card .layers) ⌝ }
+    ensures { λ r. ⌜ AsDefined (nextRefusal (r .next)) r (now (zones .exit)) (demandSubstep x (zoneSalt (now (salts .entry)) step) (zoned s (now (zones .entry)))) ⌝ }
 {
     let drive = demand_drive(x, s);
     let card = x.card;
     let pcm = x.pcm;
-    let u = passes::process_in_place(card, pcm, drive, target, zones);
+    let u = passes::process_in_place(card, pcm, salts, step, drive, card.reference, zones);
     let fault = u.fault;
     match fault {
         Fault::Nothing => demand_delivered(x, s, u),
@@ -183,14 +188,18 @@ fn demand_substep(x: DemandTask, s: Pace, target: f64, zones: &mut [f64; 64]) ->
 }
 
 // The substeps from `start` on, at most `budget` of them.
-pub fn demand_run(x: DemandTask, budget: u16, start: Pace, zones: &mut [f64; 64]) -> PaceEnd
-    requires { ⌜ x .card .layers ≤ 64 ⌝ }
-    ensures { λ r. ⌜ AsDefined (endRefusal (r .end)) r (now (zones .exit)) (demandRun x budget 0 (zoned start (now (zones .entry)))) ⌝ }
+pub fn demand_run(
+    x: DemandTask,
+    salts: &[f64],
+    step: usize,
+    budget: u16,
+    start: Pace,
+    zones: &mut [f64; 64],
+) -> PaceEnd
+    requires { ⌜ (x .card .layers ≤ 64) × Salted (now salts) step (x .card .layers) ⌝ }
+    ensures { λ r. ⌜ AsDefined (endRefusal (r .end)) r (now (zones .exit)) (demandRun x (zoneSalt (now (salts .entry)) step) budget 0 (zoned start (now (zones .entry)))) ⌝ }
     ensures { λ r. ⌜ r .substeps ≤ budget ⌝ }
 {
-    let card = x.card;
-    let pcm = x.pcm;
-    let target = substep::target_of(card, pcm, 0.0);
     let mut pace = start;
     let mut substeps: u16 = 0;
     let end = loop {
@@ -200,7 +209,7 @@ pub fn demand_run(x: DemandTask, budget: u16, start: Pace, zones: &mut [f64; 64]
         if substeps == budget {
             break End::OverBudget;
         }
-        let turn = demand_substep(x, pace, target, zones);
+        let turn = demand_substep(x, salts, step, pace, zones);
         substeps += 1;
         pace = turn.pace;
         let next = turn.next;

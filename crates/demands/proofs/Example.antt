@@ -6,14 +6,14 @@ use Rattle.floats.specs.Standins.{finite64, magnitude, larger, nearlyEqual, max
 use Rattle.floats.specs.Sum2.{sum2Step, sum2After, sum2}
 use Rattle.codec.specs.Bytes.{be, beBytes, f64Of, f64Bytes, over}
 use Rattle.zone.specs.Heat.{kilowattHours, kilojoules}
-use Rattle.zone.specs.Layer.{layerEnergyStored, tempAt, socToTemp, zoneSalt, zoneEnergyRequired}
+use Rattle.zone.specs.Layer.{layerEnergyStored, tempAt, socToTemp, zoneEnergyRequired}
 use Rattle.ranges.specs.Ranges.{within, isSubstep, isTimestep, isTemperature, isCapacity, isVelocity, isDiameter, isCoefficient, isFlow, isPower}
 use Rattle.update.specs.Update.{retrievingFromBelow, retrieving, newZoneTemperature}
 use Rattle.charging.specs.Charging.{counted, chargingWithdrawn, chargingAdded, zoneSimultaneousCharging}
 use Rattle.water.specs.Water.{zoneProperties}
 use Rattle.card.specs.Version.{onlyVersion, knownVersion}
 use Rattle.card.specs.Card.{countsInRange, timesInRange, temperaturesInRange, capacitiesInRange, exchangerInRange, powersInRange, cardInRange, cardVerdict, verdictNumber, cardRefusal}
-use Rattle.card.specs.Derived.{saltOf, energyAt, derived}
+use Rattle.card.specs.Derived.{saltOf, saltsOf, derived}
 use Rattle.battery.specs.Answer.{refusedWith, plainAnswer, numbersFinite, answerFinite}
 use Rattle.battery.specs.Battery.{freshZones, fresh, zonesFinite, batteryAccepted}
 use Rattle.battery.specs.Ledger.{totalsFinite}
@@ -42,5 +42,5 @@ pub example :
     × (entryOf onlyVersion freshRecord exampleCharge (replicate 97 0) ≡ record { code = 0; record' = chargedRecord; sheet = chargeLine })
     × (entryOf onlyVersion chargedRecord exampleDemand (replicate 109 0) ≡ record { code = 20; record' = chargedRecord; sheet = refusedLine })
     × (auditOf plain exampleSheet ≡ Accepted 2)
-unfolding knownVersion finite64 magnitude larger nearlyEqual maxZero sum2Step sum2After sum2 be beBytes f64Of f64Bytes over kilowattHours kilojoules layerEnergyStored tempAt socToTemp zoneSalt zoneEnergyRequired within isSubstep isTimestep isTemperature isCapacity isVelocity isDiameter isCoefficient isFlow isPower retrievingFromBelow retrieving newZoneTemperature counted chargingWithdrawn chargingAdded zoneSimultaneousCharging zoneProperties countsInRange timesInRange temperaturesInRange capacitiesInRange exchangerInRange powersInRange cardInRange cardVerdict verdictNumber cardRefusal saltOf energyAt derived refusedWith plainAnswer numbersFinite answerFinite freshZones fresh zonesFinite totalsFinite batteryAccepted isLevel isGivenTemperature demandInRange callInRange zoneIndex zoneCharge zoneStep zoneAt zonesAfter zoneTransfer courseOf chargerHeat passFrom passFinite passFault outcomeOf substepFrom withTransfer processHeatBatteryZones electricDrive electricEnded chargeElectric chargeBattery faultEnd endRefusal timeAvailable checked unlessRefused chargedBattery runAnswer demandGiven demandEnergy charge stepOf advanceOf commitPlace callLength markOk givenAt demandAt demandCall callBy callOf cardLength cardAt zonesAt zonesBytes totalsBytes stateLength stateAt stateBytes recordLength recordOf recordBytes headLength answerLength answerAt headBytes answerBytes marksOk sameNumber sameZones sameTotals agrees lineLength lineSize lineBytes openingLength openingBytes openOf renewed lineAfter recordLaid callPart answerPart behind headOk lineCall judge auditLine auditFrom cardLineOk auditLines auditCard auditOf entryRead entryOf ofBits toBits ofInt add sub mul div neg lt le eq fits
+unfolding knownVersion finite64 magnitude larger nearlyEqual maxZero sum2Step sum2After sum2 be beBytes f64Of f64Bytes over kilowattHours kilojoules layerEnergyStored tempAt socToTemp zoneEnergyRequired within isSubstep isTimestep isTemperature isCapacity isVelocity isDiameter isCoefficient isFlow isPower retrievingFromBelow retrieving newZoneTemperature counted chargingWithdrawn chargingAdded zoneSimultaneousCharging zoneProperties countsInRange timesInRange temperaturesInRange capacitiesInRange exchangerInRange powersInRange cardInRange cardVerdict verdictNumber cardRefusal saltOf saltsOf derived refusedWith plainAnswer numbersFinite answerFinite freshZones fresh zonesFinite totalsFinite batteryAccepted isLevel isGivenTemperature demandInRange callInRange zoneIndex zoneCharge zoneStep zoneAt zonesAfter zoneTransfer courseOf chargerHeat passFrom passFinite passFault outcomeOf substepFrom withTransfer processHeatBatteryZones electricDrive electricEnded chargeElectric chargeBattery faultEnd endRefusal timeAvailable checked unlessRefused chargedBattery runAnswer demandGiven demandEnergy charge stepOf advanceOf commitPlace callLength markOk givenAt demandAt demandCall callBy callOf cardLength cardAt zonesAt zonesBytes totalsBytes stateLength stateAt stateBytes recordLength recordOf recordBytes headLength answerLength answerAt headBytes answerBytes marksOk sameNumber sameZones sameTotals agrees lineLength lineSize lineBytes openingLength openingBytes openOf renewed lineAfter recordLaid callPart answerPart behind headOk lineCall judge auditLine auditFrom cardLineOk auditLines auditCard auditOf entryRead entryOf ofBits toBits ofInt add sub mul div neg lt le eq fits
 example = (refl, refl, refl, refl)

@@ -7,7 +7,8 @@ use native.Mathlib.Omega.{arith}
 use borrow.Author.Tests.{eq-eqb, ne-eqb}
 use lib.Ieee.{Float, le}
 use Rattle.floats.specs.Constants.{zero, tolerance}
-use Rattle.card.specs.Derived.{derived}
+use Rattle.zone.specs.Layer.{saltAt}
+use Rattle.card.specs.Derived.{saltsOf, derived}
 use Rattle.logic.proofs.Tests.{and-true}
 use Rattle.battery.specs.Answer.{plainAnswer, answerFinite}
 use Rattle.battery.specs.Ledger.{ledgerOf}
@@ -142,11 +143,11 @@ module _ (b : Battery) where
   unfolding chargeBattery wetSource chargeHydronic hydronicEnded
   hydronic-end h = refl
 
-  electric-end : (power target : Float) → chargeBattery b (Electric power) target .part .end ≡ faultEnd (processHeatBatteryZones (b .card) (derived (b .card)) (electricDrive (ledgerOf b) power target) (b .zones) .fault)
+  electric-end : (power target : Float) → chargeBattery b (Electric power) target .part .end ≡ faultEnd (processHeatBatteryZones (b .card) (derived (b .card)) (saltAt (saltsOf (b .card))) (electricDrive (ledgerOf b) power target) (b .zones) .fault)
   unfolding chargeBattery chargeElectric electricEnded outcomeOf
   electric-end power target = refl
 
-  loss-end : batteryHeatLoss b .part .end ≡ faultEnd (processHeatBatteryZones (b .card) (derived (b .card)) (lossDrive (b .card)) (b .zones) .fault)
+  loss-end : batteryHeatLoss b .part .end ≡ faultEnd (processHeatBatteryZones (b .card) (derived (b .card)) (saltAt (saltsOf (b .card))) (lossDrive (b .card)) (b .zones) .fault)
   unfolding batteryHeatLoss lossEnded outcomeOf
   loss-end = refl
 

@@ -14,6 +14,7 @@ use Rattle.floats.specs.Sum2.{sum2}
 use Rattle.floats.specs.declared.Log.{Log}
 use Rattle.floats.specs.declared.Log.the-variants.{Value, Refused}
 use Rattle.logic.proofs.Branch.{by-test}
+use Rattle.zone.specs.declared.Salt.{Salt}
 use Rattle.zone.specs.Heat.{kj, kwh, kilowattHours}
 use Rattle.zone.specs.declared.Kilojoules.{Kilojoules}
 use Rattle.water.specs.Water.{transferOf, heatTransfer}
@@ -85,52 +86,52 @@ unfolding passFault
 not-finite-fault c p sum =
     by-test (λ (f : Fault). f ≡ NotFinite → passFinite c p sum ≡ false) (passFinite c p sum) Nothing NotFinite (λ t h. never (cc)) (λ t h. t)
 
-module _ (c : Card) (pcm : HeatBatteryPcm) (d : Drive) (zones : List Float) where
-  with-refused : (l : Log) → withTransfer c pcm d zones l .fault ≡ Logarithm → l ≡ Refused
+module _ (c : Card) (pcm : HeatBatteryPcm) (salts : ℕ → Salt) (d : Drive) (zones : List Float) where
+  with-refused : (l : Log) → withTransfer c pcm salts d zones l .fault ≡ Logarithm → l ≡ Refused
   unfolding withTransfer substepFrom
   with-refused Refused h = refl
   with-refused (Value u) h =
-      let p = passOf c pcm d zones u in
+      let p = passOf c pcm salts d zones u in
       absurd (no-logarithm-fault c p (kj (sum2 (p .energies) (c .layers))) h)
 
-  with-not-finite : (l : Log) → zoneTransfer (d .mode) c d ≡ l → withTransfer c pcm d zones l .fault ≡ NotFinite → PassNotFinite c pcm d zones
+  with-not-finite : (l : Log) → zoneTransfer (d .mode) c d ≡ l → withTransfer c pcm salts d zones l .fault ≡ NotFinite → PassNotFinite c pcm salts d zones
   unfolding withTransfer withoutLogarithm substepFrom
   with-not-finite Refused e h = never (cc)
   with-not-finite (Value u) e h =
-      let p = passOf c pcm d zones u in
+      let p = passOf c pcm salts d zones u in
       record { transfer = u; taken = e; found = not-finite-fault c p (kj (sum2 (p .energies) (c .layers))) h }
 
   -- 24 only where the logarithm refuses its argument, in a demand's or hydronic substep
-  pub logarithm-only : processHeatBatteryZones c pcm d zones .fault ≡ Logarithm → ArgumentRefused d
+  pub logarithm-only : processHeatBatteryZones c pcm salts d zones .fault ≡ Logarithm → ArgumentRefused d
   unfolding processHeatBatteryZones
   logarithm-only h =
       let w = zone-refuses (d .mode) c d (with-refused (zoneTransfer (d .mode) c d) h) in
       record { normal = w .0; argument = w .1 }
 
   -- 23 only where a number behind the substep is not finite
-  pub pass-not-finite-only : processHeatBatteryZones c pcm d zones .fault ≡ NotFinite → PassNotFinite c pcm d zones
+  pub pass-not-finite-only : processHeatBatteryZones c pcm salts d zones .fault ≡ NotFinite → PassNotFinite c pcm salts d zones
   unfolding processHeatBatteryZones
   pass-not-finite-only h = with-not-finite (zoneTransfer (d .mode) c d) refl h
 
-  tested : (f : Fault) → (f ≡ Nothing → ⊥) → processHeatBatteryZones c pcm d zones .fault ≡ f → FaultTest f c pcm d zones
+  tested : (f : Fault) → (f ≡ Nothing → ⊥) → processHeatBatteryZones c pcm salts d zones .fault ≡ f → FaultTest f c pcm salts d zones
   tested Nothing q h = q refl
   tested Logarithm q h = logarithm-only h
   tested NotFinite q h = pass-not-finite-only h
 
-  pub substep-fault : (f : Fault) → (f ≡ Nothing → ⊥) → processHeatBatteryZones c pcm d zones .fault ≡ f → SubstepFault f c pcm d zones
+  pub substep-fault : (f : Fault) → (f ≡ Nothing → ⊥) → processHeatBatteryZones c pcm salts d zones .fault ≡ f → SubstepFault f c pcm salts d zones
   substep-fault f q h = record { fault = h; test = tested f q h }
 
 -- the substep from s
-abbrev pub demandFromRun : DemandTask → Zoned Pace → Substep
-demandFromRun x s = processHeatBatteryZones (x .card) (x .pcm) (demandDrive x (s .part)) (s .zones)
+abbrev pub demandFromRun : DemandTask → (ℕ → Salt) → Zoned Pace → Substep
+demandFromRun x salts s = processHeatBatteryZones (x .card) (x .pcm) salts (demandDrive x (s .part)) (s .zones)
 
 -- the fractional substep behind the whole substep u from s
-abbrev fractionFrom : HydronicTask → Zoned WetPace → Substep → Substep
-fractionFrom x s u = processHeatBatteryZones (x .card) (x .pcm) (fractionDrive x (s .part) u) (s .zones)
+abbrev fractionFrom : HydronicTask → (ℕ → Salt) → Zoned WetPace → Substep → Substep
+fractionFrom x salts s u = processHeatBatteryZones (x .card) (x .pcm) salts (fractionDrive x (s .part) u) (s .zones)
 
-record FractionTold (x : HydronicTask) (s : Zoned WetPace) (u : Substep) (f : Fault) : Type 0 where
+record FractionTold (x : HydronicTask) (salts : ℕ → Salt) (s : Zoned WetPace) (u : Substep) (f : Fault) : Type 0 where
   due : FractionDue x (s .part) u
-  fault : fractionFrom x s u .fault ≡ f
+  fault : fractionFrom x salts s u .fault ≡ f
 
 -- the fault that an end tells of
 abbrev pub endFault : End → Fault
@@ -168,36 +169,36 @@ told-by x s u Nothing w = let n = no-fault x (s .part) (outcome u .part) in reco
 told-by x s u Logarithm w = record { same = λ q. refl; fault = λ q. w }
 told-by x s u NotFinite w = record { same = λ q. refl; fault = λ q. w }
 
-demand-told : (x : DemandTask) (s : Zoned Pace) → DemandTold s (demandFromRun x s) (demandSubstep x s)
+demand-told : (x : DemandTask) (salts : ℕ → Salt) (s : Zoned Pace) → DemandTold s (demandFromRun x salts s) (demandSubstep x salts s)
 unfolding demandSubstep outcomeOf
-demand-told x s = told-by x s (demandFromRun x s) (demandFromRun x s .fault) refl
+demand-told x salts s = told-by x s (demandFromRun x salts s) (demandFromRun x salts s .fault) refl
 
-module _ (x : DemandTask) where
+module _ (x : DemandTask) (salts : ℕ → Salt) where
   demand-stops :
-      (s : Zoned Pace) (e : End) → demandSubstep x s .part .next ≡ Stop e → (endFault e ≡ Nothing → ⊥) → demandFromRun x (onPart turnPace (demandSubstep x s)) .fault ≡ endFault e
+      (s : Zoned Pace) (e : End) → demandSubstep x salts s .part .next ≡ Stop e → (endFault e ≡ Nothing → ⊥) → demandFromRun x salts (onPart turnPace (demandSubstep x salts s)) .fault ≡ endFault e
   demand-stops s e h q =
-      let k = demand-told x s in
-      let r : nextFault (demandSubstep x s .part .next) ≡ Nothing → ⊥ = λ z. q (sym (ap nextFault h) ∙ z) in
-      subst (λ (v : Zoned Pace). demandFromRun x v .fault ≡ endFault e) (sym (k .same r)) (k .fault r ∙ ap nextFault h)
+      let k = demand-told x salts s in
+      let r : nextFault (demandSubstep x salts s .part .next) ≡ Nothing → ⊥ = λ z. q (sym (ap nextFault h) ∙ z) in
+      subst (λ (v : Zoned Pace). demandFromRun x salts v .fault ≡ endFault e) (sym (k .same r)) (k .fault r ∙ ap nextFault h)
 
-  pub demand-run-faults : (k n : ℕ) (s : Zoned Pace) → (endFault (demandRun x k n s .part .end) ≡ Nothing → ⊥) → demandFromRun x (onPart endPace (demandRun x k n s)) .fault ≡ endFault (demandRun x k n s .part .end)
+  pub demand-run-faults : (k n : ℕ) (s : Zoned Pace) → (endFault (demandRun x salts k n s .part .end) ≡ Nothing → ⊥) → demandFromRun x salts (onPart endPace (demandRun x salts k n s)) .fault ≡ endFault (demandRun x salts k n s .part .end)
   demand-run-faults =
-      demand-induction x (λ k n s d. (endFault (d .part .end) ≡ Nothing → ⊥) → demandFromRun x (onPart endPace d) .fault ≡ endFault (d .part .end))
+      demand-induction x salts (λ k n s d. (endFault (d .part .end) ≡ Nothing → ⊥) → demandFromRun x salts (onPart endPace d) .fault ≡ endFault (d .part .end))
       (λ k n s q. absurd (q refl))
       (λ n s h q. absurd (q refl))
       (λ k n s e h q. demand-stops s e h q)
       (λ k n s d h r q. r q)
 
-record HydronicTold (x : HydronicTask) (s : Zoned WetPace) (u : Substep) (t : Zoned WetTurn) : Type 0 where
+record HydronicTold (x : HydronicTask) (salts : ℕ → Salt) (s : Zoned WetPace) (u : Substep) (t : Zoned WetTurn) : Type 0 where
   same : (nextFault (t .part .next) ≡ Nothing → ⊥) → onPart wetPace t ≡ s
-  fault : (nextFault (t .part .next) ≡ Nothing → ⊥) → (u .fault ≡ nextFault (t .part .next)) ⊎ FractionTold x s u (nextFault (t .part .next))
+  fault : (nextFault (t .part .next) ≡ Nothing → ⊥) → (u .fault ≡ nextFault (t .part .next)) ⊎ FractionTold x salts s u (nextFault (t .part .next))
 
-module _ (x : HydronicTask) (n : ℕ) (s : Zoned WetPace) (u : Substep) where
+module _ (x : HydronicTask) (salts : ℕ → Salt) (n : ℕ) (s : Zoned WetPace) (u : Substep) where
   abbrev Told : Zoned WetTurn → Type 0
-  Told = HydronicTold x s u
+  Told = HydronicTold x salts s u
 
   module _ (w : FractionDue x (s .part) u) (seconds reynold : Float) where
-    told-replay : (f : Fault) → fractionFrom x s u .fault ≡ f → Told (replayBy x (n + 1) s seconds reynold (outcome (fractionFrom x s u)) f)
+    told-replay : (f : Fault) → fractionFrom x salts s u .fault ≡ f → Told (replayBy x (n + 1) s seconds reynold (outcome (fractionFrom x salts s u)) f)
     unfolding replayBy
     told-replay Nothing h = record { same = λ q. absurd (q refl); fault = λ q. absurd (q refl) }
     told-replay Logarithm h = record { same = λ q. refl; fault = λ q. inr (record { due = w; fault = h }) }
@@ -205,14 +206,14 @@ module _ (x : HydronicTask) (n : ℕ) (s : Zoned WetPace) (u : Substep) where
 
   told-replayed :
       FractionDue x (s .part) u →
-      Told (replayed x n s (fractionSeconds x (absorbedWith (s .part) u) (heatOf u)) (reynoldBetween (x .wet .inlet) (u .outlet) (x .wet .velocity) (x .wet .diameter)))
+      Told (replayed x salts n s (fractionSeconds x (absorbedWith (s .part) u) (heatOf u)) (reynoldBetween (x .wet .inlet) (u .outlet) (x .wet .velocity) (x .wet .diameter)))
   unfolding replayed outcomeOf
   told-replayed w =
       by-test Told (eqb n (x .card .budget)) _ _
       (λ h. record { same = λ q. absurd (q refl); fault = λ q. absurd (q refl) })
-      (λ h. told-replay w _ _ (fractionFrom x s u .fault) refl)
+      (λ h. told-replay w _ _ (fractionFrom x salts s u .fault) refl)
 
-  told-whole : u .fault ≡ Nothing → Told (hydronicWhole x n s (outcome u))
+  told-whole : u .fault ≡ Nothing → Told (hydronicWhole x salts n s (outcome u))
   unfolding hydronicWhole outcomeOf
   told-whole w =
       by-test Told (clearlyBelow (u .outlet) (x .wet .inlet)) _ _
@@ -223,40 +224,40 @@ module _ (x : HydronicTask) (n : ℕ) (s : Zoned WetPace) (u : Substep) where
       (λ b. record { same = λ q. absurd (q refl); fault = λ q. absurd (q refl) }))
       (λ a. record { same = λ q. absurd (q refl); fault = λ q. absurd (q refl) })
 
-  told-turn : (f : Fault) → u .fault ≡ f → Told (hydronicBy x n s (outcome u) f)
+  told-turn : (f : Fault) → u .fault ≡ f → Told (hydronicBy x salts n s (outcome u) f)
   unfolding hydronicBy
   told-turn Nothing w = told-whole w
   told-turn Logarithm w = record { same = λ q. refl; fault = λ q. inl w }
   told-turn NotFinite w = record { same = λ q. refl; fault = λ q. inl w }
 
-hydronic-told : (x : HydronicTask) (n : ℕ) (s : Zoned WetPace) → HydronicTold x s (wholeFrom x s) (hydronicStep x n s)
+hydronic-told : (x : HydronicTask) (salts : ℕ → Salt) (n : ℕ) (s : Zoned WetPace) → HydronicTold x salts s (wholeFrom x salts s) (hydronicStep x salts n s)
 unfolding hydronicStep outcomeOf
-hydronic-told x n s = told-turn x (n + 1) s (wholeFrom x s) (wholeFrom x s .fault) refl
+hydronic-told x salts n s = told-turn x salts (n + 1) s (wholeFrom x salts s) (wholeFrom x salts s .fault) refl
 
-module _ (x : HydronicTask) where
+module _ (x : HydronicTask) (salts : ℕ → Salt) where
   abbrev Ends : Zoned WetPace → Fault → Type 0
-  Ends s f = (wholeFrom x s .fault ≡ f) ⊎ FractionTold x s (wholeFrom x s) f
+  Ends s f = (wholeFrom x salts s .fault ≡ f) ⊎ FractionTold x salts s (wholeFrom x salts s) f
 
-  hydronic-stops : (n : ℕ) (s : Zoned WetPace) (e : End) → hydronicStep x n s .part .next ≡ Stop e → (endFault e ≡ Nothing → ⊥) → Ends (onPart wetPace (hydronicStep x n s)) (endFault e)
+  hydronic-stops : (n : ℕ) (s : Zoned WetPace) (e : End) → hydronicStep x salts n s .part .next ≡ Stop e → (endFault e ≡ Nothing → ⊥) → Ends (onPart wetPace (hydronicStep x salts n s)) (endFault e)
   hydronic-stops n s e h q =
-      let k = hydronic-told x n s in
-      let r : nextFault (hydronicStep x n s .part .next) ≡ Nothing → ⊥ = λ z. q (sym (ap nextFault h) ∙ z) in
+      let k = hydronic-told x salts n s in
+      let r : nextFault (hydronicStep x salts n s .part .next) ≡ Nothing → ⊥ = λ z. q (sym (ap nextFault h) ∙ z) in
       let w : Ends s (endFault e) = rw (ap nextFault h) at (k .fault r) in
       subst (λ (v : Zoned WetPace). Ends v (endFault e)) (sym (k .same r)) w
 
-  hydronic-ends : (k n : ℕ) (s : Zoned WetPace) → (endFault (hydronicRun x k n s .part .end) ≡ Nothing → ⊥) → Ends (onPart wetEndPace (hydronicRun x k n s)) (endFault (hydronicRun x k n s .part .end))
+  hydronic-ends : (k n : ℕ) (s : Zoned WetPace) → (endFault (hydronicRun x salts k n s .part .end) ≡ Nothing → ⊥) → Ends (onPart wetEndPace (hydronicRun x salts k n s)) (endFault (hydronicRun x salts k n s .part .end))
   hydronic-ends =
-      hydronic-induction x (λ k n s d. (endFault (d .part .end) ≡ Nothing → ⊥) → Ends (onPart wetEndPace d) (endFault (d .part .end)))
+      hydronic-induction x salts (λ k n s d. (endFault (d .part .end) ≡ Nothing → ⊥) → Ends (onPart wetEndPace d) (endFault (d .part .end)))
       (λ n s q. absurd (q refl))
       (λ k n s h q. absurd (q refl))
       (λ k n s e b h q. hydronic-stops n s e h q)
       (λ k n s d b h r q. r q)
 
-  at-test : (s : Zoned WetPace) (f : Fault) → (f ≡ Nothing → ⊥) → Ends s f → HydronicFault f x s
-  at-test s f q (inl h) = inl (substep-fault (x .card) (x .pcm) (wetDrive x (x .card .substep) (s .part .reynold)) (s .zones) f q h)
+  at-test : (s : Zoned WetPace) (f : Fault) → (f ≡ Nothing → ⊥) → Ends s f → HydronicFault f x salts s
+  at-test s f q (inl h) = inl (substep-fault (x .card) (x .pcm) salts (wetDrive x (x .card .substep) (s .part .reynold)) (s .zones) f q h)
   at-test s f q (inr w) =
-      inr (record { due = w .due; fault = substep-fault (x .card) (x .pcm) (fractionDrive x (s .part) (wholeFrom x s)) (s .zones) f q (w .fault) })
+      inr (record { due = w .due; fault = substep-fault (x .card) (x .pcm) salts (fractionDrive x (s .part) (wholeFrom x salts s)) (s .zones) f q (w .fault) })
 
   pub hydronic-run-faults :
-      (k n : ℕ) (s : Zoned WetPace) → (endFault (hydronicRun x k n s .part .end) ≡ Nothing → ⊥) → HydronicFault (endFault (hydronicRun x k n s .part .end)) x (onPart wetEndPace (hydronicRun x k n s))
-  hydronic-run-faults k n s q = at-test (onPart wetEndPace (hydronicRun x k n s)) (endFault (hydronicRun x k n s .part .end)) q (hydronic-ends k n s q)
+      (k n : ℕ) (s : Zoned WetPace) → (endFault (hydronicRun x salts k n s .part .end) ≡ Nothing → ⊥) → HydronicFault (endFault (hydronicRun x salts k n s .part .end)) x salts (onPart wetEndPace (hydronicRun x salts k n s))
+  hydronic-run-faults k n s q = at-test (onPart wetEndPace (hydronicRun x salts k n s)) (endFault (hydronicRun x salts k n s .part .end)) q (hydronic-ends k n s q)

@@ -12,9 +12,11 @@ use Rattle.floats.specs.Constants as Constants
 use Rattle.floats.specs.declared.Log.{Log}
 use Rattle.floats.specs.declared.Log.the-variants.{Value, Refused}
 use Rattle.logic.proofs.Branch.{by-test}
+use Rattle.zone.specs.declared.Salt.{Salt}
 use Rattle.zone.specs.Heat.{kj}
 use Rattle.zone.specs.declared.Kilojoules.{Kilojoules}
-use Rattle.card.specs.Derived.{derived}
+use Rattle.zone.specs.Layer.{saltAt}
+use Rattle.card.specs.Derived.{saltsOf, derived}
 use Rattle.card.specs.declared.Card.{Card}
 use Rattle.card.specs.declared.HeatBatteryPcm.{HeatBatteryPcm}
 use Rattle.logic.proofs.Tests.{and-true}
@@ -64,13 +66,13 @@ pass-tested c p sum =
     (λ t h. and-true (zonesFinite (p .zones) (c .layers)) _ (is-true (passFinite c p sum) t) .0)
     (λ t h. never (cc))
 
-module _ (c : Card) (pcm : HeatBatteryPcm) (d : Drive) (zones : List Float) where
-  transfer-tested : (l : Log) → withTransfer c pcm d zones l .fault ≡ Nothing → Finite (c .layers) (withTransfer c pcm d zones l .zones)
+module _ (c : Card) (pcm : HeatBatteryPcm) (salts : ℕ → Salt) (d : Drive) (zones : List Float) where
+  transfer-tested : (l : Log) → withTransfer c pcm salts d zones l .fault ≡ Nothing → Finite (c .layers) (withTransfer c pcm salts d zones l .zones)
   unfolding withTransfer withoutLogarithm substepFrom
   transfer-tested Refused h = never (cc)
   transfer-tested (Value u) h = pass-tested c _ _ h
 
-  pub substep-finite : processHeatBatteryZones c pcm d zones .fault ≡ Nothing → Finite (c .layers) (processHeatBatteryZones c pcm d zones .zones)
+  pub substep-finite : processHeatBatteryZones c pcm salts d zones .fault ≡ Nothing → Finite (c .layers) (processHeatBatteryZones c pcm salts d zones .zones)
   unfolding processHeatBatteryZones
   substep-finite h = transfer-tested (zoneTransfer (d .mode) c d) h
 
@@ -83,7 +85,7 @@ answers-faultless NotFinite h = absurd (omega arith)
 
 -- one turn of a demand: its zones are the substep's, or those before it
 
-module _ (x : DemandTask) (s : Zoned Pace) (h : Finite (x .card .layers) (s .zones)) where
+module _ (x : DemandTask) (salts : ℕ → Salt) (s : Zoned Pace) (h : Finite (x .card .layers) (s .zones)) where
   abbrev DemandFinite : Zoned PaceTurn → Type 0
   DemandFinite t = Finite (x .card .layers) (t .zones)
 
@@ -93,22 +95,22 @@ module _ (x : DemandTask) (s : Zoned Pace) (h : Finite (x .card .layers) (s .zon
   demand-by-finite u g Logarithm e = h
   demand-by-finite u g NotFinite e = h
 
-  demand-turn-finite : DemandFinite (demandSubstep x s)
+  demand-turn-finite : DemandFinite (demandSubstep x salts s)
   unfolding demandSubstep outcomeOf
   demand-turn-finite =
-      demand-by-finite (demandFromRun x s) (substep-finite (x .card) (x .pcm) (demandDrive x (s .part)) (s .zones)) (demandFromRun x s .fault) refl
+      demand-by-finite (demandFromRun x salts s) (substep-finite (x .card) (x .pcm) salts (demandDrive x (s .part)) (s .zones)) (demandFromRun x salts s .fault) refl
 
-pub demand-run-finite : (x : DemandTask) (k n : ℕ) (s : Zoned Pace) → Finite (x .card .layers) (s .zones) → Finite (x .card .layers) (demandRun x k n s .zones)
-demand-run-finite x =
-    demand-induction x (λ k n s d. Finite (x .card .layers) (s .zones) → Finite (x .card .layers) (d .zones))
+pub demand-run-finite : (x : DemandTask) (salts : ℕ → Salt) (k n : ℕ) (s : Zoned Pace) → Finite (x .card .layers) (s .zones) → Finite (x .card .layers) (demandRun x salts k n s .zones)
+demand-run-finite x salts =
+    demand-induction x salts (λ k n s d. Finite (x .card .layers) (s .zones) → Finite (x .card .layers) (d .zones))
     (λ k n s h. h)
     (λ n s p h. h)
-    (λ k n s e p h. demand-turn-finite x s h)
-    (λ k n s d p r h. r (demand-turn-finite x s h))
+    (λ k n s e p h. demand-turn-finite x salts s h)
+    (λ k n s d p r h. r (demand-turn-finite x salts s h))
 
 -- one turn of a hydronic charge: its zones are the whole substep's, the fractional one's, or those before them
 
-module _ (x : HydronicTask) (n : ℕ) (s : Zoned WetPace) (h : Finite (x .card .layers) (s .zones)) where
+module _ (x : HydronicTask) (salts : ℕ → Salt) (n : ℕ) (s : Zoned WetPace) (h : Finite (x .card .layers) (s .zones)) where
   abbrev WetFinite : Zoned WetTurn → Type 0
   WetFinite t = Finite (x .card .layers) (t .zones)
 
@@ -120,15 +122,15 @@ module _ (x : HydronicTask) (n : ℕ) (s : Zoned WetPace) (h : Finite (x .card .
   replay-by-finite m seconds reynold u g Logarithm e = h
   replay-by-finite m seconds reynold u g NotFinite e = h
 
-  replay-finite : (seconds reynold : Float) → WetFinite (replayed x n s seconds reynold)
+  replay-finite : (seconds reynold : Float) → WetFinite (replayed x salts n s seconds reynold)
   unfolding replayed outcomeOf
   replay-finite seconds reynold =
-      let u = processHeatBatteryZones (x .card) (x .pcm) (wetDrive x seconds reynold) (s .zones) in
+      let u = processHeatBatteryZones (x .card) (x .pcm) salts (wetDrive x seconds reynold) (s .zones) in
       by-test WetFinite (eqb n (x .card .budget)) _ _
       (λ b. h)
-      (λ b. replay-by-finite (n + 1) seconds reynold u (substep-finite (x .card) (x .pcm) (wetDrive x seconds reynold) (s .zones)) (u .fault) refl)
+      (λ b. replay-by-finite (n + 1) seconds reynold u (substep-finite (x .card) (x .pcm) salts (wetDrive x seconds reynold) (s .zones)) (u .fault) refl)
 
-  whole-finite : (u : Substep) → Finite (x .card .layers) (u .zones) → WetFinite (hydronicWhole x n s (outcome u))
+  whole-finite : (u : Substep) → Finite (x .card .layers) (u .zones) → WetFinite (hydronicWhole x salts n s (outcome u))
   unfolding hydronicWhole outcomeOf
   whole-finite u g =
       let reynold = reynoldBetween (x .wet .inlet) (u .outlet) (x .wet .velocity) (x .wet .diameter) in
@@ -140,45 +142,45 @@ module _ (x : HydronicTask) (n : ℕ) (s : Zoned WetPace) (h : Finite (x .card .
       (λ b. g))
       (λ a. g)
 
-  hydronic-by-finite : (u : Substep) → (u .fault ≡ Nothing → Finite (x .card .layers) (u .zones)) → (f : Fault) → u .fault ≡ f → WetFinite (hydronicBy x n s (outcome u) f)
+  hydronic-by-finite : (u : Substep) → (u .fault ≡ Nothing → Finite (x .card .layers) (u .zones)) → (f : Fault) → u .fault ≡ f → WetFinite (hydronicBy x salts n s (outcome u) f)
   unfolding hydronicBy
   hydronic-by-finite u g Nothing e = whole-finite u (g e)
   hydronic-by-finite u g Logarithm e = h
   hydronic-by-finite u g NotFinite e = h
 
 hydronic-turn-finite :
-    (x : HydronicTask) (n : ℕ) (s : Zoned WetPace) → Finite (x .card .layers) (s .zones) → Finite (x .card .layers) (hydronicStep x n s .zones)
+    (x : HydronicTask) (salts : ℕ → Salt) (n : ℕ) (s : Zoned WetPace) → Finite (x .card .layers) (s .zones) → Finite (x .card .layers) (hydronicStep x salts n s .zones)
 unfolding hydronicStep outcomeOf
-hydronic-turn-finite x n s h =
-    hydronic-by-finite x (n + 1) s h (wholeFrom x s)
-    (substep-finite (x .card) (x .pcm) (wetDrive x (x .card .substep) (s .part .reynold)) (s .zones)) (wholeFrom x s .fault) refl
+hydronic-turn-finite x salts n s h =
+    hydronic-by-finite x salts (n + 1) s h (wholeFrom x salts s)
+    (substep-finite (x .card) (x .pcm) salts (wetDrive x (x .card .substep) (s .part .reynold)) (s .zones)) (wholeFrom x salts s .fault) refl
 
 pub hydronic-run-finite :
-    (x : HydronicTask) (k n : ℕ) (s : Zoned WetPace) → Finite (x .card .layers) (s .zones) → Finite (x .card .layers) (hydronicRun x k n s .zones)
-hydronic-run-finite x =
-    hydronic-induction x (λ k n s d. Finite (x .card .layers) (s .zones) → Finite (x .card .layers) (d .zones))
+    (x : HydronicTask) (salts : ℕ → Salt) (k n : ℕ) (s : Zoned WetPace) → Finite (x .card .layers) (s .zones) → Finite (x .card .layers) (hydronicRun x salts k n s .zones)
+hydronic-run-finite x salts =
+    hydronic-induction x salts (λ k n s d. Finite (x .card .layers) (s .zones) → Finite (x .card .layers) (d .zones))
     (λ n s h. h)
     (λ k n s p h. h)
-    (λ k n s e q p h. hydronic-turn-finite x n s h)
-    (λ k n s d q p r h. r (hydronic-turn-finite x n s h))
+    (λ k n s e q p h. hydronic-turn-finite x salts n s h)
+    (λ k n s d q p r h. r (hydronic-turn-finite x salts n s h))
 
 -- the calls' runs
 
 module _ (b : Battery) where
   electric-finite : (power target : Float) → endRefusal (chargeElectric b power target .part .end) ≡ 0 → Finite (b .card .layers) (chargeElectric b power target .zones)
   unfolding chargeElectric electricEnded outcomeOf
-  electric-finite power target e = substep-finite (b .card) (derived (b .card)) (electricDrive (ledgerOf b) power target) (b .zones) (answers-faultless _ e)
+  electric-finite power target e = substep-finite (b .card) (derived (b .card)) (saltAt (saltsOf (b .card))) (electricDrive (ledgerOf b) power target) (b .zones) (answers-faultless _ e)
 
   pub loss-leaves-finite : endRefusal (batteryHeatLoss b .part .end) ≡ 0 → zonesFinite (batteryHeatLoss b .zones) (b .card .layers) ≡ true
   unfolding batteryHeatLoss lossEnded outcomeOf
-  loss-leaves-finite e = substep-finite (b .card) (derived (b .card)) (lossDrive (b .card)) (b .zones) (answers-faultless _ e)
+  loss-leaves-finite e = substep-finite (b .card) (derived (b .card)) (saltAt (saltsOf (b .card))) (lossDrive (b .card)) (b .zones) (answers-faultless _ e)
 
   module _ (h : zonesFinite (b .zones) (b .card .layers) ≡ true) where
     hydronic-finite : (wet : Exchanger) (target : Float) → Finite (b .card .layers) (chargeHydronic b wet target .zones)
     unfolding chargeHydronic hydronicEnded hydronicTask hydronicStart
     hydronic-finite wet target =
         let x = hydronicTask (b .card) wet target in
-        hydronic-run-finite x (wholeSubsteps x) 0 (zoned (hydronicStart (b .card) wet) (b .zones)) h
+        hydronic-run-finite x (saltAt (saltsOf (b .card))) (wholeSubsteps x) 0 (zoned (hydronicStart (b .card) wet) (b .zones)) h
 
     pub charge-leaves-finite :
         (source : Source) (target : Float) → endRefusal (chargeBattery b source target .part .end) ≡ 0 →
@@ -190,7 +192,7 @@ module _ (b : Battery) where
     -- however it ended
     pub demand-leaves-finite : (d : Demand) (feed : Float) → zonesFinite (demandRan b d feed .zones) (b .card .layers) ≡ true
     unfolding demandEnded demandTask demandStart
-    demand-leaves-finite d feed = demand-run-finite (demandTask (ledgerOf b) d feed) (b .card .budget) 0 (zoned (demandStart (ledgerOf b)) (b .zones)) h
+    demand-leaves-finite d feed = demand-run-finite (demandTask (ledgerOf b) d feed) (saltAt (saltsOf (b .card))) (b .card .budget) 0 (zoned (demandStart (ledgerOf b)) (b .zones)) h
 
 -- where the run's zones lie apart, those that it left
 pub left-finite :

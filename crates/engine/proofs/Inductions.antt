@@ -6,6 +6,7 @@ use lib.Dec.{T, eqb, eqb→eq}
 use lib.Ieee.{lt}
 use Rattle.floats.specs.Constants as Constants
 use Rattle.logic.proofs.Branch.{by-test}
+use Rattle.zone.specs.declared.Salt.{Salt}
 use Rattle.delivery.specs.declared.DemandTask.{DemandTask}
 use Rattle.delivery.specs.declared.PaceEnd.{PaceEnd}
 use Rattle.delivery.specs.declared.Pace.{Pace}
@@ -22,46 +23,46 @@ use Rattle.runs.specs.Zoned.{Zoned, onPart}
 
 -- of the substeps left, those done, the run and its end
 module _
-    (x : DemandTask) (P : ℕ → ℕ → Zoned Pace → Zoned PaceEnd → Type 0)
+    (x : DemandTask) (salts : ℕ → Salt) (P : ℕ → ℕ → Zoned Pace → Zoned PaceEnd → Type 0)
     (no-step : (k n : ℕ) (s : Zoned Pace) → P k n s (demandEnd s NoStep n))
     (over : (n : ℕ) (s : Zoned Pace) → T (lt Constants.zero (s .part .step)) → P zero n s (demandEnd s OverBudget n))
-    (stop : (k n : ℕ) (s : Zoned Pace) (e : End) → demandSubstep x s .part .next ≡ Stop e → P (suc k) n s (demandEnd (onPart turnPace (demandSubstep x s)) e (n + 1)))
-    (on : (k n : ℕ) (s : Zoned Pace) (d : Zoned PaceEnd) → demandSubstep x s .part .next ≡ On → P k (n + 1) (onPart turnPace (demandSubstep x s)) d → P (suc k) n s d) where
+    (stop : (k n : ℕ) (s : Zoned Pace) (e : End) → demandSubstep x salts s .part .next ≡ Stop e → P (suc k) n s (demandEnd (onPart turnPace (demandSubstep x salts s)) e (n + 1)))
+    (on : (k n : ℕ) (s : Zoned Pace) (d : Zoned PaceEnd) → demandSubstep x salts s .part .next ≡ On → P k (n + 1) (onPart turnPace (demandSubstep x salts s)) d → P (suc k) n s d) where
   demand-turned :
-      (k n : ℕ) (s : Zoned Pace) → P k (n + 1) (onPart turnPace (demandSubstep x s)) (demandRun x k (n + 1) (onPart turnPace (demandSubstep x s))) →
-      (e : Next) → demandSubstep x s .part .next ≡ e → P (suc k) n s (demandThen (demandRun x k (n + 1)) (n + 1) (onPart turnPace (demandSubstep x s)) e)
+      (k n : ℕ) (s : Zoned Pace) → P k (n + 1) (onPart turnPace (demandSubstep x salts s)) (demandRun x salts k (n + 1) (onPart turnPace (demandSubstep x salts s))) →
+      (e : Next) → demandSubstep x salts s .part .next ≡ e → P (suc k) n s (demandThen (demandRun x salts k (n + 1)) (n + 1) (onPart turnPace (demandSubstep x salts s)) e)
   demand-turned k n s r On h = on k n s _ h r
   demand-turned k n s r (Stop e) h = stop k n s e h
 
-  pub demand-induction : (k n : ℕ) (s : Zoned Pace) → P k n s (demandRun x k n s)
+  pub demand-induction : (k n : ℕ) (s : Zoned Pace) → P k n s (demandRun x salts k n s)
   unfolding demandRun
   demand-induction zero n s = by-test (P zero n s) (lt Constants.zero (s .part .step)) _ _ (over n s) (λ h. no-step zero n s)
   demand-induction (suc k) n s =
       by-test (P (suc k) n s) (lt Constants.zero (s .part .step)) _ _
-      (λ h. demand-turned k n s (demand-induction k (n + 1) (onPart turnPace (demandSubstep x s))) (demandSubstep x s .part .next) refl)
+      (λ h. demand-turned k n s (demand-induction k (n + 1) (onPart turnPace (demandSubstep x salts s))) (demandSubstep x salts s .part .next) refl)
       (λ h. no-step (suc k) n s)
 
 -- of the whole substeps left, the substeps done, the run and its end
 module _
-    (x : HydronicTask) (P : ℕ → ℕ → Zoned WetPace → Zoned WetEnd → Type 0)
+    (x : HydronicTask) (salts : ℕ → Salt) (P : ℕ → ℕ → Zoned WetPace → Zoned WetEnd → Type 0)
     (time : (n : ℕ) (s : Zoned WetPace) → P zero n s (hydronicEnd s Time n))
     (over : (k n : ℕ) (s : Zoned WetPace) → n ≡ x .card .budget → P (suc k) n s (hydronicEnd s OverBudget n))
-    (stop : (k n : ℕ) (s : Zoned WetPace) (e : End) → (n ≡ x .card .budget → ⊥) → hydronicStep x n s .part .next ≡ Stop e →
-    P (suc k) n s (hydronicEnd (onPart wetPace (hydronicStep x n s)) e (hydronicStep x n s .part .substeps)))
-    (on : (k n : ℕ) (s : Zoned WetPace) (d : Zoned WetEnd) → (n ≡ x .card .budget → ⊥) → hydronicStep x n s .part .next ≡ On →
-    P k (hydronicStep x n s .part .substeps) (onPart wetPace (hydronicStep x n s)) d → P (suc k) n s d) where
+    (stop : (k n : ℕ) (s : Zoned WetPace) (e : End) → (n ≡ x .card .budget → ⊥) → hydronicStep x salts n s .part .next ≡ Stop e →
+    P (suc k) n s (hydronicEnd (onPart wetPace (hydronicStep x salts n s)) e (hydronicStep x salts n s .part .substeps)))
+    (on : (k n : ℕ) (s : Zoned WetPace) (d : Zoned WetEnd) → (n ≡ x .card .budget → ⊥) → hydronicStep x salts n s .part .next ≡ On →
+    P k (hydronicStep x salts n s .part .substeps) (onPart wetPace (hydronicStep x salts n s)) d → P (suc k) n s d) where
   hydronic-turned :
       (k n : ℕ) (s : Zoned WetPace) → (n ≡ x .card .budget → ⊥) →
-      P k (hydronicStep x n s .part .substeps) (onPart wetPace (hydronicStep x n s)) (hydronicRun x k (hydronicStep x n s .part .substeps) (onPart wetPace (hydronicStep x n s))) →
-      (e : Next) → hydronicStep x n s .part .next ≡ e → P (suc k) n s (hydronicThen (hydronicRun x k) (onPart wetPace (hydronicStep x n s)) e (hydronicStep x n s .part .substeps))
+      P k (hydronicStep x salts n s .part .substeps) (onPart wetPace (hydronicStep x salts n s)) (hydronicRun x salts k (hydronicStep x salts n s .part .substeps) (onPart wetPace (hydronicStep x salts n s))) →
+      (e : Next) → hydronicStep x salts n s .part .next ≡ e → P (suc k) n s (hydronicThen (hydronicRun x salts k) (onPart wetPace (hydronicStep x salts n s)) e (hydronicStep x salts n s .part .substeps))
   hydronic-turned k n s q r On h = on k n s _ q h r
   hydronic-turned k n s q r (Stop e) h = stop k n s e q h
 
-  pub hydronic-induction : (k n : ℕ) (s : Zoned WetPace) → P k n s (hydronicRun x k n s)
+  pub hydronic-induction : (k n : ℕ) (s : Zoned WetPace) → P k n s (hydronicRun x salts k n s)
   unfolding hydronicRun
   hydronic-induction zero n s = time n s
   hydronic-induction (suc k) n s =
       by-test (P (suc k) n s) (eqb n (x .card .budget)) _ _
       (λ h. over k n s (eqb→eq n (x .card .budget) h))
       (λ h. hydronic-turned k n s (eqb-false n (x .card .budget) h)
-      (hydronic-induction k (hydronicStep x n s .part .substeps) (onPart wetPace (hydronicStep x n s))) (hydronicStep x n s .part .next) refl)
+      (hydronic-induction k (hydronicStep x salts n s .part .substeps) (onPart wetPace (hydronicStep x salts n s))) (hydronicStep x salts n s .part .next) refl)

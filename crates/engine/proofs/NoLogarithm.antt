@@ -7,7 +7,8 @@ use native.Mathlib.Omega.{arith}
 use lib.Ieee.{Float, le}
 use Rattle.floats.specs.Constants.{tolerance}
 use Rattle.water.specs.declared.Mode.the-variants.{OnlyCharging, Losses, Normal}
-use Rattle.card.specs.Derived.{derived}
+use Rattle.zone.specs.Layer.{saltAt}
+use Rattle.card.specs.Derived.{saltsOf, derived}
 use Rattle.battery.specs.Ledger.{ledgerOf}
 use Rattle.battery.specs.declared.Battery.{Battery}
 use Rattle.battery.specs.declared.Given.the-variants.{Value}
@@ -85,10 +86,10 @@ module _ (f : Fault) (some : f ≡ Nothing → ⊥) where
 
   demand-faulty :
       (b : Battery) (d : Demand) (feed : Float) → endFault (demandRan b d feed .part .end) ≡ f →
-      demandFromRun (demandTask (ledgerOf b) d feed) (onPart endPace (demandRunOf b d feed)) .fault ≡ f
+      demandFromRun (demandTask (ledgerOf b) d feed) (saltAt (saltsOf (b .card))) (onPart endPace (demandRunOf b d feed)) .fault ≡ f
   unfolding demandEnded
   demand-faulty b d feed h =
-      demand-run-faults (demandTask (ledgerOf b) d feed) (b .card .budget) 0 (zoned (demandStart (ledgerOf b)) (b .zones)) (λ z. some (sym h ∙ z)) ∙ h
+      demand-run-faults (demandTask (ledgerOf b) d feed) (saltAt (saltsOf (b .card))) (b .card .budget) 0 (zoned (demandStart (ledgerOf b)) (b .zones)) (λ z. some (sym h ∙ z)) ∙ h
 
   demand-ended : (b : Battery) (d : Demand) (feed : Float) → endFault (demandRan b d feed .part .end) ≡ f → demandRunOf b d feed .part .end ≡ faultEnd f
   unfolding demandEnded
@@ -105,7 +106,7 @@ module _ (f : Fault) (some : f ≡ Nothing → ⊥) where
         feed = feed;
         given = given;
         ended = demand-ended b d feed h;
-        fault = substep-fault (b .card) (derived (b .card)) (demandDrive (demandTask (ledgerOf b) d feed) (e .part .pace)) (e .zones) f some (demand-faulty b d feed h);
+        fault = substep-fault (b .card) (derived (b .card)) (saltAt (saltsOf (b .card))) (demandDrive (demandTask (ledgerOf b) d feed) (e .part .pace)) (e .zones) f some (demand-faulty b d feed h);
       }
 
   pub hydronic-faults : (b : Battery) (h : Hydronic) → endFault (chargeBattery b (wetSource h) (h .target) .part .end) ≡ f → HydronicFaulted f b h
@@ -114,7 +115,7 @@ module _ (f : Fault) (some : f ≡ Nothing → ⊥) where
       let x = hydronicTaskOf b h in
       record {
         ended = end-of-fault (hydronicRunOf b h .part .end) e;
-        fault = rw e at (hydronic-run-faults x (wholeSubsteps x) 0 (zoned (hydronicStart (b .card) (wetOf h)) (b .zones)) (λ z. some (sym e ∙ z)));
+        fault = rw e at (hydronic-run-faults x (saltAt (saltsOf (b .card))) (wholeSubsteps x) 0 (zoned (hydronicStart (b .card) (wetOf h)) (b .zones)) (λ z. some (sym e ∙ z)));
       }
 
 pub some-logarithm : Logarithm ≡ Nothing → ⊥
@@ -144,13 +145,13 @@ module _ (b : Battery) where
   electric-24 : (power target : Float) → endFault (chargeBattery b (Electric power) target .part .end) ≡ Logarithm → ⊥
   unfolding chargeBattery chargeElectric electricEnded electricDrive outcomeOf
   electric-24 power target h =
-      let m = logarithm-only (b .card) (derived (b .card)) (electricDrive (ledgerOf b) power target) (b .zones) (sym (fault-of-end _) ∙ h) .normal in
+      let m = logarithm-only (b .card) (derived (b .card)) (saltAt (saltsOf (b .card))) (electricDrive (ledgerOf b) power target) (b .zones) (sym (fault-of-end _) ∙ h) .normal in
       modes-apart m
 
   loss-24 : endFault (batteryHeatLoss b .part .end) ≡ Logarithm → ⊥
   unfolding batteryHeatLoss lossEnded lossDrive outcomeOf
   loss-24 h =
-      let m = logarithm-only (b .card) (derived (b .card)) (lossDrive (b .card)) (b .zones) (sym (fault-of-end _) ∙ h) .normal in
+      let m = logarithm-only (b .card) (derived (b .card)) (saltAt (saltsOf (b .card))) (lossDrive (b .card)) (b .zones) (sym (fault-of-end _) ∙ h) .normal in
       losses-apart m
 
 why-24 : (b : Battery) (call : Call) → Why 24 b call → NoLogarithmTaken b call

@@ -4,7 +4,8 @@ use mathlib.Core.Logic.{_⊎_, inl, inr}
 use Prim.Native.Nat.{ℕ}
 use native.Mathlib.Omega.{arith}
 use lib.Ieee.{Float}
-use Rattle.card.specs.Derived.{derived}
+use Rattle.zone.specs.Layer.{saltAt}
+use Rattle.card.specs.Derived.{saltsOf, derived}
 use Rattle.battery.specs.Ledger.{ledgerOf}
 use Rattle.battery.specs.declared.Battery.{Battery}
 use Rattle.battery.specs.declared.Demand.{Demand}
@@ -51,14 +52,14 @@ module _ (b : Battery) where
 
   electric-23 :
       (power target : Float) → endFault (chargeBattery b (Electric power) target .part .end) ≡ NotFinite →
-      SubstepFault NotFinite (b .card) (derived (b .card)) (electricDrive (ledgerOf b) power target) (b .zones)
+      SubstepFault NotFinite (b .card) (derived (b .card)) (saltAt (saltsOf (b .card))) (electricDrive (ledgerOf b) power target) (b .zones)
   unfolding chargeBattery chargeElectric electricEnded outcomeOf
   electric-23 power target h =
-      substep-fault (b .card) (derived (b .card)) (electricDrive (ledgerOf b) power target) (b .zones) NotFinite some-not-finite (sym (fault-of-end _) ∙ h)
+      substep-fault (b .card) (derived (b .card)) (saltAt (saltsOf (b .card))) (electricDrive (ledgerOf b) power target) (b .zones) NotFinite some-not-finite (sym (fault-of-end _) ∙ h)
 
-  loss-23 : endFault (batteryHeatLoss b .part .end) ≡ NotFinite → SubstepFault NotFinite (b .card) (derived (b .card)) (lossDrive (b .card)) (b .zones)
+  loss-23 : endFault (batteryHeatLoss b .part .end) ≡ NotFinite → SubstepFault NotFinite (b .card) (derived (b .card)) (saltAt (saltsOf (b .card))) (lossDrive (b .card)) (b .zones)
   unfolding batteryHeatLoss lossEnded outcomeOf
-  loss-23 h = substep-fault (b .card) (derived (b .card)) (lossDrive (b .card)) (b .zones) NotFinite some-not-finite (sym (fault-of-end _) ∙ h)
+  loss-23 h = substep-fault (b .card) (derived (b .card)) (saltAt (saltsOf (b .card))) (lossDrive (b .card)) (b .zones) NotFinite some-not-finite (sym (fault-of-end _) ∙ h)
 
 why-23 : (b : Battery) (call : Call) → Why 23 b call → NotFiniteFound b call
 why-23 b (DemandEnergy d) w = demand-23 b d w

@@ -11,6 +11,8 @@ use Rattle.floats.specs.Constants.{tolerance}
 use Rattle.logic.proofs.Branch.{by-test}
 use Rattle.zone.specs.declared.StateOfCharge.{StateOfCharge}
 use Rattle.zone.specs.declared.StateOfCharge.the-variants.{Level, Above}
+use Rattle.zone.specs.Layer.{saltAt}
+use Rattle.card.specs.Derived.{saltsOf}
 use Rattle.substep.specs.declared.Fault.{Fault}
 use Rattle.substep.specs.declared.Fault.the-variants.{Nothing, Logarithm, NotFinite}
 use Rattle.battery.specs.Answer.{refusedWith, plainAnswer, answerFinite}
@@ -66,7 +68,7 @@ module _ (b : Battery) (d : Demand) (asked : le (d .required) tolerance ≡ fals
   ran : (feed : Float) → d .feed ≡ Value feed → demandRan b d feed .part .end ≡ OverBudget → DemandUsed b d
   unfolding demandEnded
   ran feed e h =
-      let o = demand-run-over (demandTask (ledgerOf b) d feed) (b .card .budget) 0 (zoned (demandStart (ledgerOf b)) (b .zones)) h in
+      let o = demand-run-over (demandTask (ledgerOf b) d feed) (saltAt (saltsOf (b .card))) (b .card .budget) 0 (zoned (demandStart (ledgerOf b)) (b .zones)) h in
       record { asked = asked; feed = feed; given = e; over = record { ended = o .ended; used = o .used ∙ zero-add (b .card .budget); due = o .due } }
 
   demand-from : (feed : Float) → d .feed ≡ Value feed → demandFrom b d feed .refusal ≡ 22 → DemandUsed b d
@@ -103,7 +105,7 @@ module _ (b : Battery) where
       let r = chargeBattery b (wetSource w) (w .target) in
       let x = hydronicTask (b .card) (wetOf w) (w .target) in
       let e = run-over b (r .part .end) (chargedAnswer b r) (run-answers (r .part) (chargedBattery b r)) h in
-      record { over = rw zero-add at (hydronic-run-over x (wholeSubsteps x) 0 (zoned (hydronicStart (b .card) (wetOf w)) (b .zones)) e) }
+      record { over = rw zero-add at (hydronic-run-over x (saltAt (saltsOf (b .card))) (wholeSubsteps x) 0 (zoned (hydronicStart (b .card) (wetOf w)) (b .zones)) e) }
 
   loss-over : heatLoss b .refusal ≡ 22 → ⊥
   unfolding heatLoss batteryHeatLoss lossEnded

@@ -10,10 +10,10 @@ use Rattle.floats.specs.F64.{_⊕_, _⊘_}
 use Rattle.floats.specs.Constants.{one, tolerance}
 use Rattle.floats.specs.Standins.{min}
 use Rattle.logic.proofs.Branch.{by-test}
-use Rattle.zone.specs.Layer.{storedEnergy, levelOf, stateOfCharge}
+use Rattle.zone.specs.Layer.{saltAt, storedEnergy, levelOf, stateOfCharge}
 use Rattle.zone.specs.declared.StateOfCharge.{StateOfCharge}
 use Rattle.zone.specs.declared.StateOfCharge.the-variants.{Level, Above}
-use Rattle.card.specs.Derived.{derived}
+use Rattle.card.specs.Derived.{saltsOf, storedMaximum}
 use Rattle.battery.specs.declared.Battery.{Battery}
 use Rattle.battery.specs.declared.Demand.{Demand}
 use Rattle.battery.specs.declared.Answer.{Answer}
@@ -37,7 +37,7 @@ level-above soc =
 above-full : (b : Battery) → level b ≡ Above → AboveFull b
 unfolding level stateOfCharge
 above-full b h =
-    record { above = h; passed = level-above (storedEnergy (derived (b .card) .salt) (b .card .reference) (b .zones) (b .card .layers) .0 ⊘ derived (b .card) .stored .0) h }
+    record { above = h; passed = level-above (storedEnergy (saltAt (saltsOf (b .card))) (b .card .reference) (b .zones) (b .card .layers) .0 ⊘ storedMaximum (saltsOf (b .card)) (b .card) .0) h }
 
 -- no run ends so
 end-not-full : (e : End) → endRefusal e ≡ 25 → ⊥

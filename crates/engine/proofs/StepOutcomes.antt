@@ -9,7 +9,8 @@ use Rattle.floats.specs.Constants.{zero, tolerance}
 use Rattle.logic.proofs.Branch.{by-test, at-not}
 use Rattle.zone.specs.declared.StateOfCharge.{StateOfCharge}
 use Rattle.zone.specs.declared.StateOfCharge.the-variants.{Level, Above}
-use Rattle.card.specs.Derived.{derived}
+use Rattle.zone.specs.Layer.{saltAt}
+use Rattle.card.specs.Derived.{saltsOf, derived}
 use Rattle.battery.specs.Answer.{plainAnswer}
 use Rattle.battery.specs.Kinds.{isCharge, onlyAsks}
 use Rattle.battery.specs.Ledger.{ledgerOf}
@@ -45,21 +46,21 @@ module _ (b : Battery) where
   demand-ended : (d : Demand) (feed : Float) → EndedKept b (demandRan b d feed)
   unfolding demandEnded demandTask demandStart
   demand-ended d feed =
-      let n = demand-run-count (demandTask (ledgerOf b) d feed) (b .card .budget) 0 (zoned (demandStart (ledgerOf b)) (b .zones)) in
-      record { above = demand-run-above (demandTask (ledgerOf b) d feed) (b .card .budget) 0 (zoned (demandStart (ledgerOf b)) (b .zones)); substeps = λ h. omega arith }
+      let n = demand-run-count (demandTask (ledgerOf b) d feed) (saltAt (saltsOf (b .card))) (b .card .budget) 0 (zoned (demandStart (ledgerOf b)) (b .zones)) in
+      record { above = demand-run-above (demandTask (ledgerOf b) d feed) (saltAt (saltsOf (b .card))) (b .card .budget) 0 (zoned (demandStart (ledgerOf b)) (b .zones)); substeps = λ h. omega arith }
 
   electric-ended : (power target : Float) → EndedKept b (chargeElectric b power target)
   unfolding chargeElectric electricEnded
   electric-ended power target =
-      record { above = substep-above (b .card) (derived (b .card)) (electricDrive (ledgerOf b) power target) (b .zones); substeps = λ h. h }
+      record { above = substep-above (b .card) (derived (b .card)) (saltAt (saltsOf (b .card))) (electricDrive (ledgerOf b) power target) (b .zones); substeps = λ h. h }
 
   hydronic-ended : (wet : Exchanger) (target : Float) → EndedKept b (chargeHydronic b wet target)
   unfolding chargeHydronic hydronicEnded hydronicTask hydronicStart
   hydronic-ended wet target =
       let x = hydronicTask (b .card) wet target in
       record {
-        above = hydronic-run-above x (wholeSubsteps x) 0 (zoned (hydronicStart (b .card) wet) (b .zones));
-        substeps = λ h. hydronic-run-count x (wholeSubsteps x) 0 (zoned (hydronicStart (b .card) wet) (b .zones)) (omega arith);
+        above = hydronic-run-above x (saltAt (saltsOf (b .card))) (wholeSubsteps x) 0 (zoned (hydronicStart (b .card) wet) (b .zones));
+        substeps = λ h. hydronic-run-count x (saltAt (saltsOf (b .card))) (wholeSubsteps x) 0 (zoned (hydronicStart (b .card) wet) (b .zones)) (omega arith);
       }
 
   charge-ended : (source : Source) (target : Float) → EndedKept b (chargeBattery b source target)
@@ -69,7 +70,7 @@ module _ (b : Battery) where
 
   loss-ended : EndedKept b (batteryHeatLoss b)
   unfolding batteryHeatLoss lossEnded
-  loss-ended = record { above = substep-above (b .card) (derived (b .card)) (lossDrive (b .card)) (b .zones); substeps = λ h. h }
+  loss-ended = record { above = substep-above (b .card) (derived (b .card)) (saltAt (saltsOf (b .card))) (lossDrive (b .card)) (b .zones); substeps = λ h. h }
 
 module _ (b : Battery) (d : Demand) where
   demand-kept : (r : Zoned Stopped) → EndedKept b r → Kept b false (not (d .commit)) (demandAnswer b d r)

@@ -8,6 +8,7 @@ use lib.Ieee.{Float, lt, neg}
 use Rattle.floats.specs.F64.{_⊕_}
 use Rattle.floats.specs.Constants as Constants
 use Rattle.logic.proofs.Branch.{by-test}
+use Rattle.zone.specs.declared.Salt.{Salt}
 use Rattle.zone.specs.Heat.{kj, kwh, kilowattHours}
 use Rattle.battery.specs.Places.{SameAbove}
 use Rattle.battery.proofs.Zones.{same-above}
@@ -55,9 +56,9 @@ demand-by x s u h Nothing = record { above = h; within = demand-delivered x (s .
 demand-by x s u h Logarithm = record { above = same-above (x .card .layers) (s .zones); within = λ e. never (cc) }
 demand-by x s u h NotFinite = record { above = same-above (x .card .layers) (s .zones); within = λ e. never (cc) }
 
-pub demand-keeps : (x : DemandTask) (s : Zoned Pace) → DemandKeeps x s (demandSubstep x s)
+pub demand-keeps : (x : DemandTask) (salts : ℕ → Salt) (s : Zoned Pace) → DemandKeeps x s (demandSubstep x salts s)
 unfolding demandSubstep
-demand-keeps x s = demand-by x s _ (substep-above (x .card) (x .pcm) (demandDrive x (s .part)) (s .zones)) _
+demand-keeps x salts s = demand-by x s _ (substep-above (x .card) (x .pcm) salts (demandDrive x (s .part)) (s .zones)) _
 
 -- the turn t behind s: n substeps are done, u the last of them
 pub record HydronicKeeps (x : HydronicTask) (n : ℕ) (s : Zoned WetPace) (u : Substep) (t : Zoned WetTurn) : Type 0 where
@@ -67,7 +68,7 @@ pub record HydronicKeeps (x : HydronicTask) (n : ℕ) (s : Zoned WetPace) (u : S
   pub same : t .part .next ≡ Stop OverBudget → onPart wetPace t ≡ s
   pub due : t .part .next ≡ Stop OverBudget → FractionDue x (s .part) u
 
-module _ (x : HydronicTask) (n : ℕ) (s : Zoned WetPace) where
+module _ (x : HydronicTask) (salts : ℕ → Salt) (n : ℕ) (s : Zoned WetPace) where
   -- the fractional substep, where it is due
   module _ (u : Substep) (f : FractionDue x (s .part) u) (seconds reynold : Float) where
     replay-by :
@@ -80,13 +81,13 @@ module _ (x : HydronicTask) (n : ℕ) (s : Zoned WetPace) where
     replay-by v h q NotFinite =
         record { above = same-above (x .card .layers) (s .zones); count = λ b. omega arith; used = λ e. never (cc); same = λ e. refl; due = λ e. f }
 
-    replay-keeps : HydronicKeeps x n s u (replayed x n s seconds reynold)
+    replay-keeps : HydronicKeeps x n s u (replayed x salts n s seconds reynold)
     unfolding replayed outcomeOf
     replay-keeps =
-        let v = processHeatBatteryZones (x .card) (x .pcm) (wetDrive x seconds reynold) (s .zones) in
+        let v = processHeatBatteryZones (x .card) (x .pcm) salts (wetDrive x seconds reynold) (s .zones) in
         by-test (HydronicKeeps x n s u) (eqb n (x .card .budget)) _ _
         (λ h. record { above = same-above (x .card .layers) (s .zones); count = λ b. b; used = λ e. eqb→eq n (x .card .budget) h; same = λ e. refl; due = λ e. f })
-        (λ h. replay-by v (substep-above (x .card) (x .pcm) (wetDrive x seconds reynold) (s .zones)) (eqb-false n (x .card .budget) h) (v .fault))
+        (λ h. replay-by v (substep-above (x .card) (x .pcm) salts (wetDrive x seconds reynold) (s .zones)) (eqb-false n (x .card .budget) h) (v .fault))
 
   module _ (u : Substep) where
     -- a turn of n substeps that does not end for the budget's sake
@@ -94,7 +95,7 @@ module _ (x : HydronicTask) (n : ℕ) (s : Zoned WetPace) where
         (t : Zoned WetTurn) → SameAbove (x .card .layers) (s .zones) (t .zones) → t .part .substeps ≡ n → (t .part .next ≡ Stop OverBudget → ⊥) → HydronicKeeps x n s u t
     n-substeps t h m q = record { above = h; count = λ b. omega arith; used = λ e. absurd (q e); same = λ e. absurd (q e); due = λ e. absurd (q e) }
 
-    hydronic-whole : SameAbove (x .card .layers) (s .zones) (u .zones) → u .fault ≡ Nothing → HydronicKeeps x n s u (hydronicWhole x n s (outcome u))
+    hydronic-whole : SameAbove (x .card .layers) (s .zones) (u .zones) → u .fault ≡ Nothing → HydronicKeeps x n s u (hydronicWhole x salts n s (outcome u))
     unfolding hydronicWhole outcomeOf
     hydronic-whole h w =
         let reynold = reynoldBetween (x .wet .inlet) (u .outlet) (x .wet .velocity) (x .wet .diameter) in
@@ -108,13 +109,13 @@ module _ (x : HydronicTask) (n : ℕ) (s : Zoned WetPace) where
         (λ b. n-substeps _ h refl (λ e. never (cc))))
         (λ a. n-substeps _ h refl (λ e. never (cc)))
 
-    hydronic-by : SameAbove (x .card .layers) (s .zones) (u .zones) → (f : Fault) → u .fault ≡ f → HydronicKeeps x n s u (hydronicBy x n s (outcome u) f)
+    hydronic-by : SameAbove (x .card .layers) (s .zones) (u .zones) → (f : Fault) → u .fault ≡ f → HydronicKeeps x n s u (hydronicBy x salts n s (outcome u) f)
     unfolding hydronicBy
     hydronic-by h Nothing w = hydronic-whole h w
     hydronic-by h Logarithm w = n-substeps _ (same-above (x .card .layers) (s .zones)) refl (λ e. never (cc))
     hydronic-by h NotFinite w = n-substeps _ (same-above (x .card .layers) (s .zones)) refl (λ e. never (cc))
 
-pub hydronic-keeps : (x : HydronicTask) (n : ℕ) (s : Zoned WetPace) → HydronicKeeps x (n + 1) s (wholeFrom x s) (hydronicStep x n s)
+pub hydronic-keeps : (x : HydronicTask) (salts : ℕ → Salt) (n : ℕ) (s : Zoned WetPace) → HydronicKeeps x (n + 1) s (wholeFrom x salts s) (hydronicStep x salts n s)
 unfolding hydronicStep outcomeOf
-hydronic-keeps x n s =
-    hydronic-by x (n + 1) s (wholeFrom x s) (substep-above (x .card) (x .pcm) (wetDrive x (x .card .substep) (s .part .reynold)) (s .zones)) (wholeFrom x s .fault) refl
+hydronic-keeps x salts n s =
+    hydronic-by x salts (n + 1) s (wholeFrom x salts s) (substep-above (x .card) (x .pcm) salts (wetDrive x (x .card .substep) (s .part .reynold)) (s .zones)) (wholeFrom x salts s .fault) refl

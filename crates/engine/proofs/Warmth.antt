@@ -13,11 +13,12 @@ use Rattle.floats.proofs.Difference.{neg-nonpos}
 use Rattle.floats.proofs.Order.{le-refl, finite-number}
 use Rattle.floats.proofs.Standins.{finite64-finite, max-zero-nonneg}
 use Rattle.zone.specs.Good.{GoodSalt}
-use Rattle.card.specs.Derived.{derived}
+use Rattle.zone.specs.Layer.{saltAt}
+use Rattle.card.specs.Derived.{saltsOf, derived}
 use Rattle.card.specs.Fits.{CardFits}
 use Rattle.ranges.specs.Ranges.{isPower}
 use Rattle.card.proofs.Accepted.{accepted, accepted-layers}
-use Rattle.card.proofs.Salt.{salt-good}
+use Rattle.card.proofs.Salt.{salts-good}
 use Rattle.logic.proofs.Tests.{and-true, holds}
 use Rattle.card.proofs.Within.{power-nonneg}
 use Rattle.battery.specs.Answer.{refusedWith, answerFinite}
@@ -51,9 +52,8 @@ module _ (version : ℕ) (b : Battery) (g : GoodBattery version b) (f : CardFits
   battery-accepted : AcceptedBattery version b
   battery-accepted = accepted-battery version b (g .accepted)
 
-  salt : GoodSalt (derived (b .card) .salt)
-  unfolding derived
-  salt = salt-good version (b .card) (battery-accepted .card) f
+  salts : (j : ℕ) → j < b .card .layers → GoodSalt (saltAt (saltsOf (b .card)) j)
+  salts = salts-good version (b .card) (battery-accepted .card) f
 
   places : b .card .layers ≤ length (b .zones)
   places = let n = accepted-layers version (b .card) (battery-accepted .card) in let p = g .places in omega arith
@@ -71,7 +71,7 @@ module _ (version : ℕ) (b : Battery) (g : GoodBattery version b) (f : CardFits
   loss-warms-none i l =
       let c = accepted version (b .card) (battery-accepted .card) in
       by-refusal (λ (a : Answer). T (le (getD (a .battery .zones) i nan) (getD (b .zones) i nan))) b (batteryHeatLoss b .part .end) _
-      (losses-warm-none (b .card) (derived (b .card)) (lossDrive (b .card)) (b .zones) salt
+      (losses-warm-none (b .card) (derived (b .card)) (saltAt (saltsOf (b .card))) (lossDrive (b .card)) (b .zones) salts
       (seconds-nonneg (b .card .timestep) (timestep-nonneg (b .card) (c .times))) places finite refl (neg-nonpos (b .card .losses) (losses-nonneg (b .card) (c .powers))) i l)
       (λ n. as-before i l)
 
@@ -81,7 +81,7 @@ module _ (version : ℕ) (b : Battery) (g : GoodBattery version b) (f : CardFits
   unfolding stepOf charge chargeBattery chargeElectric electricEnded runAnswer chargedBattery refusedWith electricDrive callInRange ofBits
   electric-cools-none power target h i l =
       by-refusal (λ (a : Answer). T (le (getD (b .zones) i nan) (getD (a .battery .zones) i nan))) b (chargeBattery b (Electric power) target .part .end) _
-      (charging-cools-none (b .card) (derived (b .card)) (electricDrive (ledgerOf b) power target) (b .zones) salt
+      (charging-cools-none (b .card) (derived (b .card)) (saltAt (saltsOf (b .card))) (electricDrive (ledgerOf b) power target) (b .zones) salts
       (seconds-nonneg (maxZero (timeAvailable (ledgerOf b) zero)) (max-zero-nonneg (timeAvailable (ledgerOf b) zero))) places finite refl
       (power-nonneg power (and-true (isPower power) (isLevel target) h .0)) i l)
       (λ n. as-before i l)

@@ -8,6 +8,9 @@ use lib.Ieee.{Float, lt, le, neg}
 use Rattle.floats.specs.F64.{_⊕_}
 use Rattle.floats.specs.Constants.{zero, tolerance}
 use Rattle.zone.specs.Heat.{kj}
+use Rattle.zone.specs.Layer.{saltAt}
+use Rattle.zone.specs.declared.Salt.{Salt}
+use Rattle.card.specs.Derived.{saltsOf}
 use Rattle.battery.specs.declared.Battery.{Battery}
 use Rattle.battery.specs.declared.Given.the-variants.{Value}
 use Rattle.battery.specs.declared.Demand.{Demand}
@@ -34,8 +37,8 @@ pub record DemandOver (budget : ℕ) (e : PaceEnd) : Type 0 where
   pub due : T (lt zero (e .pace .step))
 
 -- the whole substep from s
-abbrev pub wholeFrom : HydronicTask → Zoned WetPace → Substep
-wholeFrom x s = processHeatBatteryZones (x .card) (x .pcm) (wetDrive x (x .card .substep) (s .part .reynold)) (s .zones)
+abbrev pub wholeFrom : HydronicTask → (ℕ → Salt) → Zoned WetPace → Substep
+wholeFrom x salts s = processHeatBatteryZones (x .card) (x .pcm) salts (wetDrive x (x .card .substep) (s .part .reynold)) (s .zones)
 
 -- behind the whole substep u from s the limit is passed, and its heat is to be cut: the fractional substep is due
 pub record FractionDue (x : HydronicTask) (s : WetPace) (u : Substep) : Type 0 where
@@ -45,10 +48,10 @@ pub record FractionDue (x : HydronicTask) (s : WetPace) (u : Substep) : Type 0 w
   pub heat : T (lt zero (neg (u .delivered .0)))
 
 -- a hydronic run of so many whole substeps: one of them is left, or the fractional one behind the last
-pub record HydronicOver (x : HydronicTask) (steps : ℕ) (e : Zoned WetEnd) : Type 0 where
+pub record HydronicOver (x : HydronicTask) (salts : ℕ → Salt) (steps : ℕ) (e : Zoned WetEnd) : Type 0 where
   pub ended : e .part .end ≡ OverBudget
   pub used : e .part .substeps ≡ x .card .budget
-  pub due : (x .card .budget < steps) ⊎ FractionDue x (e .part .pace) (wholeFrom x (onPart wetEndPace e))
+  pub due : (x .card .budget < steps) ⊎ FractionDue x (e .part .pace) (wholeFrom x salts (onPart wetEndPace e))
 
 -- the call's run
 pub record DemandUsed (b : Battery) (d : Demand) : Type 0 where
@@ -61,10 +64,10 @@ abbrev pub hydronicTaskOf : Battery → Hydronic → HydronicTask
 hydronicTaskOf b h = hydronicTask (b .card) (wetOf h) (h .target)
 
 abbrev pub hydronicRunOf : Battery → Hydronic → Zoned WetEnd
-hydronicRunOf b h = hydronicRun (hydronicTaskOf b h) (wholeSubsteps (hydronicTaskOf b h)) 0 (zoned (hydronicStart (b .card) (wetOf h)) (b .zones))
+hydronicRunOf b h = hydronicRun (hydronicTaskOf b h) (saltAt (saltsOf (b .card))) (wholeSubsteps (hydronicTaskOf b h)) 0 (zoned (hydronicStart (b .card) (wetOf h)) (b .zones))
 
 pub record HydronicUsed (b : Battery) (h : Hydronic) : Type 0 where
-  pub over : HydronicOver (hydronicTaskOf b h) (wholeSubsteps (hydronicTaskOf b h)) (hydronicRunOf b h)
+  pub over : HydronicOver (hydronicTaskOf b h) (saltAt (saltsOf (b .card))) (wholeSubsteps (hydronicTaskOf b h)) (hydronicRunOf b h)
 
 abbrev pub BudgetUsed : Battery → Call → Type 0
 BudgetUsed b (DemandEnergy d) = DemandUsed b d

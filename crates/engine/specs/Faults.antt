@@ -1,4 +1,5 @@
 -- Refusals 23, 24 and 25: the substep or the answer that is refused, and its test.
+use Prim.Native.Nat.{ℕ}
 use mathlib.Core.Path.{_≡_}
 use mathlib.Core.Bool.{true, false}
 use mathlib.Core.List.{List}
@@ -9,11 +10,12 @@ use Rattle.floats.specs.Constants.{zero, one, tolerance, smallestNormal, larges
 use Rattle.floats.specs.Sum2.{sum2}
 use Rattle.floats.specs.declared.Log.the-variants.{Value}
 use Rattle.zone.specs.Heat.{kj}
-use Rattle.zone.specs.Layer.{storedEnergy}
+use Rattle.zone.specs.Layer.{saltAt, storedEnergy}
 use Rattle.zone.specs.declared.Kilojoules.{Kilojoules}
+use Rattle.zone.specs.declared.Salt.{Salt}
 use Rattle.water.specs.declared.Mode.the-variants.{Normal}
 use Rattle.zone.specs.declared.StateOfCharge.the-variants.{Level, Above}
-use Rattle.card.specs.Derived.{derived}
+use Rattle.card.specs.Derived.{saltsOf, storedMaximum, derived}
 use Rattle.card.specs.declared.Card.{Card}
 use Rattle.card.specs.declared.HeatBatteryPcm.{HeatBatteryPcm}
 use Rattle.battery.specs.Answer.{plainAnswer, answerFinite}
@@ -47,7 +49,7 @@ use Rattle.engine.specs.Budget.{wholeFrom, FractionDue, hydronicTaskOf, 
 -- '25 state of charge above 1.0 + 1e-10'
 pub record AboveFull (b : Battery) : Type 0 where
   pub above : level b ≡ Above
-  pub passed : lt (one ⊕ tolerance) (storedEnergy (derived (b .card) .salt) (b .card .reference) (b .zones) (b .card .layers) .0 ⊘ derived (b .card) .stored .0) ≡ true
+  pub passed : lt (one ⊕ tolerance) (storedEnergy (saltAt (saltsOf (b .card))) (b .card .reference) (b .zones) (b .card .layers) .0 ⊘ storedMaximum (saltsOf (b .card)) (b .card) .0) ≡ true
 
 abbrev pub OverFull : Battery → Call → Type 0
 OverFull b (DemandEnergy d) = ⊥
@@ -64,25 +66,25 @@ pub record ArgumentRefused (d : Drive) : Type 0 where
   pub argument : (le smallestNormal (d .reynold ⊗ d .flow) ≡ false) ⊎ (le (d .reynold ⊗ d .flow) largestFinite ≡ false)
 
 -- the zones' pass of a substep with the heat transfer u
-abbrev pub passOf : Card → HeatBatteryPcm → Drive → List Float → Float → Pass
-passOf c pcm d zones u = zonesAfter (courseOf c pcm d u) (c .layers) (c .layers) (passFrom d zones)
+abbrev pub passOf : Card → HeatBatteryPcm → (ℕ → Salt) → Drive → List Float → Float → Pass
+passOf c pcm salts d zones u = zonesAfter (courseOf c pcm d u) salts (c .layers) (c .layers) (passFrom d zones)
 
 -- '23 after a substep a zone, outlet, delivered sum or charged energy is not finite'
-pub record PassNotFinite (c : Card) (pcm : HeatBatteryPcm) (d : Drive) (zones : List Float) : Type 0 where
+pub record PassNotFinite (c : Card) (pcm : HeatBatteryPcm) (salts : ℕ → Salt) (d : Drive) (zones : List Float) : Type 0 where
   pub transfer : Float
   pub taken : zoneTransfer (d .mode) c d ≡ Value transfer
-  pub found : passFinite c (passOf c pcm d zones transfer) (kj (sum2 (passOf c pcm d zones transfer .energies) (c .layers))) ≡ false
+  pub found : passFinite c (passOf c pcm salts d zones transfer) (kj (sum2 (passOf c pcm salts d zones transfer .energies) (c .layers))) ≡ false
 
 -- the test of each fault
-abbrev pub FaultTest : Fault → Card → HeatBatteryPcm → Drive → List Float → Type 0
-FaultTest Nothing c pcm d zones = ⊥
-FaultTest Logarithm c pcm d zones = ArgumentRefused d
-FaultTest NotFinite c pcm d zones = PassNotFinite c pcm d zones
+abbrev pub FaultTest : Fault → Card → HeatBatteryPcm → (ℕ → Salt) → Drive → List Float → Type 0
+FaultTest Nothing c pcm salts d zones = ⊥
+FaultTest Logarithm c pcm salts d zones = ArgumentRefused d
+FaultTest NotFinite c pcm salts d zones = PassNotFinite c pcm salts d zones
 
 -- the substep d from these zones has the fault f, at f's test
-pub record SubstepFault (f : Fault) (c : Card) (pcm : HeatBatteryPcm) (d : Drive) (zones : List Float) : Type 0 where
-  pub fault : processHeatBatteryZones c pcm d zones .fault ≡ f
-  pub test : FaultTest f c pcm d zones
+pub record SubstepFault (f : Fault) (c : Card) (pcm : HeatBatteryPcm) (salts : ℕ → Salt) (d : Drive) (zones : List Float) : Type 0 where
+  pub fault : processHeatBatteryZones c pcm salts d zones .fault ≡ f
+  pub test : FaultTest f c pcm salts d zones
 
 -- the heat of the whole substep u, and what is absorbed with it
 abbrev pub heatOf : Substep → Kilojoules
@@ -97,13 +99,13 @@ fractionDrive x s u =
     wetDrive x (fractionSeconds x (absorbedWith s u) (heatOf u)) (reynoldBetween (x .wet .inlet) (u .outlet) (x .wet .velocity) (x .wet .diameter))
 
 -- the fractional substep behind the whole one from s is due and has the fault f
-pub record FractionFault (f : Fault) (x : HydronicTask) (s : Zoned WetPace) : Type 0 where
-  pub due : FractionDue x (s .part) (wholeFrom x s)
-  pub fault : SubstepFault f (x .card) (x .pcm) (fractionDrive x (s .part) (wholeFrom x s)) (s .zones)
+pub record FractionFault (f : Fault) (x : HydronicTask) (salts : ℕ → Salt) (s : Zoned WetPace) : Type 0 where
+  pub due : FractionDue x (s .part) (wholeFrom x salts s)
+  pub fault : SubstepFault f (x .card) (x .pcm) salts (fractionDrive x (s .part) (wholeFrom x salts s)) (s .zones)
 
 -- the whole substep from s has the fault f, or the fractional one behind it
-abbrev pub HydronicFault : Fault → HydronicTask → Zoned WetPace → Type 0
-HydronicFault f x s = SubstepFault f (x .card) (x .pcm) (wetDrive x (x .card .substep) (s .part .reynold)) (s .zones) ⊎ FractionFault f x s
+abbrev pub HydronicFault : Fault → HydronicTask → (ℕ → Salt) → Zoned WetPace → Type 0
+HydronicFault f x salts s = SubstepFault f (x .card) (x .pcm) salts (wetDrive x (x .card .substep) (s .part .reynold)) (s .zones) ⊎ FractionFault f x salts s
 
 -- the call's run ended for the fault f, before the substep that has it
 pub record DemandFaulted (f : Fault) (b : Battery) (d : Demand) : Type 0 where
@@ -112,11 +114,11 @@ pub record DemandFaulted (f : Fault) (b : Battery) (d : Demand) : Type 0 where
   pub given : d .feed ≡ Given.Value feed
   pub ended : demandRunOf b d feed .part .end ≡ faultEnd f
   pub fault :
-      SubstepFault f (b .card) (derived (b .card)) (demandDrive (demandTask (ledgerOf b) d feed) (demandRunOf b d feed .part .pace)) (demandRunOf b d feed .zones)
+      SubstepFault f (b .card) (derived (b .card)) (saltAt (saltsOf (b .card))) (demandDrive (demandTask (ledgerOf b) d feed) (demandRunOf b d feed .part .pace)) (demandRunOf b d feed .zones)
 
 pub record HydronicFaulted (f : Fault) (b : Battery) (h : Hydronic) : Type 0 where
   pub ended : hydronicRunOf b h .part .end ≡ faultEnd f
-  pub fault : HydronicFault f (hydronicTaskOf b h) (onPart wetEndPace (hydronicRunOf b h))
+  pub fault : HydronicFault f (hydronicTaskOf b h) (saltAt (saltsOf (b .card))) (onPart wetEndPace (hydronicRunOf b h))
 
 abbrev pub NoLogarithmTaken : Battery → Call → Type 0
 NoLogarithmTaken b (DemandEnergy d) = DemandFaulted Logarithm b d
@@ -151,13 +153,13 @@ pub record LevelNotFinite (b : Battery) (energy : Float → Float) : Type 0 wher
 abbrev pub NotFiniteFound : Battery → Call → Type 0
 NotFiniteFound b (DemandEnergy d) = DemandFaulted NotFinite b d ⊎ (DemandNotFinite b d ⊎ NoDemandNotFinite b d)
 NotFiniteFound b (ChargeElectric power target) =
-    SubstepFault NotFinite (b .card) (derived (b .card)) (electricDrive (ledgerOf b) power target) (b .zones)
+    SubstepFault NotFinite (b .card) (derived (b .card)) (saltAt (saltsOf (b .card))) (electricDrive (ledgerOf b) power target) (b .zones)
     ⊎ AnswerNotFinite (chargeBattery b (Electric power) target .part .end) (chargedAnswer b (chargeBattery b (Electric power) target))
 NotFiniteFound b (ChargeHydronic h) =
     HydronicFaulted NotFinite b h
     ⊎ AnswerNotFinite (chargeBattery b (wetSource h) (h .target) .part .end) (chargedAnswer b (chargeBattery b (wetSource h) (h .target)))
 NotFiniteFound b HeatLoss =
-    SubstepFault NotFinite (b .card) (derived (b .card)) (lossDrive (b .card)) (b .zones)
+    SubstepFault NotFinite (b .card) (derived (b .card)) (saltAt (saltsOf (b .card))) (lossDrive (b .card)) (b .zones)
     ⊎ AnswerNotFinite (batteryHeatLoss b .part .end) (cooledAnswer b (batteryHeatLoss b))
 NotFiniteFound b CloseTimestep = answerFinite (plainAnswer zero (closedBattery b)) ≡ false
 NotFiniteFound b ReadStateOfCharge = LevelNotFinite b (λ soc. soc)

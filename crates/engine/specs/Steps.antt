@@ -6,10 +6,10 @@ use lib.Ieee.{Float, le}
 use Rattle.floats.specs.F64.{_⊗_, _⊘_}
 use Rattle.floats.specs.Constants.{zero, tolerance, hour}
 use Rattle.zone.specs.Heat.{kwh}
-use Rattle.zone.specs.Layer.{stateOfCharge}
+use Rattle.zone.specs.Layer.{saltAt, stateOfCharge}
 use Rattle.zone.specs.declared.StateOfCharge.{StateOfCharge}
 use Rattle.zone.specs.declared.StateOfCharge.the-variants.{Level, Above}
-use Rattle.card.specs.Derived.{derived}
+use Rattle.card.specs.Derived.{saltsOf, storedMaximum, derived}
 use Rattle.card.specs.declared.Card.{Card}
 use Rattle.battery.specs.Battery.{batteryAccepted}
 use Rattle.call_ranges.specs.Call.{callInRange}
@@ -54,7 +54,7 @@ demandTask l d feed =
 
 -- a demand's substeps, what they hand out, and the answer
 abbrev pub demandRunOf : Battery → Demand → Float → Zoned PaceEnd
-demandRunOf b d feed = demandRun (demandTask (ledgerOf b) d feed) (b .card .budget) 0 (zoned (demandStart (ledgerOf b)) (b .zones))
+demandRunOf b d feed = demandRun (demandTask (ledgerOf b) d feed) (saltAt (saltsOf (b .card))) (b .card .budget) 0 (zoned (demandStart (ledgerOf b)) (b .zones))
 
 abbrev pub demandRan : Battery → Demand → Float → Zoned Stopped
 demandRan b d feed = onPart demandEnded (demandRunOf b d feed)
@@ -90,7 +90,7 @@ abbrev pub closed : Battery → Answer
 closed b = checked b (plainAnswer zero (closedBattery b))
 
 unfoldable pub level : Battery → StateOfCharge
-level b = stateOfCharge (derived (b .card) .salt) (b .card .reference) (derived (b .card) .stored) (b .zones) (b .card .layers)
+level b = stateOfCharge (saltAt (saltsOf (b .card))) (b .card .reference) (storedMaximum (saltsOf (b .card)) (b .card)) (b .zones) (b .card .layers)
 
 -- kind 6: '25 state of charge above 1.0 + 1e-10'
 unfoldable pub readLevel : Battery → StateOfCharge → Answer

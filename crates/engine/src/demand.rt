@@ -10,6 +10,7 @@ use zone::KilowattHours;
 ghost use mathlib.Core.Path.{_≡_};
 ghost use mathlib.Core.Bool.{true, false};
 ghost use Prim.Native.Nat.{_≤_};
+ghost use Rattle.card.specs.Lent.{SaltsLent};
 ghost use Rattle.battery.specs.Battery.{zonesFinite};
 ghost use Rattle.battery.specs.Answer.{settled};
 ghost use Rattle.battery.specs.Ledger.{whole};
@@ -46,23 +47,37 @@ fn demand_task(l: Ledger, d: Demand, feed: f64) -> DemandTask
 }
 
 // The substeps of a demand.
-fn demand_stopped(l: Ledger, d: Demand, feed: f64, zones: &mut [f64; 64]) -> Stopped
-    requires { ⌜ l .card .layers ≤ 64 ⌝ }
+fn demand_stopped(
+    l: Ledger,
+    salts: &[f64],
+    step: usize,
+    d: Demand,
+    feed: f64,
+    zones: &mut [f64; 64],
+) -> Stopped
+    requires { ⌜ (l .card .layers ≤ 64) × SaltsLent (l .card) (now salts) step ⌝ }
     ensures { λ r. ⌜ AsDefined (endRefusal (r .end)) r (now (zones .exit)) (demandRan (whole l (now (zones .entry))) d feed) ⌝ }
 {
     let card = l.card;
     let task = demand_task(l, d, feed);
     let start = replies::demand_start(l);
-    let e = delivery::demand_run(task, card.budget, start, zones);
+    let e = delivery::demand_run(task, salts, step, card.budget, start, zones);
     delivery::demand_ended(e)
 }
 
 // On the battery's own zones.
-fn committed(l: Ledger, d: Demand, feed: f64, zones: &mut [f64; 64]) -> Reply
-    requires { ⌜ (l .card .layers ≤ 64) × (zonesFinite (now zones) (l .card .layers) ≡ true) × (d .commit ≡ true) ⌝ }
+fn committed(
+    l: Ledger,
+    salts: &[f64],
+    step: usize,
+    d: Demand,
+    feed: f64,
+    zones: &mut [f64; 64],
+) -> Reply
+    requires { ⌜ (l .card .layers ≤ 64) × SaltsLent (l .card) (now salts) step × (zonesFinite (now zones) (l .card .layers) ≡ true) × (d .commit ≡ true) ⌝ }
     ensures { λ r. ⌜ settled l (now (zones .entry)) r (now (zones .exit)) ≡ demandAnswered (whole l (now (zones .entry))) d feed ⌝ }
 {
-    let s = demand_stopped(l, d, feed, zones);
+    let s = demand_stopped(l, salts, step, d, feed, zones);
     let card = l.card;
     let class = totals::service_class(card, d.service);
     let totals = totals::served_totals(l, class, s);
@@ -72,20 +87,27 @@ fn committed(l: Ledger, d: Demand, feed: f64, zones: &mut [f64; 64]) -> Reply
 }
 
 // On a copy of the zones.
-fn trial(l: Ledger, d: Demand, feed: f64, zones: &[f64; 64]) -> Reply
-    requires { ⌜ (l .card .layers ≤ 64) × (zonesFinite (now zones) (l .card .layers) ≡ true) × (d .commit ≡ false) ⌝ }
+fn trial(l: Ledger, salts: &[f64], step: usize, d: Demand, feed: f64, zones: &[f64; 64]) -> Reply
+    requires { ⌜ (l .card .layers ≤ 64) × SaltsLent (l .card) (now salts) step × (zonesFinite (now zones) (l .card .layers) ≡ true) × (d .commit ≡ false) ⌝ }
     ensures { λ r. ⌜ settled l (now (zones .entry)) r (now (zones .entry)) ≡ demandAnswered (whole l (now (zones .entry))) d feed ⌝ }
 {
     let mut own = *zones;
-    let s = demand_stopped(l, d, feed, &mut own);
+    let s = demand_stopped(l, salts, step, d, feed, &mut own);
     let totals = l.totals;
     let a = replies::demand_reply(l, s, totals);
     let end = s.end;
     replies::unless_refused(end, a)
 }
 
-fn demand_from(l: Ledger, d: Demand, feed: f64, zones: &mut [f64; 64]) -> Reply
-    requires { ⌜ (l .card .layers ≤ 64) × (zonesFinite (now zones) (l .card .layers) ≡ true) ⌝ }
+fn demand_from(
+    l: Ledger,
+    salts: &[f64],
+    step: usize,
+    d: Demand,
+    feed: f64,
+    zones: &mut [f64; 64],
+) -> Reply
+    requires { ⌜ (l .card .layers ≤ 64) × SaltsLent (l .card) (now salts) step × (zonesFinite (now zones) (l .card .layers) ≡ true) ⌝ }
     ensures { λ r. ⌜ settled l (now (zones .entry)) r (now (zones .exit)) ≡ demandFrom (whole l (now (zones .entry))) d feed ⌝ }
 {
     let card = l.card;
@@ -94,23 +116,36 @@ fn demand_from(l: Ledger, d: Demand, feed: f64, zones: &mut [f64; 64]) -> Reply
         return answers::refused_reply(21);
     }
     if d.commit {
-        return committed(l, d, feed, zones);
+        return committed(l, salts, step, d, feed, zones);
     }
-    trial(l, d, feed, zones)
+    trial(l, salts, step, d, feed, zones)
 }
 
-fn demand_given(l: Ledger, d: Demand, given: Given, zones: &mut [f64; 64]) -> Reply
-    requires { ⌜ (l .card .layers ≤ 64) × (zonesFinite (now zones) (l .card .layers) ≡ true) ⌝ }
+fn demand_given(
+    l: Ledger,
+    salts: &[f64],
+    step: usize,
+    d: Demand,
+    given: Given,
+    zones: &mut [f64; 64],
+) -> Reply
+    requires { ⌜ (l .card .layers ≤ 64) × SaltsLent (l .card) (now salts) step × (zonesFinite (now zones) (l .card .layers) ≡ true) ⌝ }
     ensures { λ r. ⌜ settled l (now (zones .entry)) r (now (zones .exit)) ≡ demandGiven (whole l (now (zones .entry))) d given ⌝ }
 {
     match given {
         Given::Absent => answers::refused_reply(20),
-        Given::Value(feed) => demand_from(l, d, feed, zones),
+        Given::Value(feed) => demand_from(l, salts, step, d, feed, zones),
     }
 }
 
-pub fn demand_energy(l: Ledger, d: Demand, zones: &mut [f64; 64]) -> Reply
-    requires { ⌜ (l .card .layers ≤ 64) × (zonesFinite (now zones) (l .card .layers) ≡ true) ⌝ }
+pub fn demand_energy(
+    l: Ledger,
+    salts: &[f64],
+    step: usize,
+    d: Demand,
+    zones: &mut [f64; 64],
+) -> Reply
+    requires { ⌜ (l .card .layers ≤ 64) × SaltsLent (l .card) (now salts) step × (zonesFinite (now zones) (l .card .layers) ≡ true) ⌝ }
     ensures { λ r. ⌜ settled l (now (zones .entry)) r (now (zones .exit)) ≡ demandEnergy (whole l (now (zones .entry))) d ⌝ }
 {
     if d.required <= floats::TOLERANCE {
@@ -119,5 +154,5 @@ pub fn demand_energy(l: Ledger, d: Demand, zones: &mut [f64; 64]) -> Reply
         return replies::checked(l, a, zones);
     }
     let given = d.feed;
-    demand_given(l, d, given, zones)
+    demand_given(l, salts, step, d, given, zones)
 }

@@ -17,6 +17,7 @@ ghost use mathlib.Core.Bool.{true, false};
 ghost use Prim.Native.Nat.{_≤_};
 ghost use lib.Ieee.{lt};
 ghost use Rattle.floats.specs.Constants.{zero};
+ghost use Rattle.card.specs.Lent.{SaltsLent};
 ghost use Rattle.battery.specs.Battery.{zonesFinite};
 ghost use Rattle.battery.specs.Answer.{settled};
 ghost use Rattle.battery.specs.Ledger.{whole};
@@ -25,39 +26,44 @@ ghost use Rattle.runs.specs.Charge.{lossDrive};
 ghost use Rattle.engine.specs.Asked.{askedOf, askedStep};
 ghost use Rattle.engine.specs.Steps.{charge as chargeOf, heatLoss, closed, level as levelOf, readLevel, demandToLevel, wetSource, advanceOf};
 
-fn charge(l: Ledger, source: Source, target: f64, zones: &mut [f64; 64]) -> Reply
-    requires { ⌜ (l .card .layers ≤ 64) × (zonesFinite (now zones) (l .card .layers) ≡ true) ⌝ }
+fn charge(
+    l: Ledger,
+    salts: &[f64],
+    step: usize,
+    source: Source,
+    target: f64,
+    zones: &mut [f64; 64],
+) -> Reply
+    requires { ⌜ (l .card .layers ≤ 64) × SaltsLent (l .card) (now salts) step × (zonesFinite (now zones) (l .card .layers) ≡ true) ⌝ }
     ensures { λ r. ⌜ settled l (now (zones .entry)) r (now (zones .exit)) ≡ chargeOf (whole l (now (zones .entry))) source target ⌝ }
 {
-    let s = charges::charge_battery(l, source, target, zones);
+    let s = charges::charge_battery(l, salts, step, source, target, zones);
     let totals = totals::charged_totals(l, s);
     let a = replies::run_reply(s, totals);
     let end = s.end;
     replies::unless_refused(end, a)
 }
 
-fn heat_loss(l: Ledger, zones: &mut [f64; 64]) -> Reply
-    requires { ⌜ (l .card .layers ≤ 64) × (lt (chargerHeat (lossDrive (l .card)) .0) zero ≡ false) ⌝ }
+fn heat_loss(l: Ledger, salts: &[f64], step: usize, zones: &mut [f64; 64]) -> Reply
+    requires { ⌜ (l .card .layers ≤ 64) × SaltsLent (l .card) (now salts) step × (lt (chargerHeat (lossDrive (l .card)) .0) zero ≡ false) ⌝ }
     ensures { λ r. ⌜ settled l (now (zones .entry)) r (now (zones .exit)) ≡ heatLoss (whole l (now (zones .entry))) ⌝ }
 {
-    let s = charges::battery_heat_loss(l, zones);
+    let s = charges::battery_heat_loss(l, salts, step, zones);
     let totals = l.totals;
     let a = replies::run_reply(s, totals);
     let end = s.end;
     replies::unless_refused(end, a)
 }
 
-fn level(l: Ledger, zones: &[f64; 64]) -> StateOfCharge
-    requires { ⌜ l .card .layers ≤ 64 ⌝ }
+fn level(l: Ledger, salts: &[f64], step: usize, zones: &[f64; 64]) -> StateOfCharge
+    requires { ⌜ (l .card .layers ≤ 64) × SaltsLent (l .card) (now salts) step ⌝ }
     ensures { λ r. ⌜ r ≡ levelOf (whole l (now (zones .entry))) ⌝ }
 {
     let card = l.card;
-    let pcm = pcm::derived(card);
-    let salt = pcm.salt;
-    let stored = pcm.stored;
+    let stored = pcm::energy_at(card, salts, step, card.max);
     let n = card.layers as usize;
     let own = *zones;
-    zone::layer::calc_state_of_charge(salt, card.reference, stored, own, n)
+    zone::layer::calc_state_of_charge(salts, step, card.reference, stored, own, n)
 }
 
 fn read_level(l: Ledger, level: StateOfCharge, zones: &[f64; 64]) -> Reply
@@ -76,18 +82,20 @@ fn read_level(l: Ledger, level: StateOfCharge, zones: &[f64; 64]) -> Reply
 
 fn demand_to_level(
     l: Ledger,
+    salts: &[f64],
+    step: usize,
     most: Given,
     target: f64,
     level: StateOfCharge,
     zones: &[f64; 64],
 ) -> Reply
-    requires { ⌜ l .card .layers ≤ 64 ⌝ }
+    requires { ⌜ (l .card .layers ≤ 64) × SaltsLent (l .card) (now salts) step ⌝ }
     ensures { λ r. ⌜ settled l (now (zones .entry)) r (now (zones .entry)) ≡ demandToLevel (whole l (now (zones .entry))) most target level ⌝ }
 {
     match level {
         StateOfCharge::Above => answers::refused_reply(25),
         StateOfCharge::Level(soc) => {
-            let energy = charges::calculate_charge_energy_demand(l, most, target, soc);
+            let energy = charges::calculate_charge_energy_demand(l, salts, step, most, target, soc);
             let totals = l.totals;
             let a = answers::plain_reply(energy.0, totals);
             replies::checked(l, a, zones)
@@ -138,39 +146,56 @@ fn close_timestep(l: Ledger, zones: &[f64; 64]) -> Reply
     replies::checked(l, a, zones)
 }
 
-fn state_of_charge(l: Ledger, zones: &[f64; 64]) -> Reply
-    requires { ⌜ l .card .layers ≤ 64 ⌝ }
+fn state_of_charge(l: Ledger, salts: &[f64], step: usize, zones: &[f64; 64]) -> Reply
+    requires { ⌜ (l .card .layers ≤ 64) × SaltsLent (l .card) (now salts) step ⌝ }
     ensures { λ r. ⌜ settled l (now (zones .entry)) r (now (zones .entry)) ≡ readLevel (whole l (now (zones .entry))) (levelOf (whole l (now (zones .entry)))) ⌝ }
 {
-    let soc = level(l, zones);
+    let soc = level(l, salts, step, zones);
     read_level(l, soc, zones)
 }
 
-fn charge_energy_demand(l: Ledger, most: Given, target: f64, zones: &[f64; 64]) -> Reply
-    requires { ⌜ l .card .layers ≤ 64 ⌝ }
+fn charge_energy_demand(
+    l: Ledger,
+    salts: &[f64],
+    step: usize,
+    most: Given,
+    target: f64,
+    zones: &[f64; 64],
+) -> Reply
+    requires { ⌜ (l .card .layers ≤ 64) × SaltsLent (l .card) (now salts) step ⌝ }
     ensures { λ r. ⌜ settled l (now (zones .entry)) r (now (zones .entry)) ≡ demandToLevel (whole l (now (zones .entry))) most target (levelOf (whole l (now (zones .entry)))) ⌝ }
 {
-    let soc = level(l, zones);
-    demand_to_level(l, most, target, soc, zones)
+    let soc = level(l, salts, step, zones);
+    demand_to_level(l, salts, step, most, target, soc, zones)
 }
 
 // The electric and the wet charge are one call of `charge`, so that one copy of it is compiled, in place.
-fn step(l: Ledger, what: Asked, zones: &mut [f64; 64]) -> Reply
-    requires { ⌜ (l .card .layers ≤ 64) × (zonesFinite (now zones) (l .card .layers) ≡ true) × (lt (chargerHeat (lossDrive (l .card)) .0) zero ≡ false) ⌝ }
+fn asked_step(l: Ledger, salts: &[f64], step: usize, what: Asked, zones: &mut [f64; 64]) -> Reply
+    requires { ⌜ (l .card .layers ≤ 64) × SaltsLent (l .card) (now salts) step × (zonesFinite (now zones) (l .card .layers) ≡ true) × (lt (chargerHeat (lossDrive (l .card)) .0) zero ≡ false) ⌝ }
     ensures { λ r. ⌜ settled l (now (zones .entry)) r (now (zones .exit)) ≡ askedStep (whole l (now (zones .entry))) what ⌝ }
 {
     match what {
-        Asked::DemandEnergy(d) => demand::demand_energy(l, d, zones),
-        Asked::Charge(source, target) => charge(l, source, target, zones),
-        Asked::HeatLoss => heat_loss(l, zones),
+        Asked::DemandEnergy(d) => demand::demand_energy(l, salts, step, d, zones),
+        Asked::Charge(source, target) => charge(l, salts, step, source, target, zones),
+        Asked::HeatLoss => heat_loss(l, salts, step, zones),
         Asked::CloseTimestep => close_timestep(l, zones),
-        Asked::ReadStateOfCharge => state_of_charge(l, zones),
-        Asked::ChargeEnergyDemand(most, target) => charge_energy_demand(l, most, target, zones),
+        Asked::ReadStateOfCharge => state_of_charge(l, salts, step, zones),
+        Asked::ChargeEnergyDemand(most, target) => {
+            charge_energy_demand(l, salts, step, most, target, zones)
+        }
     }
 }
 
-// A call on any battery whatsoever, its zones apart: 10, or the steps.
-pub fn advance_in_place(version: u8, l: Ledger, call: Call, zones: &mut [f64; 64]) -> Reply
+// A call on any battery whatsoever, its zones and its salts apart: 10, or the steps.
+pub fn advance_in_place(
+    version: u8,
+    l: Ledger,
+    salts: &[f64],
+    step: usize,
+    call: Call,
+    zones: &mut [f64; 64],
+) -> Reply
+    requires { ⌜ SaltsLent (l .card) (now salts) step ⌝ }
     ensures { λ r. ⌜ settled l (now (zones .entry)) r (now (zones .exit)) ≡ advanceOf version (whole l (now (zones .entry))) call ⌝ }
 {
     let card = l.card;
@@ -179,7 +204,7 @@ pub fn advance_in_place(version: u8, l: Ledger, call: Call, zones: &mut [f64; 64
         call_ranges::call_in_range(version, card, call),
     ) {
         let what = asked(call);
-        return step(l, what, zones);
+        return asked_step(l, salts, step, what, zones);
     }
     answers::refused_reply(10)
 }
@@ -189,8 +214,9 @@ pub fn advance(version: u8, b: Battery, call: Call) -> Answer
     ensures { λ r. ⌜ r ≡ advanceOf version b call ⌝ }
 {
     let l = battery::ledger_of(b);
+    let salts = pcm::figures_of(b.card);
     let mut zones = b.zones;
-    let a = advance_in_place(version, l, call, &mut zones);
+    let a = advance_in_place(version, l, &salts, 0, call, &mut zones);
     if a.refusal == 0 {
         let card = b.card;
         let battery = Battery {

@@ -97,3 +97,16 @@ mul-nonpos-nonneg f (fin s m e) (fin t n d) p h k =
 -- x ≥ 0 and y ≤ 0 give x * y ≤ 0, where it is a number
 pub mul-nonneg-nonpos : (f : Format) (x y : Float) → T (number (mul f x y)) → T (le zero x) → T (le y zero) → T (le (mul f x y) zero)
 mul-nonneg-nonpos f x y p h k = rw (mul-commutes f x y) (mul-nonpos-nonneg f y x (turned f x y p) k h)
+
+-- x ≤ 0 and y ≤ 0 give x * y ≥ 0, where it is a number
+pub mul-nonpos-nonpos : (f : Format) (x y : Float) → T (number (mul f x y)) → T (le x zero) → T (le y zero) → T (le zero (mul f x y))
+mul-nonpos-nonpos f nan y p h k = absurd (mul-nan f y p)
+mul-nonpos-nonpos f (inf false) y p h k = absurd (no-le zero h tt)
+mul-nonpos-nonpos f (inf true) y p h k = rw (inf-times-nonpos f true y p k) (le-top zero tt)
+mul-nonpos-nonpos f (fin s m e) nan p h k = absurd (le-numbers nan zero k .0)
+mul-nonpos-nonpos f (fin s m e) (inf false) p h k = absurd (no-le zero k tt)
+mul-nonpos-nonpos f (fin s m e) (inf true) p h k = rw (mul-commutes f (fin s m e) (inf true), inf-times-nonpos f true (fin s m e) (turned f (fin s m e) (inf true) p) h) (le-top zero tt)
+mul-nonpos-nonpos f (fin s m e) (fin t n d) p h k =
+    let x = fin s m e in
+    let y = fin t n d in
+    product-nonneg f x y tt tt (let r = rearrange (minus x) (plus x) (minus y) (plus y) (nonpos-parts x tt h) (nonpos-parts y tt k) in omega arith)

@@ -1,4 +1,4 @@
-// Document 01, module 6: the substeps of a hydronic charge.
+// Document 01, module 6: the substeps of a hydronic charge. No charger heats during them, so none asks for a target.
 use runs::End;
 use runs::HydronicTask;
 use runs::Next;
@@ -16,7 +16,7 @@ ghost use mathlib.Core.Path.{_≡_};
 ghost use mathlib.Core.Bool.{not};
 ghost use mathlib.Core.List.{List};
 ghost use lib.Ieee.{Float};
-ghost use Rattle.substep.specs.Substep.{targetOf};
+ghost use Rattle.zone.specs.Lent.{zoneSalt, Salted};
 ghost use Rattle.runs.specs.Runs.{endRefusal, nextRefusal};
 ghost use Rattle.runs.specs.Zoned.{zoned, AsDefined};
 ghost use Prim.Native.Nat.{_+_, _≤_, _<_};
@@ -95,19 +95,19 @@ fn replay_by(
     }
 }
 
-// The fractional substep, from the zones before the whole one and with the Reynolds number behind it. `target` is the temperature of the
-// task's level.
+// The fractional substep, from the zones before the whole one and with the Reynolds number behind it.
 fn replayed(
     x: HydronicTask,
+    salts: &[f64],
+    step: usize,
     n: u32,
     s: WetPace,
     seconds: f64,
     reynold: f64,
-    target: f64,
     zones: &mut [f64; 64],
 ) -> WetTurn
-    requires { ⌜ (x .card .layers ≤ 64) × ((n ≤ 65535) × (target ≡ targetOf (x .card) (x .pcm) (x .target))) ⌝ }
-    ensures { λ r. ⌜ AsDefined (nextRefusal (r .next)) r (now (zones .exit)) (replayedOf x n (zoned s (now (zones .entry))) seconds reynold) ⌝ }
+    requires { ⌜ (x .card .layers ≤ 64) × ((n ≤ 65535) × Salted (now salts) step (x .card .layers)) ⌝ }
+    ensures { λ r. ⌜ AsDefined (nextRefusal (r .next)) r (now (zones .exit)) (replayedOf x (zoneSalt (now (salts .entry)) step) n (zoned s (now (zones .entry))) seconds reynold) ⌝ }
 {
     let card = x.card;
     if n == card.budget as u32 {
@@ -119,7 +119,7 @@ fn replayed(
     }
     let drive = wet_drive(x, seconds, reynold);
     let pcm = x.pcm;
-    let u = passes::process_in_place(card, pcm, drive, target, zones);
+    let u = passes::process_in_place(card, pcm, salts, step, drive, 0.0, zones);
     let fault = u.fault;
     replay_by(x, n + 1, s, seconds, reynold, u, fault)
 }
@@ -134,15 +134,16 @@ fn fraction_seconds(x: HydronicTask, absorbed: Kilojoules, this: Kilojoules) -> 
 // What the whole substep u leads to. `before` are the zones that it began with.
 fn hydronic_whole(
     x: HydronicTask,
+    salts: &[f64],
+    step: usize,
     n: u32,
     s: WetPace,
     u: Outcome,
     before: [f64; 64],
-    target: f64,
     zones: &mut [f64; 64],
 ) -> WetTurn
-    requires { ⌜ (x .card .layers ≤ 64) × ((n ≤ 65535) × (target ≡ targetOf (x .card) (x .pcm) (x .target))) ⌝ }
-    ensures { λ r. ⌜ AsDefined (nextRefusal (r .next)) r (now (zones .exit)) (hydronicWhole x n (zoned s before) (zoned u (now (zones .entry)))) ⌝ }
+    requires { ⌜ (x .card .layers ≤ 64) × ((n ≤ 65535) × Salted (now salts) step (x .card .layers)) ⌝ }
+    ensures { λ r. ⌜ AsDefined (nextRefusal (r .next)) r (now (zones .exit)) (hydronicWhole x (zoneSalt (now (salts .entry)) step) n (zoned s before) (zoned u (now (zones .entry)))) ⌝ }
 {
     let wet = x.wet;
     let limit = x.limit;
@@ -160,7 +161,7 @@ fn hydronic_whole(
             if this.0 > 0.0 {
                 let seconds = fraction_seconds(x, absorbed, this);
                 *zones = before;
-                return replayed(x, n, s, seconds, reynold, target, zones);
+                return replayed(x, salts, step, n, s, seconds, reynold, zones);
             }
             return WetTurn {
                 pace,
@@ -188,18 +189,25 @@ fn hydronic_whole(
 }
 
 // One turn behind n substeps.
-fn hydronic_step(x: HydronicTask, n: u32, s: WetPace, target: f64, zones: &mut [f64; 64]) -> WetTurn
-    requires { ⌜ (x .card .layers ≤ 64) × ((n < 65535) × (target ≡ targetOf (x .card) (x .pcm) (x .target))) ⌝ }
-    ensures { λ r. ⌜ AsDefined (nextRefusal (r .next)) r (now (zones .exit)) (hydronicStep x n (zoned s (now (zones .entry)))) ⌝ }
+fn hydronic_step(
+    x: HydronicTask,
+    salts: &[f64],
+    step: usize,
+    n: u32,
+    s: WetPace,
+    zones: &mut [f64; 64],
+) -> WetTurn
+    requires { ⌜ (x .card .layers ≤ 64) × ((n < 65535) × Salted (now salts) step (x .card .layers)) ⌝ }
+    ensures { λ r. ⌜ AsDefined (nextRefusal (r .next)) r (now (zones .exit)) (hydronicStep x (zoneSalt (now (salts .entry)) step) n (zoned s (now (zones .entry)))) ⌝ }
 {
     let card = x.card;
     let drive = wet_drive(x, card.substep, s.reynold);
     let pcm = x.pcm;
     let before = *zones;
-    let u = passes::process_in_place(card, pcm, drive, target, zones);
+    let u = passes::process_in_place(card, pcm, salts, step, drive, 0.0, zones);
     let fault = u.fault;
     match fault {
-        Fault::Nothing => hydronic_whole(x, n + 1, s, u, before, target, zones),
+        Fault::Nothing => hydronic_whole(x, salts, step, n + 1, s, u, before, zones),
         Fault::Logarithm => WetTurn {
             pace: s,
             next: Next::Stop(End::NoLogarithm),
@@ -220,14 +228,19 @@ pub fn whole_substeps(x: HydronicTask) -> u64
 }
 
 // At most `steps` whole substeps from `start` on.
-pub fn hydronic_run(x: HydronicTask, steps: u64, start: WetPace, zones: &mut [f64; 64]) -> WetEnd
-    requires { ⌜ x .card .layers ≤ 64 ⌝ }
-    ensures { λ r. ⌜ AsDefined (endRefusal (r .end)) r (now (zones .exit)) (hydronicRun x steps 0 (zoned start (now (zones .entry)))) ⌝ }
+pub fn hydronic_run(
+    x: HydronicTask,
+    salts: &[f64],
+    step: usize,
+    steps: u64,
+    start: WetPace,
+    zones: &mut [f64; 64],
+) -> WetEnd
+    requires { ⌜ (x .card .layers ≤ 64) × Salted (now salts) step (x .card .layers) ⌝ }
+    ensures { λ r. ⌜ AsDefined (endRefusal (r .end)) r (now (zones .exit)) (hydronicRun x (zoneSalt (now (salts .entry)) step) steps 0 (zoned start (now (zones .entry)))) ⌝ }
 {
     let card = x.card;
     let budget = card.budget as u32;
-    let pcm = x.pcm;
-    let target = substep::target_of(card, pcm, x.target);
     let mut pace = start;
     let mut substeps: u32 = 0;
     let end = loop {
@@ -237,7 +250,7 @@ pub fn hydronic_run(x: HydronicTask, steps: u64, start: WetPace, zones: &mut [f6
         if substeps == budget {
             break End::OverBudget;
         }
-        let turn = hydronic_step(x, substeps, pace, target, zones);
+        let turn = hydronic_step(x, salts, step, substeps, pace, zones);
         substeps = turn.substeps;
         pace = turn.pace;
         let next = turn.next;

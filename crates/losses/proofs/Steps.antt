@@ -12,7 +12,6 @@ use Rattle.floats.specs.Standins.{finite64, maxZero}
 use Rattle.floats.specs.Sum2.{sum2Step}
 use Rattle.floats.specs.declared.Sum2.{Sum2}
 use Rattle.zone.specs.Heat.{kj}
-use Rattle.zone.specs.Layer.{zoneSalt}
 use Rattle.update.specs.Update.{newZoneTemperature}
 use Rattle.water.specs.Water.{zoneProperties}
 use Rattle.zone.specs.declared.Kilojoules.{Kilojoules}
@@ -48,9 +47,9 @@ unfolding zoneIndex
 upward m n k e = rw e
 
 -- one zone more
-module _ (x : Course) (n : ℕ) (p : Pass) (none : p .energies ≡ replicate 64 zero) (few : n ≤ 64) (k : ℕ) (h : k < n)
-    (zones : List Float) (outlet : Float) (left : Kilojoules) (charged : KilowattHours) (spread next : Float) (j : ℕ) (s : Salt) (z : ZoneStep)
-    (d : j ≡ zoneIndex (x .mode) n k) (r : s ≡ zoneSalt (x .salt) j) (e : z ≡ zoneStep x s (getD zones j nan) outlet left charged)
+module _ (x : Course) (s : ℕ → Salt) (n : ℕ) (p : Pass) (none : p .energies ≡ replicate 64 zero) (few : n ≤ 64) (k : ℕ) (h : k < n)
+    (zones : List Float) (outlet : Float) (left : Kilojoules) (charged : KilowattHours) (spread next : Float) (j : ℕ) (own : Salt) (z : ZoneStep)
+    (d : j ≡ zoneIndex (x .mode) n k) (r : own ≡ s j) (e : z ≡ zoneStep x own (getD zones j nan) outlet left charged)
     (t : eq next zero ≡ (eq spread zero && finite64 (getD (set zones j (z .temperature)) j nan))) where
   -- the charger's heat, which is not negative, and the energy charged stay
   pub losing-more :
@@ -58,10 +57,10 @@ module _ (x : Course) (n : ℕ) (p : Pass) (none : p .energies ≡ replicate 64 
       x .mode ≡ Losses →
       lt (left .0) zero ≡ false →
       more ≡ sum2Step sum (zero ⊕ z .energy .0) →
-      Underway x n k p zones outlet left charged sum spread →
-      Underway x n (k + 1) p (set zones j (z .temperature)) (z .outlet) left charged more next
+      Underway x s n k p zones outlet left charged sum spread →
+      Underway x s n (k + 1) p (set zones j (z .temperature)) (z .outlet) left charged more next
   losing-more sum more m l a u =
-      let v = loss-leaves x s (getD zones j nan) outlet left charged m l in
-      subst (λ (q : Kilojoules). Underway x n (k + 1) p (set zones j (z .temperature)) (z .outlet) q charged more next) (ap (λ (y : ZoneStep). y .left) e ∙ v .0)
-      (subst (λ (c : KilowattHours). Underway x n (k + 1) p (set zones j (z .temperature)) (z .outlet) (z .left) c more next) (ap (λ (y : ZoneStep). y .charged) e ∙ v .1)
-      (underway-more x n p none few k h zones outlet left charged sum more spread next j s z u d r e a t))
+      let v = loss-leaves x own (getD zones j nan) outlet left charged m l in
+      subst (λ (q : Kilojoules). Underway x s n (k + 1) p (set zones j (z .temperature)) (z .outlet) q charged more next) (ap (λ (y : ZoneStep). y .left) e ∙ v .0)
+      (subst (λ (c : KilowattHours). Underway x s n (k + 1) p (set zones j (z .temperature)) (z .outlet) (z .left) c more next) (ap (λ (y : ZoneStep). y .charged) e ∙ v .1)
+      (underway-more x s n p none few k h zones outlet left charged sum more spread next j own z u d r e a t))

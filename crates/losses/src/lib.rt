@@ -17,6 +17,7 @@ ghost use lib.IntN.{pos};
 ghost use lib.Ieee.{Float, binary64, ofInt, lt};
 ghost use Rattle.floats.specs.Constants.{zero};
 ghost use Rattle.floats.specs.F64.{_⊘_};
+ghost use Rattle.zone.specs.Lent.{zoneSalt, Salted};
 ghost use Rattle.substep.specs.Substep.{zoneStep, zonesAfter, passFrom, chargerHeat, outcomeOf, substepFrom, processHeatBatteryZones};
 
 // A zone's loss. `share` is a layer's part of the heat that is lost at the rated difference.
@@ -43,12 +44,18 @@ fn loss_step(
 }
 
 // The zones upward. The heat at the rated difference stays, and nothing is charged.
-fn lose_zones(card: Card, course: Course, d: Drive, zones: &mut [f64; 64]) -> Outcome
-    requires { ⌜ (card .layers ≤ 64) × ((course .mode ≡ Mode.Losses) × (lt (chargerHeat d .0) zero ≡ false)) ⌝ }
-    ensures { λ r. ⌜ (now (zones .exit) ≡ zonesAfter course (card .layers) (card .layers) (passFrom d (now (zones .entry))) .zones) × (r ≡ outcomeOf (substepFrom card (zonesAfter course (card .layers) (card .layers) (passFrom d (now (zones .entry)))))) ⌝ }
+fn lose_zones(
+    card: Card,
+    course: Course,
+    salts: &[f64],
+    step: usize,
+    d: Drive,
+    zones: &mut [f64; 64],
+) -> Outcome
+    requires { ⌜ (card .layers ≤ 64) × (Salted (now salts) step (card .layers) × ((course .mode ≡ Mode.Losses) × (lt (chargerHeat d .0) zero ≡ false))) ⌝ }
+    ensures { λ r. ⌜ (now (zones .exit) ≡ zonesAfter course (zoneSalt (now (salts .entry)) step) (card .layers) (card .layers) (passFrom d (now (zones .entry))) .zones) × (r ≡ outcomeOf (substepFrom card (zonesAfter course (zoneSalt (now (salts .entry)) step) (card .layers) (card .layers) (passFrom d (now (zones .entry)))))) ⌝ }
 {
     let n = card.layers as usize;
-    let own = course.salt;
     let left = substep::charger_heat(d);
     let charged = KilowattHours(0.0);
     let share = left.0 / (course.shared.layers as f64);
@@ -57,7 +64,7 @@ fn lose_zones(card: Card, course: Course, d: Drive, zones: &mut [f64; 64]) -> Ou
     // equals 0 as long as each zone is finite
     let mut spread = 0.0;
     for k in 0..n {
-        let salt = zone::layer::zone_salt(own, k);
+        let salt = zone::layer::zone_salt(salts, step, k);
         let z = loss_step(course, salt, zones[k], left, Kilojoules(share), charged);
         zones[k] = z.temperature;
         spread = floats::finite_step(spread, zones[k]);
@@ -75,11 +82,17 @@ fn lose_zones(card: Card, course: Course, d: Drive, zones: &mut [f64; 64]) -> Ou
 }
 
 // A substep of losses, in place; no loss has heat of a charger.
-pub fn lose_in_place(card: Card, pcm: HeatBatteryPcm, d: Drive, zones: &mut [f64; 64]) -> Outcome
-    requires { ⌜ (card .layers ≤ 64) × ((d .mode ≡ Mode.Losses) × (lt (chargerHeat d .0) zero ≡ false)) ⌝ }
-    ensures { λ r. ⌜ (now (zones .exit) ≡ processHeatBatteryZones card pcm d (now (zones .entry)) .zones) × (r ≡ outcomeOf (processHeatBatteryZones card pcm d (now (zones .entry)))) ⌝ }
+pub fn lose_in_place(
+    card: Card,
+    pcm: HeatBatteryPcm,
+    salts: &[f64],
+    step: usize,
+    d: Drive,
+    zones: &mut [f64; 64],
+) -> Outcome
+    requires { ⌜ (card .layers ≤ 64) × (Salted (now salts) step (card .layers) × ((d .mode ≡ Mode.Losses) × (lt (chargerHeat d .0) zero ≡ false))) ⌝ }
+    ensures { λ r. ⌜ (now (zones .exit) ≡ processHeatBatteryZones card pcm (zoneSalt (now (salts .entry)) step) d (now (zones .entry)) .zones) × (r ≡ outcomeOf (processHeatBatteryZones card pcm (zoneSalt (now (salts .entry)) step) d (now (zones .entry)))) ⌝ }
 {
-    let target = substep::target_of(card, pcm, d.target);
-    let course = substep::course_of(Mode::Losses, card, pcm, d, target, 0.0);
-    lose_zones(card, course, d, zones)
+    let course = substep::course_of(Mode::Losses, card, pcm, d, 0.0);
+    lose_zones(card, course, salts, step, d, zones)
 }

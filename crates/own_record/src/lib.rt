@@ -79,8 +79,9 @@ pub fn advance_apart(version: u8, l: Ledger, call: &[u8], zones: &mut [f64; 64])
             Renewed { totals, shown }
         }
         ReadCall::Good(c) => {
+            let salts = pcm::figures_of(l.card);
             let mut own = *zones;
-            let a = engine::steps::advance_in_place(version, l, c, &mut own);
+            let a = engine::steps::advance_in_place(version, l, &salts, 0, c, &mut own);
             if a.refusal == 0 {
                 let n = l.count as usize;
                 renew_zones(zones, &own, n);

@@ -10,18 +10,31 @@ use water::Mode;
 use zone::Kilojoules;
 use zone::KilowattHours;
 ghost use mathlib.Core.Path.{_≡_};
-ghost use Prim.Native.Nat.{_≤_};
-ghost use Rattle.substep.specs.Substep.{zonesAfter, targetOf, passFrom, outcomeOf, substepFrom, processHeatBatteryZones};
+ghost use mathlib.Core.Bool.{true};
+ghost use Prim.Native.Nat.{ℕ, _≤_, _<_};
+ghost use lib.Ieee.{lt};
+ghost use Rattle.floats.specs.Constants.{zero};
+ghost use Rattle.zone.specs.Lent.{zoneSalt, Salted};
+ghost use Rattle.substep.specs.Substep.{levelAt, zonesAfter, targetOf, passFrom, chargerHeat, outcomeOf, substepFrom, processHeatBatteryZones};
 
 // All zones in the mode's order, where they lie. It sums the energies and tests the zones as it goes, also where charging alone goes
 // downward, since the energies there are 0. Places above the zones are neither read nor written.
-pub fn pass_in_place(card: Card, course: Course, d: Drive, zones: &mut [f64; 64]) -> Outcome
-    requires { ⌜ card .layers ≤ 64 ⌝ }
-    ensures { λ r. ⌜ (now (zones .exit) ≡ zonesAfter course (card .layers) (card .layers) (passFrom d (now (zones .entry))) .zones) × (r ≡ outcomeOf (substepFrom card (zonesAfter course (card .layers) (card .layers) (passFrom d (now (zones .entry)))))) ⌝ }
+// `target` is every zone's where they are `alike` and the charger has heat; else each zone's is worked out where it is asked.
+pub fn pass_in_place(
+    card: Card,
+    course: Course,
+    salts: &[f64],
+    step: usize,
+    d: Drive,
+    alike: bool,
+    target: f64,
+    zones: &mut [f64; 64],
+) -> Outcome
+    requires { ⌜ (card .layers ≤ 64) × (Salted (now salts) step (card .layers) × (lt (chargerHeat d .0) zero ≡ true → alike ≡ true → (j : ℕ) → j < card .layers → target ≡ levelAt course (zoneSalt (now salts) step j))) ⌝ }
+    ensures { λ r. ⌜ (now (zones .exit) ≡ zonesAfter course (zoneSalt (now (salts .entry)) step) (card .layers) (card .layers) (passFrom d (now (zones .entry))) .zones) × (r ≡ outcomeOf (substepFrom card (zonesAfter course (zoneSalt (now (salts .entry)) step) (card .layers) (card .layers) (passFrom d (now (zones .entry)))))) ⌝ }
 {
     let n = card.layers as usize;
     let mode = course.mode;
-    let own = course.salt;
     let mut outlet = d.inlet;
     let mut left = substep::charger_heat(d);
     let mut charged = KilowattHours(0.0);
@@ -30,8 +43,8 @@ pub fn pass_in_place(card: Card, course: Course, d: Drive, zones: &mut [f64; 64]
     let mut spread = 0.0;
     for k in 0..n {
         let j = substep::zone_index(mode, n, k);
-        let salt = zone::layer::zone_salt(own, j);
-        let z = substep::zone_step(course, salt, zones[j], outlet, left, charged);
+        let salt = zone::layer::zone_salt(salts, step, j);
+        let z = substep::zone_step(course, salt, alike, target, zones[j], outlet, left, charged);
         zones[j] = z.temperature;
         spread = floats::finite_step(spread, zones[j]);
         sum = floats::sum2_step(sum, 0.0 + z.energy.0);
@@ -50,21 +63,24 @@ pub fn pass_in_place(card: Card, course: Course, d: Drive, zones: &mut [f64; 64]
 }
 
 // A substep with water in place, without its energies: the engine's. The mode is written out, so that the loop is compiled for it alone;
-// `charging_alone` and `losses` have the others. `target` is the temperature of the drive's level.
+// `charging_alone` and `losses` have the others. `target` is the temperature of the drive's level in every zone, where the
+// charger has heat.
 pub fn process_in_place(
     card: Card,
     pcm: HeatBatteryPcm,
+    salts: &[f64],
+    step: usize,
     d: Drive,
     target: f64,
     zones: &mut [f64; 64],
 ) -> Outcome
-    requires { ⌜ (card .layers ≤ 64) × ((d .mode ≡ Mode.Normal) × (target ≡ targetOf card pcm (d .target))) ⌝ }
-    ensures { λ r. ⌜ (now (zones .exit) ≡ processHeatBatteryZones card pcm d (now (zones .entry)) .zones) × (r ≡ outcomeOf (processHeatBatteryZones card pcm d (now (zones .entry)))) ⌝ }
+    requires { ⌜ (card .layers ≤ 64) × (Salted (now salts) step (card .layers) × ((d .mode ≡ Mode.Normal) × (lt (chargerHeat d .0) zero ≡ true → (j : ℕ) → j < card .layers → target ≡ targetOf card (zoneSalt (now salts) step j) (d .target)))) ⌝ }
+    ensures { λ r. ⌜ (now (zones .exit) ≡ processHeatBatteryZones card pcm (zoneSalt (now (salts .entry)) step) d (now (zones .entry)) .zones) × (r ≡ outcomeOf (processHeatBatteryZones card pcm (zoneSalt (now (salts .entry)) step) d (now (zones .entry)))) ⌝ }
 {
     let transfer = substep::zone_transfer(Mode::Normal, card, d);
     let Log::Value(u) = transfer else {
         return substep::without_logarithm();
     };
-    let course = substep::course_of(Mode::Normal, card, pcm, d, target, u);
-    pass_in_place(card, course, d, zones)
+    let course = substep::course_of(Mode::Normal, card, pcm, d, u);
+    pass_in_place(card, course, salts, step, d, true, target, zones)
 }

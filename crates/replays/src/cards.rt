@@ -1,12 +1,19 @@
 // Id 31: refusals 1 to 4 and what HeatBatteryPcm::new derives.
-use card::HeatBatteryPcm;
+use card::Card;
 use words::cards::VERSION;
 
-fn derived_is(s: &[u8], pcm: HeatBatteryPcm) -> bool {
-    logic::both(
-        words::three_are(s, 24, pcm.salt.below, pcm.salt.during, pcm.salt.above),
-        words::three_are(s, 27, pcm.stored.0, pcm.rated, pcm.diameter),
-    )
+fn derived_is(s: &[u8], card: Card) -> bool {
+    if card.layers <= 64 {
+        let salt = pcm::salt_of(card);
+        let salts = pcm::figures_of(card);
+        let stored = pcm::energy_at(card, &salts, 0, card.max);
+        let pcm = pcm::derived(card);
+        return logic::both(
+            words::three_are(s, 24, salt.below, salt.during, salt.above),
+            words::three_are(s, 27, stored.0, pcm.rated, pcm.diameter),
+        );
+    }
+    false
 }
 
 pub fn card(s: &[u8]) -> bool {
@@ -14,7 +21,7 @@ pub fn card(s: &[u8]) -> bool {
     let refusal = card_verdict::refusal(VERSION, card);
     let first = logic::both(words::has(s, 30), words::word_is(s, 23, refusal as u64));
     if refusal == 0 {
-        return logic::both(first, derived_is(s, pcm::derived(card)));
+        return logic::both(first, derived_is(s, card));
     }
     logic::both(first, words::numbers_are(s, 24, [0.0; 64], 6))
 }

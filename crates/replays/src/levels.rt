@@ -7,7 +7,7 @@ ghost use Prim.Native.Nat.{_≤_};
 
 // From a state of charge to the level asked behind n zones.
 fn energy(s: &[u8], card: Card, n: usize, soc: f64) -> f64
-    requires { ⌜ n ≤ 64 ⌝ }
+    requires { ⌜ (n ≤ 64) × (card .layers ≤ 64) ⌝ }
 {
     let most = lists::calls::given(s, n + 24);
     let target = words::number(s, n + 26);
@@ -23,13 +23,14 @@ fn energy(s: &[u8], card: Card, n: usize, soc: f64) -> f64
         count: card.layers,
         totals,
     };
-    let r = charges::calculate_charge_energy_demand(l, most, target, soc);
+    let salts = pcm::figures_of(card);
+    let r = charges::calculate_charge_energy_demand(l, &salts, 0, most, target, soc);
     r.0
 }
 
 // A mark and a value; both 0 where 25 refuses.
 fn energy_is(s: &[u8], card: Card, n: usize, level: StateOfCharge) -> bool
-    requires { ⌜ n ≤ 64 ⌝ }
+    requires { ⌜ (n ≤ 64) × (card .layers ≤ 64) ⌝ }
 {
     match level {
         StateOfCharge::Level(soc) => words::marked_is(s, n + 27, 1, energy(s, card, n, soc)),
@@ -41,7 +42,7 @@ pub fn charge_energy_demand(s: &[u8]) -> bool {
     let card = words::cards::read(s);
     if card.layers <= 64 {
         let n = card.layers as usize;
-        let level = crate::zones::level(s, card, n);
+        let level = crate::zones::level(s, card);
         return logic::all_three(
             words::has(s, n + 29),
             words::word_is(s, 23, n as u64),

@@ -68,7 +68,9 @@ pub fn substep(s: &[u8]) -> bool {
         let n = card.layers as usize;
         let zones = words::numbers(s, FIRST_ZONE, n);
         let d = drive(s, n);
-        let r = by_value::process_heat_battery_zones(card, pcm::derived(card), d, zones);
+        let pcm = pcm::derived(card);
+        let salts = pcm::figures_of(card);
+        let r = by_value::process_heat_battery_zones(card, pcm, &salts, 0, d, zones);
         return logic::all_three(
             words::has(s, 37 + 3 * n),
             words::word_is(s, 23, n as u64),

@@ -56,22 +56,22 @@ fn level_is(s: &[u8], i: usize, level: StateOfCharge) -> bool
     }
 }
 
-// The state of charge of the n zones behind the card.
-pub fn level(s: &[u8], card: Card, n: usize) -> StateOfCharge
-    requires { ⌜ n ≤ 64 ⌝ }
+// The state of charge of the zones behind the card.
+pub fn level(s: &[u8], card: Card) -> StateOfCharge
+    requires { ⌜ card .layers ≤ 64 ⌝ }
 {
-    let pcm = pcm::derived(card);
-    let own = pcm.salt;
-    let stored = pcm.stored;
+    let n = card.layers as usize;
+    let salts = pcm::figures_of(card);
+    let stored = pcm::energy_at(card, &salts, 0, card.max);
     let zones = words::numbers(s, 24, n);
-    zone::layer::calc_state_of_charge(own, card.reference, stored, zones, n)
+    zone::layer::calc_state_of_charge(&salts, 0, card.reference, stored, zones, n)
 }
 
 fn state_of_charge(s: &[u8]) -> bool {
     let card = cards::read(s);
     if card.layers <= 64 {
         let n = card.layers as usize;
-        let r = level(s, card, n);
+        let r = level(s, card);
         return logic::all_three(
             words::has(s, n + 26),
             words::word_is(s, 23, n as u64),

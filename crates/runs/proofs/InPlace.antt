@@ -4,6 +4,7 @@ use mathlib.Core.List.{List}
 use Prim.Native.Nat.{ℕ}
 use native.Mathlib.Omega.{arith}
 use lib.Ieee.{Float}
+use Rattle.zone.specs.declared.Salt.{Salt}
 use Rattle.card.specs.declared.Card.{Card}
 use Rattle.card.specs.declared.HeatBatteryPcm.{HeatBatteryPcm}
 use Rattle.substep.proofs.Together.{InPlace}
@@ -40,9 +41,9 @@ holds-as-defined P u o zones f g e h = subst (λ (v : Zoned Outcome). P v (v .pa
 
 -- a run of one substep
 pub one-substep :
-    (f : Outcome → Stopped) (c : Card) (pcm : HeatBatteryPcm) (d : Drive) (before : List Float) (o : Outcome) (zones : List Float) (r : Stopped) →
-    InPlace (processHeatBatteryZones c pcm d before) o zones → r ≡ f o → AsDefined (endRefusal (r .end)) r zones (onPart f (outcome (processHeatBatteryZones c pcm d before)))
-one-substep f c pcm d before o zones r g e = (e ∙ ap f (g .1), λ h. g .0)
+    (f : Outcome → Stopped) (c : Card) (pcm : HeatBatteryPcm) (salts : ℕ → Salt) (d : Drive) (before : List Float) (o : Outcome) (zones : List Float) (r : Stopped) →
+    InPlace (processHeatBatteryZones c pcm salts d before) o zones → r ≡ f o → AsDefined (endRefusal (r .end)) r zones (onPart f (outcome (processHeatBatteryZones c pcm salts d before)))
+one-substep f c pcm salts d before o zones r g e = (e ∙ ap f (g .1), λ h. g .0)
 
 pub log-refused : endRefusal NoLogarithm ≡ 0 → ⊥
 unfolding endRefusal

@@ -11,6 +11,7 @@ use Rattle.floats.specs.F64.{_⊕_}
 use Rattle.floats.specs.Constants as Constants
 use Rattle.logic.proofs.Branch.{via-true}
 use Rattle.zone.specs.Heat.{kj}
+use Rattle.zone.specs.declared.Salt.{Salt}
 use Rattle.substep.specs.Substep.{processHeatBatteryZones}
 use Rattle.substep.specs.declared.Outcome.{Outcome}
 use Rattle.substep.specs.declared.Fault.{Fault}
@@ -38,12 +39,12 @@ fault-stops x n s seconds reynold u Nothing h = no-stop h
 fault-stops x n s seconds reynold u Logarithm h = no-stop h
 fault-stops x n s seconds reynold u NotFinite h = no-stop h
 
-replay-stops : (x : HydronicTask) (n : ℕ) (s : Zoned WetPace) (seconds reynold : Float) → replayed x n s seconds reynold .part .next ≡ On → ⊥
+replay-stops : (x : HydronicTask) (salts : ℕ → Salt) (n : ℕ) (s : Zoned WetPace) (seconds reynold : Float) → replayed x salts n s seconds reynold .part .next ≡ On → ⊥
 unfolding replayed
-replay-stops x n s seconds reynold h = at (eqb n (x .card .budget)) h
+replay-stops x salts n s seconds reynold h = at (eqb n (x .card .budget)) h
   where
     u : Zoned Outcome
-    u = outcome (processHeatBatteryZones (x .card) (x .pcm) (wetDrive x seconds reynold) (s .zones))
+    u = outcome (processHeatBatteryZones (x .card) (x .pcm) salts (wetDrive x seconds reynold) (s .zones))
 
     by : (f : Fault) → replayBy x (n + 1) s seconds reynold u f .part .next ≡ On → ⊥
     by f = fault-stops x (n + 1) s seconds reynold u f
@@ -61,34 +62,34 @@ one-of-four true true false stops limit on level n w p q r h = p
 one-of-four true false c stops limit on level n w p q r h = q
 one-of-four false b c stops limit on level n w p q r h = r
 
-whole-counts : (x : HydronicTask) (n : ℕ) (s : Zoned WetPace) (u : Zoned Outcome) → hydronicWhole x n s u .part .next ≡ On → hydronicWhole x n s u .part .substeps ≡ n
+whole-counts : (x : HydronicTask) (salts : ℕ → Salt) (n : ℕ) (s : Zoned WetPace) (u : Zoned Outcome) → hydronicWhole x salts n s u .part .next ≡ On → hydronicWhole x salts n s u .part .substeps ≡ n
 unfolding hydronicWhole
-whole-counts x n s u =
+whole-counts x salts n s u =
     let reynold = reynoldBetween (x .wet .inlet) (u .part .outlet) (x .wet .velocity) (x .wet .diameter) in
     let this = kj (neg (u .part .delivered .0)) in
     let absorbed = kj (s .part .absorbed .0 ⊕ this .0) in
     let time = s .part .time ⊕ x .card .substep in
     one-of-four (clearlyBelow (u .part .outlet) (x .wet .inlet)) (limitReached absorbed (x .limit)) (lt Constants.zero (this .0))
-    (replayed x n s (fractionSeconds x absorbed this) reynold)
+    (replayed x salts n s (fractionSeconds x absorbed this) reynold)
     (hydronicTurn (zoned (record { absorbed = absorbed; reynold = reynold; time = time }) (u .zones)) (Stop Limit) n)
     (hydronicTurn (zoned (record { absorbed = absorbed; reynold = reynold; time = time }) (u .zones)) On n)
     (hydronicTurn (zoned (record { absorbed = s .part .absorbed; reynold = reynold; time = time }) (u .zones)) (Stop Level) n) n
-    (replay-stops x n s (fractionSeconds x absorbed this) reynold) refl refl refl
+    (replay-stops x salts n s (fractionSeconds x absorbed this) reynold) refl refl refl
 
-by-counts : (x : HydronicTask) (n : ℕ) (s : Zoned WetPace) (u : Zoned Outcome) (f : Fault) → hydronicBy x n s u f .part .next ≡ On → hydronicBy x n s u f .part .substeps ≡ n
+by-counts : (x : HydronicTask) (salts : ℕ → Salt) (n : ℕ) (s : Zoned WetPace) (u : Zoned Outcome) (f : Fault) → hydronicBy x salts n s u f .part .next ≡ On → hydronicBy x salts n s u f .part .substeps ≡ n
 unfolding hydronicBy
-by-counts x n s u Nothing h = whole-counts x n s u h
-by-counts x n s u Logarithm h = refl
-by-counts x n s u NotFinite h = refl
+by-counts x salts n s u Nothing h = whole-counts x salts n s u h
+by-counts x salts n s u Logarithm h = refl
+by-counts x salts n s u NotFinite h = refl
 
-pub on-counts : (x : HydronicTask) (n : ℕ) (s : Zoned WetPace) → hydronicStep x n s .part .next ≡ On → hydronicStep x n s .part .substeps ≡ n + 1
+pub on-counts : (x : HydronicTask) (salts : ℕ → Salt) (n : ℕ) (s : Zoned WetPace) → hydronicStep x salts n s .part .next ≡ On → hydronicStep x salts n s .part .substeps ≡ n + 1
 unfolding hydronicStep
-on-counts x n s h =
-    let u = outcome (processHeatBatteryZones (x .card) (x .pcm) (wetDrive x (x .card .substep) (s .part .reynold)) (s .zones)) in
-    by-counts x (n + 1) s u (u .part .fault) h
+on-counts x salts n s h =
+    let u = outcome (processHeatBatteryZones (x .card) (x .pcm) salts (wetDrive x (x .card .substep) (s .part .reynold)) (s .zones)) in
+    by-counts x salts (n + 1) s u (u .part .fault) h
 
-module _ (x : HydronicTask) (steps n : ℕ) (s : Zoned WetPace) where
-  pub hydronic-time : n ≡ steps → hydronicEnd s Time n ≡ hydronicRun x (steps - n) n s
+module _ (x : HydronicTask) (salts : ℕ → Salt) (steps n : ℕ) (s : Zoned WetPace) where
+  pub hydronic-time : n ≡ steps → hydronicEnd s Time n ≡ hydronicRun x salts (steps - n) n s
   unfolding hydronicRun
   hydronic-time e = let z : steps - n ≡ 0 = omega arith in rw z
 
@@ -96,25 +97,25 @@ module _ (x : HydronicTask) (steps n : ℕ) (s : Zoned WetPace) where
     left : steps - n ≡ suc (steps - (n + 1))
     left = omega arith
 
-    pub hydronic-over-budget : n ≡ x .card .budget → hydronicEnd s OverBudget n ≡ hydronicRun x (steps - n) n s
+    pub hydronic-over-budget : n ≡ x .card .budget → hydronicEnd s OverBudget n ≡ hydronicRun x salts (steps - n) n s
     unfolding hydronicRun
     hydronic-over-budget e = rw left (via-true _ _ (eq-eqb _ _ e) refl)
 
     -- a turn behind s, and the zones that it leaves
-    module _ (t : WetTurn) (after : List Float) (h : n ≡ x .card .budget → ⊥) (l : AsDefined (nextRefusal (t .next)) t after (hydronicStep x n s)) where
-      hydronic-unfolds : hydronicRun x (steps - n) n s ≡ hydronicThen (hydronicRun x (steps - (n + 1))) (zoned (t .pace) (hydronicStep x n s .zones)) (t .next) (t .substeps)
+    module _ (t : WetTurn) (after : List Float) (h : n ≡ x .card .budget → ⊥) (l : AsDefined (nextRefusal (t .next)) t after (hydronicStep x salts n s)) where
+      hydronic-unfolds : hydronicRun x salts (steps - n) n s ≡ hydronicThen (hydronicRun x salts (steps - (n + 1))) (zoned (t .pace) (hydronicStep x salts n s .zones)) (t .next) (t .substeps)
       unfolding hydronicRun
       hydronic-unfolds = rw (left, ne-eqb _ _ h, l .0)
 
       pub wet-took : t .next ≡ On → t .substeps ≡ n + 1
-      wet-took d = rw (l .0) (on-counts x n s (sym (ap (λ (u : WetTurn). u .next) (l .0)) ∙ d))
+      wet-took d = rw (l .0) (on-counts x salts n s (sym (ap (λ (u : WetTurn). u .next) (l .0)) ∙ d))
 
-      pub wet-on : t .next ≡ On → hydronicRun x (steps - t .substeps) (t .substeps) (zoned (t .pace) after) ≡ hydronicRun x (steps - n) n s
-      wet-on d = rw (l .1 (ap nextRefusal d)) (sym (hydronic-unfolds ∙ rw d (ap (λ (k : ℕ). hydronicRun x (steps - k) (t .substeps) (zoned (t .pace) (hydronicStep x n s .zones))) (sym (wet-took d)))))
+      pub wet-on : t .next ≡ On → hydronicRun x salts (steps - t .substeps) (t .substeps) (zoned (t .pace) after) ≡ hydronicRun x salts (steps - n) n s
+      wet-on d = rw (l .1 (ap nextRefusal d)) (sym (hydronic-unfolds ∙ rw d (ap (λ (k : ℕ). hydronicRun x salts (steps - k) (t .substeps) (zoned (t .pace) (hydronicStep x salts n s .zones))) (sym (wet-took d)))))
 
       pub wet-stop :
-          (k : End) (e : Zoned WetEnd) → t .next ≡ Stop k → hydronicRun x (steps - n) n s ≡ e →
+          (k : End) (e : Zoned WetEnd) → t .next ≡ Stop k → hydronicRun x salts (steps - n) n s ≡ e →
           AsDefined (endRefusal k) (record { pace = t .pace; end = k; substeps = t .substeps }) after e
       wet-stop k e d r =
-          let w : hydronicEnd (zoned (t .pace) (hydronicStep x n s .zones)) k (t .substeps) ≡ e = sym (hydronic-unfolds ∙ rw d) ∙ r in
+          let w : hydronicEnd (zoned (t .pace) (hydronicStep x salts n s .zones)) k (t .substeps) ≡ e = sym (hydronic-unfolds ∙ rw d) ∙ r in
           (ap (λ (v : Zoned WetEnd). v .part) w, λ q. l .1 (ap nextRefusal d ∙ q) ∙ ap (λ (v : Zoned WetEnd). v .zones) w)

@@ -11,6 +11,7 @@ use Rattle.logic.proofs.Branch.{via-true, via-false}
 use Rattle.zone.specs.Heat.{kj}
 use Rattle.zone.specs.declared.Kilojoules.{Kilojoules}
 use Rattle.zone.specs.declared.KilowattHours.{KilowattHours}
+use Rattle.zone.specs.declared.Salt.{Salt}
 use Rattle.substep.proofs.Together.{InPlace}
 use Rattle.substep.specs.Substep.{processHeatBatteryZones}
 use Rattle.substep.specs.declared.Drive.{Drive}
@@ -40,38 +41,38 @@ taken o = kj (neg (o .delivered .0))
 abbrev sumWith : WetPace → Outcome → Kilojoules
 sumWith s o = kj (s .absorbed .0 ⊕ taken o .0)
 
-module _ (x : HydronicTask) (n : ℕ) (s : Zoned WetPace) (u : Zoned Outcome) (reynold : Float) (below : Bool)
+module _ (x : HydronicTask) (salts : ℕ → Salt) (n : ℕ) (s : Zoned WetPace) (u : Zoned Outcome) (reynold : Float) (below : Bool)
     (r : reynold ≡ reynoldBetween (x .wet .inlet) (u .part .outlet) (x .wet .velocity) (x .wet .diameter)) (b : below ≡ clearlyBelow (u .part .outlet) (x .wet .inlet)) where
-  pub whole-level : below ≡ false → turnTo (s .part .absorbed) reynold (s .part .time ⊕ x .card .substep) (Stop Level) n (u .zones) ≡ hydronicWhole x n s u
+  pub whole-level : below ≡ false → turnTo (s .part .absorbed) reynold (s .part .time ⊕ x .card .substep) (Stop Level) n (u .zones) ≡ hydronicWhole x salts n s u
   unfolding hydronicWhole
   whole-level f = rw (← r, ← b) (via-false _ _ f refl)
 
   module _ (t : below ≡ true) (reached : Bool) (l : reached ≡ limitReached (sumWith (s .part) (u .part)) (x .limit)) where
-    pub whole-on : reached ≡ false → turnTo (sumWith (s .part) (u .part)) reynold (s .part .time ⊕ x .card .substep) On n (u .zones) ≡ hydronicWhole x n s u
+    pub whole-on : reached ≡ false → turnTo (sumWith (s .part) (u .part)) reynold (s .part .time ⊕ x .card .substep) On n (u .zones) ≡ hydronicWhole x salts n s u
     unfolding hydronicWhole
     whole-on f = rw (← r, ← b, ← l) (via-true _ _ t (via-false _ _ f refl))
 
     module _ (v : reached ≡ true) where
       pub whole-limit :
           lt Constants.zero (taken (u .part) .0) ≡ false →
-          turnTo (sumWith (s .part) (u .part)) reynold (s .part .time ⊕ x .card .substep) (Stop Limit) n (u .zones) ≡ hydronicWhole x n s u
+          turnTo (sumWith (s .part) (u .part)) reynold (s .part .time ⊕ x .card .substep) (Stop Limit) n (u .zones) ≡ hydronicWhole x salts n s u
       unfolding hydronicWhole
       whole-limit f = rw (← r, ← b, ← l) (via-true _ _ t (via-true _ _ v (via-false _ _ f refl)))
 
       pub whole-replayed :
           (seconds : Float) → lt Constants.zero (taken (u .part) .0) ≡ true → seconds ≡ fractionSeconds x (sumWith (s .part) (u .part)) (taken (u .part)) →
-          replayed x n s seconds reynold ≡ hydronicWhole x n s u
+          replayed x salts n s seconds reynold ≡ hydronicWhole x salts n s u
       unfolding hydronicWhole
       whole-replayed seconds f h = rw (← r, ← b, ← l, ← h) (via-true _ _ t (via-true _ _ v (via-true _ _ f refl)))
 
 -- the fractional substep, where the budget allows it, and the whole one
 
-module _ (x : HydronicTask) (n : ℕ) (s : WetPace) (before zones : List Float) (d : Drive) (o : Outcome) (t : WetTurn) (f : Fault)
-    (g : InPlace (processHeatBatteryZones (x .card) (x .pcm) d before) o zones) (e : o .fault ≡ f) where
+module _ (x : HydronicTask) (salts : ℕ → Salt) (n : ℕ) (s : WetPace) (before zones : List Float) (d : Drive) (o : Outcome) (t : WetTurn) (f : Fault)
+    (g : InPlace (processHeatBatteryZones (x .card) (x .pcm) salts d before) o zones) (e : o .fault ≡ f) where
   pub replayed-turn :
       (seconds reynold : Float) → (n ≡ x .card .budget → ⊥) → d ≡ wetDrive x seconds reynold →
       AsDefined (nextRefusal (t .next)) t zones (replayBy x (n + 1) (zoned s before) seconds reynold (zoned o zones) f) →
-      AsDefined (nextRefusal (t .next)) t zones (replayed x n (zoned s before) seconds reynold)
+      AsDefined (nextRefusal (t .next)) t zones (replayed x salts n (zoned s before) seconds reynold)
   unfolding replayed
   replayed-turn seconds reynold q h l =
       rw (← h, ne-eqb _ _ q)
@@ -79,11 +80,11 @@ module _ (x : HydronicTask) (n : ℕ) (s : WetPace) (before zones : List Float) 
 
   pub hydronic-turn :
       (after : List Float) → d ≡ wetDrive x (x .card .substep) (s .reynold) →
-      AsDefined (nextRefusal (t .next)) t after (hydronicBy x (n + 1) (zoned s before) (zoned o zones) f) →
-      AsDefined (nextRefusal (t .next)) t after (hydronicStep x n (zoned s before))
+      AsDefined (nextRefusal (t .next)) t after (hydronicBy x salts (n + 1) (zoned s before) (zoned o zones) f) →
+      AsDefined (nextRefusal (t .next)) t after (hydronicStep x salts n (zoned s before))
   unfolding hydronicStep
   hydronic-turn after h l =
-      rw (← h) (holds-as-defined (λ (u : Zoned Outcome) (v : Fault). AsDefined (nextRefusal (t .next)) t after (hydronicBy x (n + 1) (zoned s before) u v)) _ o zones f g e l)
+      rw (← h) (holds-as-defined (λ (u : Zoned Outcome) (v : Fault). AsDefined (nextRefusal (t .next)) t after (hydronicBy x salts (n + 1) (zoned s before) u v)) _ o zones f g e l)
 
 -- what the run hands out
 pub wet-ended :

@@ -5,10 +5,11 @@ use Rattle.floats.specs.F64.{_⊕_, _⊖_, _⊗_}
 use Rattle.floats.specs.Constants.{zero, tolerance, maxRelative, hour, ambient}
 use Rattle.floats.specs.Standins.{nearlyEqual, maxZero, min}
 use Rattle.zone.specs.Heat.{kj, kwh, kilowattHours, kilojoules}
+use Rattle.zone.specs.Layer.{Salts, saltAt}
 use Rattle.zone.specs.declared.Kilojoules.{Kilojoules}
 use Rattle.zone.specs.declared.KilowattHours.{KilowattHours}
 use Rattle.water.specs.declared.Mode.the-variants.{OnlyCharging, Losses}
-use Rattle.card.specs.Derived.{derived, energyAt}
+use Rattle.card.specs.Derived.{saltsOf, energyAt, storedMaximum, derived}
 use Rattle.card.specs.declared.Card.{Card}
 use Rattle.battery.specs.Ledger.{ledgerOf}
 use Rattle.battery.specs.declared.Battery.{Battery}
@@ -39,7 +40,7 @@ electricEnded l u =
 
 unfoldable pub chargeElectric : Battery → Float → Float → Zoned Stopped
 chargeElectric b power target =
-    onPart (electricEnded (ledgerOf b)) (outcome (processHeatBatteryZones (b .card) (derived (b .card)) (electricDrive (ledgerOf b) power target) (b .zones)))
+    onPart (electricEnded (ledgerOf b)) (outcome (processHeatBatteryZones (b .card) (derived (b .card)) (saltAt (saltsOf (b .card))) (electricDrive (ledgerOf b) power target) (b .zones)))
 
 unfoldable pub hydronicTask : Card → Exchanger → Float → HydronicTask
 hydronicTask c wet target =
@@ -53,7 +54,7 @@ hydronicStart c wet =
 unfoldable pub chargeHydronic : Battery → Exchanger → Float → Zoned Stopped
 chargeHydronic b wet target =
     let x = hydronicTask (b .card) wet target in
-    onPart (hydronicEnded (kwh (b .electric))) (hydronicRun x (wholeSubsteps x) 0 (zoned (hydronicStart (b .card) wet) (b .zones)))
+    onPart (hydronicEnded (kwh (b .electric))) (hydronicRun x (saltAt (saltsOf (b .card))) (wholeSubsteps x) 0 (zoned (hydronicStart (b .card) wet) (b .zones)))
 
 -- 'A charging source is electric with its rated power, or wet with its flow and exchanger figures'
 unfoldable pub chargeBattery : Battery → Source → Float → Zoned Stopped
@@ -70,19 +71,19 @@ lossEnded l u =
     record { energy = kilowattHours (u .delivered); electric = kwh (l .totals .electric); outlet = zero; time = zero; end = faultEnd (u .fault); substeps = 1 }
 
 unfoldable pub batteryHeatLoss : Battery → Zoned Stopped
-batteryHeatLoss b = onPart (lossEnded (ledgerOf b)) (outcome (processHeatBatteryZones (b .card) (derived (b .card)) (lossDrive (b .card)) (b .zones)))
+batteryHeatLoss b = onPart (lossEnded (ledgerOf b)) (outcome (processHeatBatteryZones (b .card) (derived (b .card)) (saltAt (saltsOf (b .card))) (lossDrive (b .card)) (b .zones)))
 
 -- the energy to the target level, or to the flow maximum where that is less
-unfoldable pub energyDeficit : Card → Given → Kilojoules → Kilojoules → Kilojoules
-energyDeficit c Absent current wanted = kj (wanted .0 ⊖ current .0)
-energyDeficit c (Value t) current wanted = kj (min (wanted .0 ⊖ current .0) (maxZero (energyAt c t .0 ⊖ current .0)))
+unfoldable pub energyDeficit : Salts → Card → Given → Kilojoules → Kilojoules → Kilojoules
+energyDeficit s c Absent current wanted = kj (wanted .0 ⊖ current .0)
+energyDeficit s c (Value t) current wanted = kj (min (wanted .0 ⊖ current .0) (maxZero (energyAt s c t .0 ⊖ current .0)))
 
 -- `calculate_charge_energy_demand`, from the state of charge
 unfoldable pub chargeEnergyDemand : Card → Given → Float → Float → KilowattHours
 chargeEnergyDemand c most target soc =
-    let stored = derived c .stored in
+    let stored = storedMaximum (saltsOf c) c in
     cond (lt target soc)
     (kwh zero)
     (cond (nearlyEqual soc target tolerance maxRelative)
     (kwh zero)
-    (kilowattHours (energyDeficit c most (kj (stored .0 ⊗ soc)) (kj (stored .0 ⊗ target)))))
+    (kilowattHours (energyDeficit (saltsOf c) c most (kj (stored .0 ⊗ soc)) (kj (stored .0 ⊗ target)))))

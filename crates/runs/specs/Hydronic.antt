@@ -10,6 +10,7 @@ use Rattle.floats.specs.Standins.{nearlyEqual, truncate}
 use Rattle.zone.specs.Heat.{kj, kilowattHours}
 use Rattle.zone.specs.declared.Kilojoules.{Kilojoules}
 use Rattle.zone.specs.declared.KilowattHours.{KilowattHours}
+use Rattle.zone.specs.declared.Salt.{Salt}
 use Rattle.water.specs.declared.Mode.the-variants.{Normal}
 use Rattle.substep.specs.Substep.{processHeatBatteryZones}
 use Rattle.substep.specs.declared.Drive.{Drive}
@@ -52,9 +53,9 @@ replayBy x n s seconds reynold u Logarithm = hydronicTurn s (Stop NoLogarithm) n
 replayBy x n s seconds reynold u NotFinite = hydronicTurn s (Stop NotFiniteRun) n
 
 -- the fractional substep: from the zones before the whole one, with the Reynolds number after it; n substeps are done
-unfoldable pub replayed : HydronicTask → ℕ → Zoned WetPace → Float → Float → Zoned WetTurn
-replayed x n s seconds reynold =
-    let u = outcome (processHeatBatteryZones (x .card) (x .pcm) (wetDrive x seconds reynold) (s .zones)) in
+unfoldable pub replayed : HydronicTask → (ℕ → Salt) → ℕ → Zoned WetPace → Float → Float → Zoned WetTurn
+replayed x salts n s seconds reynold =
+    let u = outcome (processHeatBatteryZones (x .card) (x .pcm) salts (wetDrive x seconds reynold) (s .zones)) in
     cond (eqb n (x .card .budget))
     (hydronicTurn s (Stop OverBudget) n)
     (replayBy x (n + 1) s seconds reynold u (u .part .fault))
@@ -64,8 +65,8 @@ unfoldable pub fractionSeconds : HydronicTask → Kilojoules → Kilojoules → 
 fractionSeconds x absorbed this = x .card .substep ⊗ ((x .limit .0 ⊖ (absorbed .0 ⊖ this .0)) ⊘ this .0)
 
 -- behind the whole substep u; n substeps are done
-unfoldable pub hydronicWhole : HydronicTask → ℕ → Zoned WetPace → Zoned Outcome → Zoned WetTurn
-hydronicWhole x n s u =
+unfoldable pub hydronicWhole : HydronicTask → (ℕ → Salt) → ℕ → Zoned WetPace → Zoned Outcome → Zoned WetTurn
+hydronicWhole x salts n s u =
     let reynold = reynoldBetween (x .wet .inlet) (u .part .outlet) (x .wet .velocity) (x .wet .diameter) in
     let this = kj (neg (u .part .delivered .0)) in
     let absorbed = kj (s .part .absorbed .0 ⊕ this .0) in
@@ -73,21 +74,21 @@ hydronicWhole x n s u =
     cond (clearlyBelow (u .part .outlet) (x .wet .inlet))
     (cond (limitReached absorbed (x .limit))
     (cond (lt Constants.zero (this .0))
-    (replayed x n s (fractionSeconds x absorbed this) reynold)
+    (replayed x salts n s (fractionSeconds x absorbed this) reynold)
     (hydronicTurn (zoned (record { absorbed = absorbed; reynold = reynold; time = time }) (u .zones)) (Stop Limit) n))
     (hydronicTurn (zoned (record { absorbed = absorbed; reynold = reynold; time = time }) (u .zones)) On n))
     (hydronicTurn (zoned (record { absorbed = s .part .absorbed; reynold = reynold; time = time }) (u .zones)) (Stop Level) n)
 
-unfoldable pub hydronicBy : HydronicTask → ℕ → Zoned WetPace → Zoned Outcome → Fault → Zoned WetTurn
-hydronicBy x n s u Nothing = hydronicWhole x n s u
-hydronicBy x n s u Logarithm = hydronicTurn s (Stop NoLogarithm) n
-hydronicBy x n s u NotFinite = hydronicTurn s (Stop NotFiniteRun) n
+unfoldable pub hydronicBy : HydronicTask → (ℕ → Salt) → ℕ → Zoned WetPace → Zoned Outcome → Fault → Zoned WetTurn
+hydronicBy x salts n s u Nothing = hydronicWhole x salts n s u
+hydronicBy x salts n s u Logarithm = hydronicTurn s (Stop NoLogarithm) n
+hydronicBy x salts n s u NotFinite = hydronicTurn s (Stop NotFiniteRun) n
 
 -- one turn: a whole substep, and the fractional one where the limit calls for it
-unfoldable pub hydronicStep : HydronicTask → ℕ → Zoned WetPace → Zoned WetTurn
-hydronicStep x n s =
-    let u = outcome (processHeatBatteryZones (x .card) (x .pcm) (wetDrive x (x .card .substep) (s .part .reynold)) (s .zones)) in
-    hydronicBy x (n + 1) s u (u .part .fault)
+unfoldable pub hydronicStep : HydronicTask → (ℕ → Salt) → ℕ → Zoned WetPace → Zoned WetTurn
+hydronicStep x salts n s =
+    let u = outcome (processHeatBatteryZones (x .card) (x .pcm) salts (wetDrive x (x .card .substep) (s .part .reynold)) (s .zones)) in
+    hydronicBy x salts (n + 1) s u (u .part .fault)
 
 abbrev pub wetPace : WetTurn → WetPace
 wetPace t = t .pace
@@ -103,12 +104,12 @@ hydronicThen go s On n = go n s
 hydronicThen go s (Stop e) n = hydronicEnd s e n
 
 -- the run from s with n substeps done and k whole ones left
-unfoldable pub hydronicRun : HydronicTask → ℕ → ℕ → Zoned WetPace → Zoned WetEnd
-hydronicRun x zero n s = hydronicEnd s Time n
-hydronicRun x (suc k) n s =
+unfoldable pub hydronicRun : HydronicTask → (ℕ → Salt) → ℕ → ℕ → Zoned WetPace → Zoned WetEnd
+hydronicRun x salts zero n s = hydronicEnd s Time n
+hydronicRun x salts (suc k) n s =
     cond (eqb n (x .card .budget))
     (hydronicEnd s OverBudget n)
-    (hydronicThen (hydronicRun x k) (onPart wetPace (hydronicStep x n s)) (hydronicStep x n s .part .next) (hydronicStep x n s .part .substeps))
+    (hydronicThen (hydronicRun x salts k) (onPart wetPace (hydronicStep x salts n s)) (hydronicStep x salts n s .part .next) (hydronicStep x salts n s .part .substeps))
 
 -- what the run hands out; the charged electric total stays
 unfoldable pub hydronicEnded : KilowattHours → WetEnd → Stopped

@@ -17,7 +17,6 @@ use Rattle.floats.specs.declared.Sum2.{Sum2}
 use Rattle.floats.proofs.Spread.{spread-start}
 use Rattle.floats.proofs.Sum2Laws.{no-more, noSum}
 use Rattle.zone.specs.Heat.{kj, kwh}
-use Rattle.zone.specs.Layer.{zoneSalt}
 use Rattle.water.specs.Water.{zoneProperties}
 use Rattle.zone.specs.declared.Kilojoules.{Kilojoules}
 use Rattle.zone.specs.declared.KilowattHours.{KilowattHours}
@@ -39,26 +38,26 @@ use Rattle.substep.proofs.EachZone.{index-once}
 use Rattle.substep.proofs.Ordered.{inOrder, andFinite, read-more, gathered-more, tests-all, sum-all}
 
 -- the k-th of n zones' step, and the sum and the tests up to it, in the mode's order
-abbrev stepped : Course → ℕ → ℕ → Pass → ZoneStep
-stepped x n k p =
-    let q = zonesAfter x n k p in
+abbrev stepped : Course → (ℕ → Salt) → ℕ → ℕ → Pass → ZoneStep
+stepped x s n k p =
+    let q = zonesAfter x s n k p in
     let j = zoneIndex (x .mode) n k in
-    zoneStep x (zoneSalt (x .salt) j) (getD (q .zones) j nan) (q .outlet) (q .left) (q .charged)
+    zoneStep x (s j) (getD (q .zones) j nan) (q .outlet) (q .left) (q .charged)
 
-abbrev pub summed : Course → ℕ → ℕ → Pass → Sum2
-summed x n k p = inOrder (x .mode) n sum2Step noSum (zonesAfter x n k p .energies) k
+abbrev pub summed : Course → (ℕ → Salt) → ℕ → ℕ → Pass → Sum2
+summed x s n k p = inOrder (x .mode) n sum2Step noSum (zonesAfter x s n k p .energies) k
 
-abbrev pub tested : Course → ℕ → ℕ → Pass → Bool
-tested x n k p = inOrder (x .mode) n andFinite true (zonesAfter x n k p .zones) k
+abbrev pub tested : Course → (ℕ → Salt) → ℕ → ℕ → Pass → Bool
+tested x s n k p = inOrder (x .mode) n andFinite true (zonesAfter x s n k p .zones) k
 
 -- what the loop has behind the first k of n zones
-pub record Underway (x : Course) (n k : ℕ) (p : Pass) (zones : List Float) (outlet : Float) (left : Kilojoules) (charged : KilowattHours) (sum : Sum2) (spread : Float) : Type 0 where
-  pub same-zones : zones ≡ zonesAfter x n k p .zones
-  pub same-outlet : outlet ≡ zonesAfter x n k p .outlet
-  pub same-left : left ≡ zonesAfter x n k p .left
-  pub same-charged : charged ≡ zonesAfter x n k p .charged
-  pub same-sum : sum ≡ summed x n k p
-  pub same-test : eq spread Constants.zero ≡ tested x n k p
+pub record Underway (x : Course) (s : ℕ → Salt) (n k : ℕ) (p : Pass) (zones : List Float) (outlet : Float) (left : Kilojoules) (charged : KilowattHours) (sum : Sum2) (spread : Float) : Type 0 where
+  pub same-zones : zones ≡ zonesAfter x s n k p .zones
+  pub same-outlet : outlet ≡ zonesAfter x s n k p .outlet
+  pub same-left : left ≡ zonesAfter x s n k p .left
+  pub same-charged : charged ≡ zonesAfter x s n k p .charged
+  pub same-sum : sum ≡ summed x s n k p
+  pub same-test : eq spread Constants.zero ≡ tested x s n k p
 
 -- a zero more at a zero
 store-zero : (l : List Float) (j : ℕ) (e : Float) → getD l j nan ≡ Constants.zero → e ≡ Constants.zero → set l j (getD l j nan ⊕ e) ≡ l
@@ -73,48 +72,48 @@ pub no-energy : (x : Course) (s : Salt) (t inlet : Float) (q : Kilojoules) (e : 
 unfolding zoneStep zoneProperties
 no-energy x s t inlet q e m = rw m
 
-module _ (x : Course) (n : ℕ) (p : Pass) (none : p .energies ≡ replicate 64 Constants.zero) (few : n ≤ 64) where
+module _ (x : Course) (s : ℕ → Salt) (n : ℕ) (p : Pass) (none : p .energies ≡ replicate 64 Constants.zero) (few : n ≤ 64) where
   clear : (i : ℕ) → i < n → getD (p .energies) i nan ≡ Constants.zero
   clear i h = rw none (getD-replicate 64 i Constants.zero nan (omega arith))
 
-  still-clear : (k : ℕ) → k < n → getD (zonesAfter x n k p .energies) (zoneIndex (x .mode) n k) nan ≡ Constants.zero
+  still-clear : (k : ℕ) → k < n → getD (zonesAfter x s n k p .energies) (zoneIndex (x .mode) n k) nan ≡ Constants.zero
   unfolding zonesAfter zoneAt
   still-clear k h =
-      stored-elsewhere (x .mode) n (λ i. zonesAfter x n i p .energies) _ (λ i. refl) k (zoneIndex (x .mode) n k) (λ j g. index-once (x .mode) n k j h g) ∙
+      stored-elsewhere (x .mode) n (λ i. zonesAfter x s n i p .energies) _ (λ i. refl) k (zoneIndex (x .mode) n k) (λ j g. index-once (x .mode) n k j h g) ∙
       clear (zoneIndex (x .mode) n k) (index-below (x .mode) n k h)
 
-  charging-energies : x .mode ≡ OnlyCharging → (k : ℕ) → k ≤ n → zonesAfter x n k p .energies ≡ p .energies
+  charging-energies : x .mode ≡ OnlyCharging → (k : ℕ) → k ≤ n → zonesAfter x s n k p .energies ≡ p .energies
   unfolding zonesAfter zoneAt
   charging-energies m zero h = refl
   charging-energies m (suc k) h =
-      store-zero (zonesAfter x n k p .energies) (zoneIndex (x .mode) n k) _ (still-clear k (omega arith)) (no-energy x _ _ _ _ _ m) ∙ charging-energies m k (omega arith)
+      store-zero (zonesAfter x s n k p .energies) (zoneIndex (x .mode) n k) _ (still-clear k (omega arith)) (no-energy x _ _ _ _ _ m) ∙ charging-energies m k (omega arith)
 
   module _ (k : ℕ) (h : k < n) where
-    sum-more : sum2Step (summed x n k p) (Constants.zero ⊕ stepped x n k p .energy .0) ≡ summed x n (suc k) p
+    sum-more : sum2Step (summed x s n k p) (Constants.zero ⊕ stepped x s n k p .energy .0) ≡ summed x s n (suc k) p
     unfolding zonesAfter zoneAt
     sum-more =
-        let l = stored-places (x .mode) n (λ i. zonesAfter x n i p .energies) _ (λ i. refl) k ∙ (ap length none ∙ length-replicate 64 Constants.zero) in
-        ap (λ (e : Float). sum2Step (summed x n k p) (e ⊕ stepped x n k p .energy .0)) (sym (still-clear k h)) ∙
-        sym (gathered-more (x .mode) n sum2Step noSum (zonesAfter x n k p .energies) k _ h (omega arith))
+        let l = stored-places (x .mode) n (λ i. zonesAfter x s n i p .energies) _ (λ i. refl) k ∙ (ap length none ∙ length-replicate 64 Constants.zero) in
+        ap (λ (e : Float). sum2Step (summed x s n k p) (e ⊕ stepped x s n k p .energy .0)) (sym (still-clear k h)) ∙
+        sym (gathered-more (x .mode) n sum2Step noSum (zonesAfter x s n k p .energies) k _ h (omega arith))
 
     tests-more :
-        (tested x n k p && finite64 (getD (zonesAfter x n (suc k) p .zones) (zoneIndex (x .mode) n k) nan)) ≡ tested x n (suc k) p
+        (tested x s n k p && finite64 (getD (zonesAfter x s n (suc k) p .zones) (zoneIndex (x .mode) n k) nan)) ≡ tested x s n (suc k) p
     unfolding zonesAfter zoneAt
-    tests-more = sym (read-more (x .mode) n andFinite true (zonesAfter x n k p .zones) k _ h)
+    tests-more = sym (read-more (x .mode) n andFinite true (zonesAfter x s n k p .zones) k _ h)
 
     -- one zone more
     pub underway-more :
-        (zones : List Float) (outlet : Float) (left : Kilojoules) (charged : KilowattHours) (sum more : Sum2) (spread next : Float) (j : ℕ) (s : Salt) (z : ZoneStep) →
-        Underway x n k p zones outlet left charged sum spread →
+        (zones : List Float) (outlet : Float) (left : Kilojoules) (charged : KilowattHours) (sum more : Sum2) (spread next : Float) (j : ℕ) (own : Salt) (z : ZoneStep) →
+        Underway x s n k p zones outlet left charged sum spread →
         j ≡ zoneIndex (x .mode) n k →
-        s ≡ zoneSalt (x .salt) j →
-        z ≡ zoneStep x s (getD zones j nan) outlet left charged →
+        own ≡ s j →
+        z ≡ zoneStep x own (getD zones j nan) outlet left charged →
         more ≡ sum2Step sum (Constants.zero ⊕ z .energy .0) →
         eq next Constants.zero ≡ (eq spread Constants.zero && finite64 (getD (set zones j (z .temperature)) j nan)) →
-        Underway x n (k + 1) p (set zones j (z .temperature)) (z .outlet) (z .left) (z .charged) more next
+        Underway x s n (k + 1) p (set zones j (z .temperature)) (z .outlet) (z .left) (z .charged) more next
     unfolding zonesAfter zoneAt
-    underway-more zones outlet left charged sum more spread next j s z u d r e a t =
-        let g : z ≡ stepped x n k p = rw (e, r, d, u .same-zones, u .same-outlet, u .same-left, u .same-charged) in
+    underway-more zones outlet left charged sum more spread next j own z u d r e a t =
+        let g : z ≡ stepped x s n k p = rw (e, r, d, u .same-zones, u .same-outlet, u .same-left, u .same-charged) in
         record {
           same-zones = rw (add-one, g, d, u .same-zones);
           same-outlet = rw (add-one, g);
@@ -129,23 +128,23 @@ abbrev pub startOf : List Float → Float → Kilojoules → KilowattHours → P
 startOf zones outlet left charged = record { zones = zones; energies = replicate 64 Constants.zero; outlet = outlet; left = left; charged = charged }
 
 pub underway-start :
-    (x : Course) (n : ℕ) (zones : List Float) (outlet : Float) (left : Kilojoules) (charged : KilowattHours) →
-    Underway x n 0 (startOf zones outlet left charged) zones outlet left charged noSum Constants.zero
+    (x : Course) (s : ℕ → Salt) (n : ℕ) (zones : List Float) (outlet : Float) (left : Kilojoules) (charged : KilowattHours) →
+    Underway x s n 0 (startOf zones outlet left charged) zones outlet left charged noSum Constants.zero
 unfolding zonesAfter inOrder
-underway-start x n zones outlet left charged = record { same-zones = refl; same-outlet = refl; same-left = refl; same-charged = refl; same-sum = refl; same-test = spread-start }
+underway-start x s n zones outlet left charged = record { same-zones = refl; same-outlet = refl; same-left = refl; same-charged = refl; same-sum = refl; same-test = spread-start }
 
 -- behind the last zone: the zones, and what a substep hands out besides
-module _ (c : Card) (x : Course) (k : ℕ) (d : Drive) (start : List Float) (few : c .layers ≤ 64) where
+module _ (c : Card) (x : Course) (s : ℕ → Salt) (k : ℕ) (d : Drive) (start : List Float) (few : c .layers ≤ 64) where
   end : Pass
-  end = zonesAfter x (c .layers) (c .layers) (passFrom d start)
+  end = zonesAfter x s (c .layers) (c .layers) (passFrom d start)
 
-  sum-end : summed x (c .layers) (c .layers) (passFrom d start) ≡ sum2After (end .energies) (c .layers)
+  sum-end : summed x s (c .layers) (c .layers) (passFrom d start) ≡ sum2After (end .energies) (c .layers)
   unfolding passFrom end
   sum-end =
       sum-all (x .mode) (c .layers) (end .energies)
-      (λ m i h. ap (λ (l : List Float). getD l i nan) (charging-energies x (c .layers) (passFrom d start) refl few m (c .layers) (omega arith)) ∙ clear x (c .layers) (passFrom d start) refl few i h)
+      (λ m i h. ap (λ (l : List Float). getD l i nan) (charging-energies x s (c .layers) (passFrom d start) refl few m (c .layers) (omega arith)) ∙ clear x s (c .layers) (passFrom d start) refl few i h)
 
-  tests-end : tested x (c .layers) (c .layers) (passFrom d start) ≡ zonesFinite (end .zones) (c .layers)
+  tests-end : tested x s (c .layers) (c .layers) (passFrom d start) ≡ zonesFinite (end .zones) (c .layers)
   unfolding end
   tests-end = tests-all (x .mode) (c .layers) (end .zones)
 
@@ -153,15 +152,15 @@ module _ (c : Card) (x : Course) (k : ℕ) (d : Drive) (start : List Float) (few
     behind-all :
         heat ≡ chargerHeat d →
         k ≡ c .layers →
-        Underway x (c .layers) k (startOf start (d .inlet) heat (kwh Constants.zero)) zones outlet left charged sum spread →
-        Underway x (c .layers) (c .layers) (passFrom d start) zones outlet left charged sum spread
+        Underway x s (c .layers) k (startOf start (d .inlet) heat (kwh Constants.zero)) zones outlet left charged sum spread →
+        Underway x s (c .layers) (c .layers) (passFrom d start) zones outlet left charged sum spread
     unfolding passFrom
     behind-all h e u =
-        subst (λ (i : ℕ). Underway x (c .layers) i (passFrom d start) zones outlet left charged sum spread) e
-        (subst (λ (q : Kilojoules). Underway x (c .layers) k (startOf start (d .inlet) q (kwh Constants.zero)) zones outlet left charged sum spread) h u)
+        subst (λ (i : ℕ). Underway x s (c .layers) i (passFrom d start) zones outlet left charged sum spread) e
+        (subst (λ (q : Kilojoules). Underway x s (c .layers) k (startOf start (d .inlet) q (kwh Constants.zero)) zones outlet left charged sum spread) h u)
 
     handed-out :
-        Underway x (c .layers) (c .layers) (passFrom d start) zones outlet left charged sum spread →
+        Underway x s (c .layers) (c .layers) (passFrom d start) zones outlet left charged sum spread →
         f ≡ cond (eq spread Constants.zero && (finite64 outlet && (finite64 (sum .s ⊕ sum .c) && finite64 (charged .0)))) Nothing NotFinite →
         (zones ≡ end .zones) × (_≡_ {A = Outcome} (record { outlet = outlet; delivered = kj (sum .s ⊕ sum .c); charged = charged; fault = f }) (outcomeOf (substepFrom c end)))
     unfolding end outcomeOf substepFrom passFault passFinite sum2
@@ -171,10 +170,10 @@ module _ (c : Card) (x : Course) (k : ℕ) (d : Drive) (start : List Float) (few
         heat ≡ chargerHeat d →
         k ≤ c .layers →
         c .layers ≤ k →
-        Underway x (c .layers) k (startOf start (d .inlet) heat (kwh Constants.zero)) zones outlet left charged sum spread →
+        Underway x s (c .layers) k (startOf start (d .inlet) heat (kwh Constants.zero)) zones outlet left charged sum spread →
         f ≡ cond (eq spread Constants.zero && (finite64 outlet && (finite64 (sum .s ⊕ sum .c) && finite64 (charged .0)))) Nothing NotFinite →
-        (zones ≡ zonesAfter x (c .layers) (c .layers) (passFrom d start) .zones) ×
+        (zones ≡ zonesAfter x s (c .layers) (c .layers) (passFrom d start) .zones) ×
         (_≡_ {A = Outcome} (record { outlet = outlet; delivered = kj (sum .s ⊕ sum .c); charged = charged; fault = f })
-        (outcomeOf (substepFrom c (zonesAfter x (c .layers) (c .layers) (passFrom d start)))))
+        (outcomeOf (substepFrom c (zonesAfter x s (c .layers) (c .layers) (passFrom d start)))))
     unfolding end
     underway-end h a b u g = handed-out (behind-all h (omega arith) u) g

@@ -12,7 +12,7 @@ use Rattle.floats.specs.Sum2.{sum2}
 use Rattle.floats.specs.declared.Log.{Log}
 use Rattle.floats.specs.declared.Log.the-variants.{Value, Refused}
 use Rattle.zone.specs.Heat.{kj, kwh, kilojoules}
-use Rattle.zone.specs.Layer.{socToTemp, zoneSalt}
+use Rattle.zone.specs.Layer.{socToTemp}
 use Rattle.update.specs.Update.{newZoneTemperature}
 use Rattle.charging.specs.Charging.{charged, zoneSimultaneousCharging}
 use Rattle.water.specs.Water.{massFlow, heatTransfer, zoneProperties}
@@ -45,17 +45,21 @@ zoneIndex Normal n k = k
 unfoldable pub zoneCharge : Salt → Float → Float → Kilojoules → Kilojoules → KilowattHours → Charged
 zoneCharge s t target q e k = cond (lt (q .0) Constants.zero) (zoneSimultaneousCharging s t target q e k) (charged q k e)
 
+-- the temperature of the course's charge level, by a zone's salt
+abbrev pub levelAt : Course → Salt → Float
+levelAt x s = socToTemp s (x .reference) (x .max) (x .level)
+
 -- one zone of the salt s at t: its inlet, the charger's heat left and the energy charged so far
 unfoldable pub zoneStep : Course → Salt → Float → Float → Kilojoules → KilowattHours → ZoneStep
 zoneStep x s t inlet q k =
     let p = zoneProperties (x .mode) (x .shared) t inlet q in
-    let c = zoneCharge s t (x .target) q (p .energy) k in
+    let c = zoneCharge s t (levelAt x s) q (p .energy) k in
     record { temperature = newZoneTemperature s t (c .heat) .temperature; energy = p .energy; outlet = p .outlet; left = c .left; charged = c .charged }
 
--- the zone at j
-unfoldable pub zoneAt : Course → ℕ → Pass → Pass
-zoneAt x j p =
-    let z = zoneStep x (zoneSalt (x .salt) j) (getD (p .zones) j nan) (p .outlet) (p .left) (p .charged) in
+-- the zone at j, of the salt s j
+unfoldable pub zoneAt : Course → (ℕ → Salt) → ℕ → Pass → Pass
+zoneAt x s j p =
+    let z = zoneStep x (s j) (getD (p .zones) j nan) (p .outlet) (p .left) (p .charged) in
     record {
       zones = set (p .zones) j (z .temperature);
       energies = set (p .energies) j (getD (p .energies) j nan ⊕ z .energy .0);
@@ -65,9 +69,9 @@ zoneAt x j p =
     }
 
 -- the first k of n zones
-unfoldable pub zonesAfter : Course → ℕ → ℕ → Pass → Pass
-zonesAfter x n zero p = p
-zonesAfter x n (suc k) p = zoneAt x (zoneIndex (x .mode) n k) (zonesAfter x n k p)
+unfoldable pub zonesAfter : Course → (ℕ → Salt) → ℕ → ℕ → Pass → Pass
+zonesAfter x s n zero p = p
+zonesAfter x s n (suc k) p = zoneAt x s (zoneIndex (x .mode) n k) (zonesAfter x s n k p)
 
 -- a zone's share of the heat transfer. 'Only demand and hydronic substeps take a logarithm'
 unfoldable pub perLayer : Card → Log → Log
@@ -79,9 +83,9 @@ zoneTransfer OnlyCharging c d = Value Constants.zero
 zoneTransfer Losses c d = Value Constants.zero
 zoneTransfer Normal c d = perLayer c (heatTransfer (d .a) (d .b) (d .flow) (d .reynold))
 
--- the temperature of a charge level, by the zone's salt
-abbrev pub targetOf : Card → HeatBatteryPcm → Float → Float
-targetOf c pcm level = socToTemp (pcm .salt) (c .reference) (c .max) level
+-- the temperature of a charge level, by a zone's salt
+abbrev pub targetOf : Card → Salt → Float → Float
+targetOf c s level = socToTemp s (c .reference) (c .max) level
 
 -- what all zones share
 unfoldable pub courseOf : Card → HeatBatteryPcm → Drive → Float → Course
@@ -89,8 +93,9 @@ courseOf c pcm d transfer =
     record {
       mode = d .mode;
       shared = record { layers = c .layers; inlet = d .inlet; rated = pcm .rated; transfer = transfer; mass = massFlow (d .flow); seconds = d .seconds };
-      salt = pcm .salt;
-      target = targetOf c pcm (d .target);
+      reference = c .reference;
+      max = c .max;
+      level = d .target;
     }
 
 -- the charger's heat over the substep, at first: kilowatts times hours
@@ -127,10 +132,10 @@ substepFrom c p =
     let sum = kj (sum2 (p .energies) (c .layers)) in
     record { zones = p .zones; energies = p .energies; outlet = p .outlet; delivered = sum; charged = p .charged; fault = passFault c p sum }
 
-unfoldable pub withTransfer : Card → HeatBatteryPcm → Drive → List Float → Log → Substep
-withTransfer c pcm d zones Refused = withoutLogarithm zones
-withTransfer c pcm d zones (Value u) =
-    substepFrom c (zonesAfter (courseOf c pcm d u) (c .layers) (c .layers) (passFrom d zones))
+unfoldable pub withTransfer : Card → HeatBatteryPcm → (ℕ → Salt) → Drive → List Float → Log → Substep
+withTransfer c pcm s d zones Refused = withoutLogarithm zones
+withTransfer c pcm s d zones (Value u) =
+    substepFrom c (zonesAfter (courseOf c pcm d u) s (c .layers) (c .layers) (passFrom d zones))
 
-unfoldable pub processHeatBatteryZones : Card → HeatBatteryPcm → Drive → List Float → Substep
-processHeatBatteryZones c pcm d zones = withTransfer c pcm d zones (zoneTransfer (d .mode) c d)
+unfoldable pub processHeatBatteryZones : Card → HeatBatteryPcm → (ℕ → Salt) → Drive → List Float → Substep
+processHeatBatteryZones c pcm s d zones = withTransfer c pcm s d zones (zoneTransfer (d .mode) c d)

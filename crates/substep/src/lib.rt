@@ -10,12 +10,15 @@ use zone::Kilojoules;
 use zone::KilowattHours;
 use zone::Salt;
 ghost use mathlib.Core.Path.{_≡_};
-ghost use mathlib.Core.Bool.{cond, _&&_};
+ghost use mathlib.Core.Bool.{true, cond, _&&_};
 ghost use mathlib.Core.List.{List};
-ghost use Prim.Native.Nat.{_<_};
-ghost use lib.Ieee.{Float};
+ghost use Prim.Native.Nat.{_≤_, _<_};
+ghost use lib.ListN.{length};
+ghost use lib.Ieee.{Float, lt};
+ghost use Rattle.floats.specs.Constants.{zero};
 ghost use Rattle.floats.specs.Standins.{finite64};
-ghost use Rattle.substep.specs.Substep.{zoneIndex, zoneCharge, zoneStep, perLayer, zoneTransfer, targetOf, courseOf, chargerHeat, withoutLogarithm, outcomeOf};
+ghost use Rattle.zone.specs.Lent.{zoneSalt};
+ghost use Rattle.substep.specs.Substep.{zoneIndex, zoneCharge, levelAt, zoneStep, perLayer, zoneTransfer, targetOf, courseOf, chargerHeat, withoutLogarithm, outcomeOf};
 
 // What a substep is asked, in the Rust's words.
 pub struct Drive {
@@ -39,9 +42,11 @@ pub struct Drive {
 pub struct Course {
     pub mode: Mode,
     pub shared: Shared,
-    pub salt: Salt,
     // °C
-    pub target: f64,
+    pub reference: f64,
+    pub max: f64,
+    // charge level, 0 to 1
+    pub level: f64,
 }
 
 // What a substep hands out besides its arrays.
@@ -93,24 +98,21 @@ pub fn zone_index(mode: Mode, n: usize, k: usize) -> usize
 }
 
 fn zone_charge(
+    course: Course,
     salt: Salt,
-    zone: f64,
+    alike: bool,
     target: f64,
+    zone: f64,
     left: Kilojoules,
     energy: Kilojoules,
     charged: KilowattHours,
 ) -> Charged
-    ensures { λ r. ⌜ r ≡ zoneCharge salt zone target left energy charged ⌝ }
+    requires { ⌜ (lt (left .0) zero ≡ true → alike ≡ true → target ≡ levelAt course salt) ⌝ }
+    ensures { λ r. ⌜ r ≡ zoneCharge salt zone (levelAt course salt) left energy charged ⌝ }
 {
     if left.0 < 0.0 {
-        return charging::process_zone_simultaneous_charging(
-            salt,
-            zone,
-            target,
-            left,
-            energy,
-            charged,
-        );
+        let own = zone_target(course, salt, alike, target);
+        return charging::process_zone_simultaneous_charging(salt, zone, own, left, energy, charged);
     }
     Charged {
         left,
@@ -119,21 +121,35 @@ fn zone_charge(
     }
 }
 
+// The temperature of the charge level by a zone's salt: `target` where the zones are alike in it.
+pub fn zone_target(course: Course, salt: Salt, alike: bool, target: f64) -> f64
+    requires { ⌜ (alike ≡ true → target ≡ levelAt course salt) ⌝ }
+    ensures { λ r. ⌜ r ≡ levelAt course salt ⌝ }
+{
+    if alike {
+        return target;
+    }
+    zone::layer::soc_to_temp(salt, course.reference, course.max, course.level)
+}
+
 pub fn zone_step(
     course: Course,
     salt: Salt,
+    alike: bool,
+    target: f64,
     zone: f64,
     inlet: f64,
     left: Kilojoules,
     charged: KilowattHours,
 ) -> ZoneStep
+    requires { ⌜ (lt (left .0) zero ≡ true → alike ≡ true → target ≡ levelAt course salt) ⌝ }
     ensures { λ r. ⌜ r ≡ zoneStep course salt zone inlet left charged ⌝ }
 {
     let mode = course.mode;
     let shared = course.shared;
     let p = water::get_zone_properties(mode, shared, zone, inlet, left);
     let energy = p.energy;
-    let c = zone_charge(salt, zone, course.target, left, energy, charged);
+    let c = zone_charge(course, salt, alike, target, zone, left, energy, charged);
     let heat = c.heat;
     let update = update::calculate_new_zone_temperature(salt, zone, heat);
     let left = c.left;
@@ -170,27 +186,20 @@ fn per_layer(card: Card, whole: Log) -> Log
     }
 }
 
-// The temperature of a charge level: once for a run, whose substeps all have it.
-pub fn target_of(card: Card, pcm: HeatBatteryPcm, level: f64) -> f64
-    ensures { λ r. ⌜ r ≡ targetOf card pcm level ⌝ }
+// The temperature of a charge level by the first zone's salt: once for a run, whose substeps all have it.
+pub fn target_of(card: Card, salts: &[f64], step: usize, level: f64) -> f64
+    requires { ⌜ 5 ≤ length (now salts) ⌝ }
+    ensures { λ r. ⌜ r ≡ targetOf card (zoneSalt (now (salts .entry)) step 0) level ⌝ }
 {
-    let salt = pcm.salt;
+    let salt = zone::layer::zone_salt(salts, step, 0);
     zone::layer::soc_to_temp(salt, card.reference, card.max, level)
 }
 
-// `mode` is the drive's, and `target` the temperature of its level.
-pub fn course_of(
-    mode: Mode,
-    card: Card,
-    pcm: HeatBatteryPcm,
-    d: Drive,
-    target: f64,
-    transfer: f64,
-) -> Course
-    requires { ⌜ (mode ≡ d .mode) × (target ≡ targetOf card pcm (d .target)) ⌝ }
+// `mode` is the drive's.
+pub fn course_of(mode: Mode, card: Card, pcm: HeatBatteryPcm, d: Drive, transfer: f64) -> Course
+    requires { ⌜ mode ≡ d .mode ⌝ }
     ensures { λ r. ⌜ r ≡ courseOf card pcm d transfer ⌝ }
 {
-    let salt = pcm.salt;
     let mass = water::mass_flow(d.flow);
     let shared = Shared {
         layers: card.layers,
@@ -203,8 +212,9 @@ pub fn course_of(
     Course {
         mode,
         shared,
-        salt,
-        target,
+        reference: card.reference,
+        max: card.max,
+        level: d.target,
     }
 }
 

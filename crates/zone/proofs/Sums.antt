@@ -8,13 +8,13 @@ use lib.ListN.{getD}
 use lib.Ieee.{Float, nan}
 use Rattle.floats.specs.F64.{_⊕_}
 use Rattle.zone.specs.Heat.{kj}
-use Rattle.zone.specs.Layer.{layerEnergyStored, zoneSalt, storedEnergy}
+use Rattle.zone.specs.Layer.{layerEnergyStored, storedEnergy}
 use Rattle.zone.specs.declared.Kilojoules.{Kilojoules}
 use Rattle.zone.specs.declared.Salt.{Salt}
 
-module _ (s : Salt) (ref : Float) (zones : List Float) (k : ℕ) (e : Kilojoules) where
+module _ (s : ℕ → Salt) (ref : Float) (zones : List Float) (k : ℕ) (e : Kilojoules) where
   pub stored-more :
-      (z : Salt) (l : Kilojoules) → e ≡ storedEnergy s ref zones k → z ≡ zoneSalt s k → l ≡ layerEnergyStored (getD zones k nan) ref z →
+      (z : Salt) (l : Kilojoules) → e ≡ storedEnergy s ref zones k → z ≡ s k → l ≡ layerEnergyStored (getD zones k nan) ref z →
       kj (e .0 ⊕ l .0) ≡ storedEnergy s ref zones (k + 1)
   unfolding storedEnergy
   stored-more z l h p q = rw (add-one, ← h, ← p, ← q)

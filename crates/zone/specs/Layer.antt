@@ -49,22 +49,28 @@ socToTemp s ref max soc =
     max
     (tempAt s ref (kj (soc ⊗ layerEnergyStored max ref s .0)) (layerEnergyStored (s .lower) ref s) (layerEnergyStored (s .upper) ref s)))
 
--- the salt of zone i
-unfoldable pub zoneSalt : Salt → ℕ → Salt
-zoneSalt s i = s
+-- a battery's salts: one for all its zones, or one for each
+pub data Salts : Type 0 where
+  One : Salt → Salts
+  Each : (ℕ → Salt) → Salts
+
+-- the salt of zone j
+abbrev pub saltAt : Salts → ℕ → Salt
+saltAt (One s) j = s
+saltAt (Each s) j = s j
 
 -- the stored energy of the first k zones: the plain sum in zone order
-unfoldable pub storedEnergy : Salt → Float → List Float → ℕ → Kilojoules
+unfoldable pub storedEnergy : (ℕ → Salt) → Float → List Float → ℕ → Kilojoules
 storedEnergy s ref zones zero = kj Constants.zero
 storedEnergy s ref zones (suc k) =
-    kj (storedEnergy s ref zones k .0 ⊕ layerEnergyStored (getD zones k nan) ref (zoneSalt s k) .0)
+    kj (storedEnergy s ref zones k .0 ⊕ layerEnergyStored (getD zones k nan) ref (s k) .0)
 
 -- 'state of charge above 1.0 + 1e-10' is refused; up to there it is at most 1
 unfoldable pub levelOf : Float → StateOfCharge
 levelOf soc = cond (lt (one ⊕ tolerance) soc) Above (Level (min soc one))
 
 -- `calc_state_of_charge` of n zones, from the stored maximum
-unfoldable pub stateOfCharge : Salt → Float → Kilojoules → List Float → ℕ → StateOfCharge
+unfoldable pub stateOfCharge : (ℕ → Salt) → Float → Kilojoules → List Float → ℕ → StateOfCharge
 stateOfCharge s ref most zones n = levelOf (storedEnergy s ref zones n .0 ⊘ most .0)
 
 -- `calculate_zone_energy_required`: what a zone at t gives up on the way to its target, so below 0 where it takes heat

@@ -1,3 +1,4 @@
 pub mod Heat
 pub mod Layer
 pub mod Good
+pub mod Lent

@@ -3,8 +3,10 @@ use crate::Kilojoules;
 use crate::Salt;
 use crate::StateOfCharge;
 ghost use mathlib.Core.Path.{_≡_};
-ghost use Prim.Native.Nat.{_≤_};
-ghost use Rattle.zone.specs.Layer.{layerEnergyStored, tempAt, socToTemp, zoneSalt, storedEnergy, levelOf, stateOfCharge, zoneEnergyRequired};
+ghost use Prim.Native.Nat.{_+_, _*_, _≤_};
+ghost use lib.ListN.{length};
+ghost use Rattle.zone.specs.Layer.{layerEnergyStored, tempAt, socToTemp, storedEnergy, levelOf, stateOfCharge, zoneEnergyRequired};
+ghost use Rattle.zone.specs.Lent.{zoneSalt, Salted};
 
 // The energy of a layer at `layer` °C above `reference`.
 pub fn calculate_layer_energy_stored(layer: f64, reference: f64, salt: Salt) -> Kilojoules
@@ -73,21 +75,35 @@ pub fn soc_to_temp(salt: Salt, reference: f64, max: f64, soc: f64) -> f64
     temp_at(salt, reference, Kilojoules(soc * most.0), lower, upper)
 }
 
-// The salt of zone i.
-pub fn zone_salt(salt: Salt, i: usize) -> Salt
-    ensures { λ r. ⌜ r ≡ zoneSalt salt i ⌝ }
+// The salt of zone j: five numbers from j × step on.
+pub fn zone_salt(salts: &[f64], step: usize, j: usize) -> Salt
+    requires { ⌜ j * step + 5 ≤ length (now salts) ⌝ }
+    ensures { λ r. ⌜ r ≡ zoneSalt (now (salts .entry)) step j ⌝ }
 {
-    salt
+    let at = j * step;
+    Salt {
+        lower: salts[at],
+        upper: salts[at + 1],
+        below: salts[at + 2],
+        during: salts[at + 3],
+        above: salts[at + 4],
+    }
 }
 
 // The energy of the first n zones above `reference`.
-pub fn stored_energy(salt: Salt, reference: f64, zones: [f64; 64], n: usize) -> Kilojoules
-    requires { ⌜ n ≤ 64 ⌝ }
-    ensures { λ r. ⌜ r ≡ storedEnergy salt reference zones n ⌝ }
+pub fn stored_energy(
+    salts: &[f64],
+    step: usize,
+    reference: f64,
+    zones: [f64; 64],
+    n: usize,
+) -> Kilojoules
+    requires { ⌜ (n ≤ 64) × Salted (now salts) step n ⌝ }
+    ensures { λ r. ⌜ r ≡ storedEnergy (zoneSalt (now (salts .entry)) step) reference zones n ⌝ }
 {
     let mut sum = Kilojoules(0.0);
     for k in 0..n {
-        let layer = calculate_layer_energy_stored(zones[k], reference, zone_salt(salt, k));
+        let layer = calculate_layer_energy_stored(zones[k], reference, zone_salt(salts, step, k));
         sum = Kilojoules(sum.0 + layer.0);
     }
     sum
@@ -105,16 +121,17 @@ fn level_of(soc: f64) -> StateOfCharge
 
 // `stored` is the stored maximum.
 pub fn calc_state_of_charge(
-    salt: Salt,
+    salts: &[f64],
+    step: usize,
     reference: f64,
     stored: Kilojoules,
     zones: [f64; 64],
     n: usize,
 ) -> StateOfCharge
-    requires { ⌜ n ≤ 64 ⌝ }
-    ensures { λ r. ⌜ r ≡ stateOfCharge salt reference stored zones n ⌝ }
+    requires { ⌜ (n ≤ 64) × Salted (now salts) step n ⌝ }
+    ensures { λ r. ⌜ r ≡ stateOfCharge (zoneSalt (now (salts .entry)) step) reference stored zones n ⌝ }
 {
-    let sum = stored_energy(salt, reference, zones, n);
+    let sum = stored_energy(salts, step, reference, zones, n);
     level_of(sum.0 / stored.0)
 }
 

@@ -1,5 +1,5 @@
 use Rattle.substep.specs.Substep.{withoutLogarithm, substepFrom}
-use Rattle.substep.proofs.Passes.{passed, refused-here, whole}
+use Rattle.substep.proofs.Passes.{passed, refused-here, whole, not-alike}
 use mathlib.Core.Path.{refl, sym, _∙_}
 use borrow.Author.Needs.{needs}
 use Rattle.by_value.proofs.process_heat_battery_zones.Statement.{statement}
@@ -23,18 +23,17 @@ bare-requires c κs = search needs
 returns : tie.Need-returns
 unfolding withoutLogarithm
 returns c =
-    let b = c .before .before .before .before .before in
-    let e = refused-here (b .args .card) (b .args .pcm) (b .args .d) (b .args .zones) _ (c .before .before .before .before .zone-transfer .ensures) (c .before .before .enum-told .given .1) in
+    let b = c .before .before .before .before .before .before in
+    let e = refused-here (b .args .card) (b .args .pcm) _ (b .args .d) (b .args .zones) _ (c .before .before .before .before .zone-transfer .ensures) (c .before .before .enum-told .given .1) in
     c .bare .ensures ∙ (whole _ _ _ (withoutLogarithm (b .args .zones)) (refl, c .before .without-logarithm .ensures _) refl ∙ sym e)
 
-target-of-requires : tie.Need-target-of-requires
-target-of-requires c κs = search needs
-
 course-of-requires : tie.Need-course-of-requires
-course-of-requires c κs = (refl, c .target-of .ensures)
+course-of-requires c κs = refl
 
 pass-in-place-requires : tie.Need-pass-in-place-requires
-pass-in-place-requires c κs = search needs
+pass-in-place-requires c κs =
+    let p = c .before .before .before .before .before .before .before .pre in
+    (p .0, (p .1, λ h e. not-alike e))
 
 zone-energies-requires : tie.Need-zone-energies-requires
 zone-energies-requires c κs = search needs
@@ -46,7 +45,7 @@ returns-2 : tie.Need-returns-2
 unfolding substepFrom
 returns-2 c =
     let b = c .before .before .before .before .before .before .before .before .before .before in
-    let e = passed (b .args .card) (b .args .pcm) (b .args .d) (b .args .zones) _ _ _ (c .before .before .before .before .before .before .before .before .before .zone-transfer .ensures) (c .before .before .before .before .before .before .before .share .given .1) (c .before .before .before .before .course-of .ensures) in
+    let e = passed (b .args .card) (b .args .pcm) _ (b .args .d) (b .args .zones) _ _ _ (c .before .before .before .before .before .before .before .before .zone-transfer .ensures) (c .before .before .before .before .before .before .share .given .1) (c .before .before .before .before .course-of .ensures) in
     c .with-arrays .ensures ∙ (whole _ _ _ _ (c .before .before .pass-in-place .ensures) (c .before .zone-energies .ensures) ∙ sym e)
 
 pub process-heat-battery-zones-spec : {M : Type 1} → statement M
@@ -59,7 +58,6 @@ process-heat-battery-zones-spec =
     without-logarithm-requires
     bare-requires
     returns
-    target-of-requires
     course-of-requires
     pass-in-place-requires
     zone-energies-requires

@@ -1,6 +1,7 @@
+use Rattle.zone.specs.Lent.{zoneSalt}
 use Rattle.substep.specs.Substep.{zonesAfter}
 use Rattle.substep.specs.Pass.{Pass}
-use Rattle.substep.proofs.Passes.{zones-more, energies-end}
+use Rattle.substep.proofs.Passes.{zones-more, energies-end, not-alike}
 use mathlib.Core.Path.{_≡_, refl}
 use Prim.Native.Nat.{_≤_, _-_}
 use native.Mathlib.Omega.{arith}
@@ -9,12 +10,12 @@ use Rattle.by_value.proofs.zone_energies.Statement.{statement}
 use Rattle.by_value.proofs.zone_energies.Tie as tie
 
 abbrev Inv-loop : tie.InvT-loop
-Inv-loop course n mode own after₀ energies₀ outlet₀ left₀ charged₀ k₀ after energies outlet left charged k =
+Inv-loop course salts step n mode after₀ energies₀ outlet₀ left₀ charged₀ k₀ after energies outlet left charged k =
     (k ≤ n) × (_≡_ {A = Pass} (record { zones = after; energies = energies; outlet = outlet; left = left; charged = charged })
-    (zonesAfter course n k (record { zones = after₀; energies = energies₀; outlet = outlet₀; left = left₀; charged = charged₀ })))
+    (zonesAfter course (zoneSalt salts step) n k (record { zones = after₀; energies = energies₀; outlet = outlet₀; left = left₀; charged = charged₀ })))
 
 abbrev μ-loop : tie.MeasureT-loop
-μ-loop course n mode own after₀ energies₀ outlet₀ left₀ charged₀ k₀ after energies outlet left charged k = n - k
+μ-loop course salts step n mode after₀ energies₀ outlet₀ left₀ charged₀ k₀ after energies outlet left charged k = n - k
 
 cast-n : tie.Need-cast-n Inv-loop μ-loop
 cast-n c = search needs
@@ -29,7 +30,7 @@ zone-index-requires : tie.Need-zone-index-requires Inv-loop μ-loop
 zone-index-requires c κs = search needs
 
 zone-salt-requires : tie.Need-zone-salt-requires Inv-loop μ-loop
-zone-salt-requires c κs = search needs
+zone-salt-requires c κs = c .before .before .before .before .before .before .pre .1 .1 _ (c .zone-index .ensures .1)
 
 mul-zone-step : tie.Need-mul-zone-step Inv-loop μ-loop
 mul-zone-step c = search needs
@@ -38,7 +39,7 @@ array-read-zone-step : tie.Need-array-read-zone-step Inv-loop μ-loop
 array-read-zone-step c = search needs
 
 zone-step-requires : tie.Need-zone-step-requires Inv-loop μ-loop
-zone-step-requires c κs = search needs
+zone-step-requires c κs h e = not-alike e
 
 mul-after : tie.Need-mul-after Inv-loop μ-loop
 mul-after c = search needs
@@ -67,11 +68,11 @@ loop-less c = search needs
 loop-again : tie.Need-loop-again Inv-loop μ-loop
 loop-again c = (
   omega arith,
-  zones-more _ _ _ _ _ _ _ _ (c .before .before .before .before .before .before .before .loop .inv .1) (c .before .before .before .before .before .zone-index .ensures .0) (c .before .before .before .before .zone-salt .ensures) (c .before .before .before .zone-step .ensures),
+  zones-more _ _ _ _ _ _ _ _ _ (c .before .before .before .before .before .before .before .loop .inv .1) (c .before .before .before .before .before .zone-index .ensures .0) (c .before .before .before .before .zone-salt .ensures) (c .before .before .before .zone-step .ensures),
 )
 
 returns : tie.Need-returns Inv-loop μ-loop
-returns c = energies-end _ _ _ (c .before .before .before .before .before .args .d) _ _ _ (c .before .before .charger-heat .ensures) (c .before .loop .inv .0) (c .loop-test .left) (c .before .loop .inv .1)
+returns c = energies-end _ _ _ _ (c .before .before .before .before .before .args .d) _ _ _ (c .before .before .charger-heat .ensures) (c .before .loop .inv .0) (c .loop-test .left) (c .before .loop .inv .1)
 
 pub zone-energies-spec : {M : Type 1} → statement M
 zone-energies-spec =

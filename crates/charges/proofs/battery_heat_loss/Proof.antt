@@ -2,6 +2,7 @@ use mathlib.Core.Path.{ap}
 use Rattle.substep.specs.declared.Drive.{Drive}
 use Rattle.runs.specs.Charge.{lossEnded, lossDrive, batteryHeatLoss}
 use Rattle.runs.proofs.InPlace.{one-substep}
+use Rattle.zone.proofs.Salts.{salts-at}
 use borrow.Author.Needs.{needs}
 use Rattle.charges.proofs.battery_heat_loss.Statement.{statement}
 use Rattle.charges.proofs.battery_heat_loss.Tie as tie
@@ -15,9 +16,9 @@ loss-drive-requires c κs = search needs
 lose-in-place-requires : tie.Need-lose-in-place-requires
 unfolding lossDrive
 lose-in-place-requires c κs =
-    let p = c .before .before .before .before .pre in
+    let p = c .before .before .before .before .before .pre in
     let e = c .before .loss-drive .ensures in
-    (p .0, (ap (λ (d : Drive). d .mode) e, rw e (p .1)))
+    (p .0, (p .1 .0, (ap (λ (d : Drive). d .mode) e, rw e (p .2))))
 
 loss-ended-requires : tie.Need-loss-ended-requires
 loss-ended-requires c κs = search needs
@@ -25,8 +26,8 @@ loss-ended-requires c κs = search needs
 returns : tie.Need-returns
 unfolding batteryHeatLoss
 returns c =
-    let a = c .before .before .before .before .before .before .args in
-    rw (← (c .before .before .before .before .derived .ensures), ← (c .before .before .before .loss-drive .ensures)) (one-substep (lossEnded (a .l)) _ _ _ _ _ _ _ (c .before .lose-in-place .ensures) (c .loss-ended .ensures))
+    let b = c .before .before .before .before .before .before .before in
+    rw (← (salts-at _ _ _ (b .pre .1 .1)), ← (c .before .before .before .before .derived .ensures), ← (c .before .before .before .loss-drive .ensures)) (one-substep (lossEnded (b .args .l)) _ _ _ _ _ _ _ _ (c .before .lose-in-place .ensures) (c .loss-ended .ensures))
 
 pub battery-heat-loss-spec : {M : Type 1} → statement M
 battery-heat-loss-spec =

@@ -5,19 +5,19 @@ use borrow.Author.Needs.{needs}
 use Rattle.charges.proofs.calculate_charge_energy_demand.Statement.{statement}
 use Rattle.charges.proofs.calculate_charge_energy_demand.Tie as tie
 
-derived-requires : tie.Need-derived-requires
-derived-requires c κs = search needs
-
 returns : tie.Need-returns
 unfolding chargeEnergyDemand
-returns c = rw (← (c .before .before .derived .ensures)) (via-true _ _ (c .if1 .taken) refl)
+returns c = via-true _ _ (c .if1 .taken) refl
 
 nearly-equal-requires : tie.Need-nearly-equal-requires
 nearly-equal-requires c κs = search needs
 
 returns-2 : tie.Need-returns-2
 unfolding chargeEnergyDemand
-returns-2 c = rw (← (c .before .before .before .before .derived .ensures), ← (c .before .nearly-equal .ensures)) (via-false _ _ (c .before .before .if1 .left) (via-true _ _ (c .if2 .taken) refl))
+returns-2 c = rw (← (c .before .nearly-equal .ensures)) (via-false _ _ (c .before .before .if1 .left) (via-true _ _ (c .if2 .taken) refl))
+
+energy-at-requires : tie.Need-energy-at-requires
+energy-at-requires c κs = let p = c .before .before .before .before .before .pre in (p .0, p .1 .0)
 
 energy-deficit-requires : tie.Need-energy-deficit-requires
 energy-deficit-requires c κs = search needs
@@ -27,16 +27,19 @@ kilowatt-hours-requires c κs = search needs
 
 returns-3 : tie.Need-returns-3
 unfolding chargeEnergyDemand
-returns-3 c = rw (← (c .before .before .before .before .before .before .before .before .derived .ensures), ← (c .before .before .before .before .before .nearly-equal .ensures), ← (c .before .energy-deficit .ensures), ← (c .kilowatt-hours .ensures)) (via-false _ _ (c .before .before .before .before .before .before .if1 .left) (via-false _ _ (c .before .before .before .before .if2 .left) refl))
+returns-3 c =
+    let p = c .before .before .before .before .before .before .before .before .before .before .pre in
+    rw (← (p .1 .1), ← (c .before .before .before .before .energy-at .ensures), ← (c .before .before .before .before .before .before .nearly-equal .ensures), ← (c .before .energy-deficit .ensures), ← (c .kilowatt-hours .ensures))
+    (via-false _ _ (c .before .before .before .before .before .before .before .if1 .left) (via-false _ _ (c .before .before .before .before .before .if2 .left) refl))
 
 pub calculate-charge-energy-demand-spec : {M : Type 1} → statement M
 calculate-charge-energy-demand-spec =
     tie.close
     (tie.spec
-    derived-requires
     returns
     nearly-equal-requires
     returns-2
+    energy-at-requires
     energy-deficit-requires
     kilowatt-hours-requires
     returns-3)

@@ -2,6 +2,7 @@ use mathlib.Core.Path.{ap}
 use Rattle.substep.specs.declared.Drive.{Drive}
 use Rattle.runs.specs.Charge.{electricEnded, electricDrive, chargeElectric}
 use Rattle.runs.proofs.InPlace.{one-substep}
+use Rattle.zone.proofs.Salts.{salts-at}
 use borrow.Author.Needs.{needs}
 use Rattle.charges.proofs.charge_battery_electric.Statement.{statement}
 use Rattle.charges.proofs.charge_battery_electric.Tie as tie
@@ -14,7 +15,7 @@ electric-drive-requires c κs = search needs
 
 charge-in-place-requires : tie.Need-charge-in-place-requires
 unfolding electricDrive
-charge-in-place-requires c κs = (c .before .before .before .before .pre, ap (λ (d : Drive). d .mode) (c .before .electric-drive .ensures))
+charge-in-place-requires c κs = let p = c .before .before .before .before .before .pre in (p .0, (p .1 .0, ap (λ (d : Drive). d .mode) (c .before .electric-drive .ensures)))
 
 electric-ended-requires : tie.Need-electric-ended-requires
 electric-ended-requires c κs = search needs
@@ -22,8 +23,8 @@ electric-ended-requires c κs = search needs
 returns : tie.Need-returns
 unfolding chargeElectric
 returns c =
-    let a = c .before .before .before .before .before .before .args in
-    rw (← (c .before .before .before .before .derived .ensures), ← (c .before .before .before .electric-drive .ensures)) (one-substep (electricEnded (a .l)) _ _ _ _ _ _ _ (c .before .charge-in-place .ensures) (c .electric-ended .ensures))
+    let b = c .before .before .before .before .before .before .before in
+    rw (← (salts-at _ _ _ (b .pre .1 .1)), ← (c .before .before .before .before .derived .ensures), ← (c .before .before .before .electric-drive .ensures)) (one-substep (electricEnded (b .args .l)) _ _ _ _ _ _ _ _ (c .before .charge-in-place .ensures) (c .electric-ended .ensures))
 
 pub charge-battery-electric-spec : {M : Type 1} → statement M
 charge-battery-electric-spec =

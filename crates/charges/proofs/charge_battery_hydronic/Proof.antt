@@ -1,5 +1,6 @@
 use Rattle.runs.proofs.WetTurns.{wet-ended}
 use Rattle.runs.specs.Charge.{hydronicTask, chargeHydronic}
+use Rattle.zone.proofs.Salts.{salts-at}
 use borrow.Author.Needs.{needs}
 use Rattle.charges.proofs.charge_battery_hydronic.Statement.{statement}
 use Rattle.charges.proofs.charge_battery_hydronic.Tie as tie
@@ -15,14 +16,14 @@ hydronic-start-requires c κs = search needs
 
 hydronic-run-requires : tie.Need-hydronic-run-requires
 unfolding hydronicTask
-hydronic-run-requires c κs = rw (c .before .before .before .hydronic-task .ensures) (c .before .before .before .before .pre)
+hydronic-run-requires c κs = let p = c .before .before .before .before .before .pre in rw (c .before .before .before .hydronic-task .ensures) (p .0, p .1 .0)
 
 hydronic-ended-requires : tie.Need-hydronic-ended-requires
 hydronic-ended-requires c κs = search needs
 
 returns : tie.Need-returns
 unfolding chargeHydronic
-returns c = rw (← (c .before .before .before .before .before .hydronic-task .ensures), ← (c .before .before .before .before .whole-substeps .ensures), ← (c .before .before .before .hydronic-start .ensures)) (wet-ended _ _ _ _ _ (c .before .hydronic-run .ensures) (c .hydronic-ended .ensures))
+returns c = rw (← (salts-at _ _ _ (c .before .before .before .before .before .before .before .pre .1 .1)), ← (c .before .before .before .before .before .hydronic-task .ensures), ← (c .before .before .before .before .whole-substeps .ensures), ← (c .before .before .before .hydronic-start .ensures)) (wet-ended _ _ _ _ _ (c .before .hydronic-run .ensures) (c .hydronic-ended .ensures))
 
 pub charge-battery-hydronic-spec : {M : Type 1} → statement M
 charge-battery-hydronic-spec =

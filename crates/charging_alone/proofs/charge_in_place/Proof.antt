@@ -1,5 +1,5 @@
 use Rattle.substep.specs.Substep.{substepFrom}
-use Rattle.substep.proofs.Passes.{passed, without-logarithm-charge, course-mode}
+use Rattle.substep.proofs.Passes.{passed, without-logarithm-charge, course-mode, course-level}
 use mathlib.Core.Path.{refl, sym, _∙_}
 use borrow.Author.Needs.{needs}
 use Rattle.charging_alone.proofs.charge_in_place.Statement.{statement}
@@ -9,18 +9,18 @@ target-of-requires : tie.Need-target-of-requires
 target-of-requires c κs = search needs
 
 course-of-requires : tie.Need-course-of-requires
-course-of-requires c κs = (sym (c .before .pre .1), c .target-of .ensures)
+course-of-requires c κs = sym (c .before .before .pre .1 .1)
 
 charge-zones-requires : tie.Need-charge-zones-requires
 charge-zones-requires c κs =
-    let p = c .before .before .before .pre in
-    (p .0, course-mode _ _ _ _ _ (c .before .course-of .ensures) ∙ p .1)
+    let p = c .before .before .before .before .pre in
+    (p .0, (p .1 .0, (course-mode _ _ _ _ _ (c .before .course-of .ensures) ∙ p .1 .1, c .before .before .target-of .ensures ∙ sym (course-level _ _ _ _ _ _ (c .before .course-of .ensures)))))
 
 returns : tie.Need-returns
 unfolding substepFrom
 returns c =
-    let b = c .before .before .before .before in
-    rw (passed (b .args .card) (b .args .pcm) (b .args .d) (b .args .zones .now) _ _ _ (sym (without-logarithm-charge _ _ (b .pre .1))) refl (c .before .before .course-of .ensures)) (c .charge-zones .ensures)
+    let b = c .before .before .before .before .before in
+    rw (passed (b .args .card) (b .args .pcm) _ (b .args .d) (b .args .zones .now) _ _ _ (sym (without-logarithm-charge _ _ (b .pre .1 .1))) refl (c .before .before .course-of .ensures)) (c .charge-zones .ensures)
 
 pub charge-in-place-spec : {M : Type 1} → statement M
 charge-in-place-spec =

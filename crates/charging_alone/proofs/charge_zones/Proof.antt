@@ -1,20 +1,23 @@
 use lib.Ieee.{ofBits, add}
+use Rattle.zone.specs.Lent.{zoneSalt}
+use Rattle.zone.proofs.Salts.{one-salt}
 use Rattle.substep.proofs.OneLoop.{Underway, startOf, underway-start, underway-end}
 use Rattle.floats.proofs.Sum2Laws.{noSum}
 use Rattle.charging_alone.proofs.Steps.{charging-more}
 use mathlib.Core.Path.{refl}
 use Prim.Native.Nat.{_≤_, _-_}
 use native.Mathlib.Omega.{arith}
+use borrow.Author.Tests.{eqb-true}
 use borrow.Author.Needs.{needs}
 use Rattle.charging_alone.proofs.charge_zones.Statement.{statement}
 use Rattle.charging_alone.proofs.charge_zones.Tie as tie
 
 abbrev Inv-loop : tie.InvT-loop
-Inv-loop course zones₀ n mode own outlet₀ left₀ charged₀ spread₀ k₀ zones outlet left charged spread k =
-    (k ≤ n) × Underway course n k (startOf zones₀ outlet₀ left₀ charged₀) zones outlet left charged noSum spread
+Inv-loop course salts step target zones₀ n mode outlet₀ left₀ charged₀ spread₀ k₀ zones outlet left charged spread k =
+    (k ≤ n) × Underway course (zoneSalt salts step) n k (startOf zones₀ outlet₀ left₀ charged₀) zones outlet left charged noSum spread
 
 abbrev μ-loop : tie.MeasureT-loop
-μ-loop course zones₀ n mode own outlet₀ left₀ charged₀ spread₀ k₀ zones outlet left charged spread k = n - k
+μ-loop course salts step target zones₀ n mode outlet₀ left₀ charged₀ spread₀ k₀ zones outlet left charged spread k = n - k
 
 cast-n : tie.Need-cast-n Inv-loop μ-loop
 cast-n c = search needs
@@ -23,13 +26,13 @@ charger-heat-requires : tie.Need-charger-heat-requires Inv-loop μ-loop
 charger-heat-requires c κs = search needs
 
 loop-holds : tie.Need-loop-holds Inv-loop μ-loop
-loop-holds c = (omega arith, underway-start _ _ _ _ _ _)
+loop-holds c = (omega arith, underway-start _ _ _ _ _ _ _)
 
 zone-index-requires : tie.Need-zone-index-requires Inv-loop μ-loop
 zone-index-requires c κs = search needs
 
 zone-salt-requires : tie.Need-zone-salt-requires Inv-loop μ-loop
-zone-salt-requires c κs = search needs
+zone-salt-requires c κs = c .before .before .before .before .before .before .pre .1 .0 .1 _ (c .zone-index .ensures .1)
 
 mul-charging-step : tie.Need-mul-charging-step Inv-loop μ-loop
 mul-charging-step c = search needs
@@ -38,7 +41,10 @@ element-copy-out-charging-step : tie.Need-element-copy-out-charging-step Inv-loo
 element-copy-out-charging-step c = search needs
 
 charging-step-requires : tie.Need-charging-step-requires Inv-loop μ-loop
-charging-step-requires c κs = search needs
+charging-step-requires c κs =
+    let b = c .before .before .before .before .before .before .before .before in
+    let p = b .pre in
+    (p .1 .1 .0, λ e. rw (c .before .zone-salt .ensures, one-salt _ _ _ (eqb-true (b .args .step) 0 e)) (p .1 .1 .1))
 
 mul-zones : tie.Need-mul-zones Inv-loop μ-loop
 mul-zones c = search needs
@@ -67,7 +73,7 @@ loop-again c =
     let b = i .before .before .before .before .before .before in
     let p = b .pre in (
       omega arith,
-      charging-more (b .args .course) _ _ refl (p .0) _ (i .before .loop-test .taken) _ _ _ _ _ _ _ _ _ (i .zone-index .ensures .0) (c .before .before .before .before .before .before .zone-salt .ensures) (c .before .before .before .before .charging-step .ensures _) (c .before .before .finite-step .ensures) (p .1) (i .before .before .loop .inv .1),
+      charging-more (b .args .course) _ _ _ refl (p .0) _ (i .before .loop-test .taken) _ _ _ _ _ _ _ _ _ (i .zone-index .ensures .0) (c .before .before .before .before .before .before .zone-salt .ensures) (c .before .before .before .before .charging-step .ensures _) (c .before .before .finite-step .ensures) (p .1 .1 .0) (i .before .before .loop .inv .1),
     )
 
 pass-fault-requires : tie.Need-pass-fault-requires Inv-loop μ-loop
@@ -78,7 +84,7 @@ returns : tie.Need-returns Inv-loop μ-loop
 unfolding ofBits add
 returns c =
     let l = c .before .before .loop in
-    underway-end _ _ _ _ _ (c .before .before .before .before .before .before .pre .0) _ _ _ _ _ noSum _ _ (c .before .before .before .charger-heat .ensures) (l .inv .0) (c .before .loop-test .left) (l .inv .1) (c .pass-fault .ensures)
+    underway-end _ _ _ _ _ _ (c .before .before .before .before .before .before .pre .0) _ _ _ _ _ noSum _ _ (c .before .before .before .charger-heat .ensures) (l .inv .0) (c .before .loop-test .left) (l .inv .1) (c .pass-fault .ensures)
 
 pub charge-zones-spec : {M : Type 1} → statement M
 charge-zones-spec =

@@ -3,6 +3,9 @@ use borrow.Author.Needs.{needs}
 use Rattle.charging_alone.proofs.charging_step.Statement.{statement}
 use Rattle.charging_alone.proofs.charging_step.Tie as tie
 
+zone-target-requires : tie.Need-zone-target-requires
+zone-target-requires c κs = c .before .before .pre .1
+
 charge-zone-alone-requires : tie.Need-charge-zone-alone-requires
 charge-zone-alone-requires c κs = search needs
 
@@ -12,12 +15,12 @@ calculate-new-zone-temperature-requires c κs = search needs
 returns : tie.Need-returns
 returns c inlet =
     let b = c .before .before .before .before in
-    charging-on _ _ _ inlet _ _ (b .before .before .before .pre) _ _ (b .before .if1 .taken) (b .charge-zone-alone .ensures) (c .before .before .calculate-new-zone-temperature .ensures)
+    charging-on _ _ _ inlet _ _ (b .before .before .before .before .pre .0) _ _ (b .before .before .if1 .taken) (rw (b .before .zone-target .ensures) at (b .charge-zone-alone .ensures)) (c .before .before .calculate-new-zone-temperature .ensures)
 
 returns-2 : tie.Need-returns-2
-returns-2 c inlet = charging-off _ _ _ inlet _ _ (c .before .before .pre) (c .if1 .left)
+returns-2 c inlet = charging-off _ _ _ inlet _ _ (c .before .before .pre .0) (c .if1 .left)
 
 pub charging-step-spec : {M : Type 1} → statement M
 charging-step-spec =
     tie.close
-    (tie.spec charge-zone-alone-requires calculate-new-zone-temperature-requires returns returns-2)
+    (tie.spec zone-target-requires charge-zone-alone-requires calculate-new-zone-temperature-requires returns returns-2)

@@ -1,3 +1,4 @@
+use Rattle.zone.specs.Lent.{zoneSalt}
 use Rattle.delivery.proofs.Turns.{demand-no-step, demand-over-budget, run-on, run-stops}
 use Rattle.runs.proofs.InPlace.{as-defined}
 use native.Mathlib.Nat.{sub-zero}
@@ -11,14 +12,11 @@ use Rattle.delivery.proofs.demand_run.Statement.{statement}
 use Rattle.delivery.proofs.demand_run.Tie as tie
 
 abbrev Inv-loop : tie.InvT-loop
-Inv-loop x budget zones₀ target pace₀ substeps₀ zones pace substeps =
-    (substeps ≤ budget) × (demandRun x (budget - substeps) substeps (zoned pace zones) ≡ demandRun x budget 0 (zoned pace₀ zones₀))
+Inv-loop x salts step budget zones₀ pace₀ substeps₀ zones pace substeps =
+    (substeps ≤ budget) × (demandRun x (zoneSalt salts step) (budget - substeps) substeps (zoned pace zones) ≡ demandRun x (zoneSalt salts step) budget 0 (zoned pace₀ zones₀))
 
 abbrev μ-loop : tie.MeasureT-loop
-μ-loop x budget zones₀ target pace₀ substeps₀ zones pace substeps = budget - substeps
-
-target-of-requires : tie.Need-target-of-requires Inv-loop μ-loop
-target-of-requires c κs = search needs
+μ-loop x salts step budget zones₀ pace₀ substeps₀ zones pace substeps = budget - substeps
 
 loop-holds : tie.Need-loop-holds Inv-loop μ-loop
 loop-holds c = (omega arith, simp sub-zero)
@@ -41,18 +39,18 @@ loop-less c = search needs
 loop-again : tie.Need-loop-again Inv-loop μ-loop
 loop-again c =
     let l = c .before .before .before .before .before .before .before .before .loop in
-    (omega arith, run-on (c .before .before .before .before .before .before .before .before .before .before .before .before .args .x) _ _ _ _ _ (l .inv .0) (c .before .before .before .before .before .if2 .left) (c .before .before .before .before .before .before .if1 .left) (c .before .before .before .demand-substep .ensures) (c .enum-told .given .1) ∙ l .inv .1)
+    (omega arith, run-on (c .before .before .before .before .before .before .before .before .before .before .args .x) _ _ _ _ _ _ (l .inv .0) (c .before .before .before .before .before .if2 .left) (c .before .before .before .before .before .before .if1 .left) (c .before .before .before .demand-substep .ensures) (c .enum-told .given .1) ∙ l .inv .1)
 
 returns : tie.Need-returns Inv-loop μ-loop
-returns c = (as-defined _ _ _ _ (demand-no-step _ _ _ _ (c .if1 .taken) ∙ c .before .before .loop .inv .1), omega arith)
+returns c = (as-defined _ _ _ _ (demand-no-step _ _ _ _ _ (c .if1 .taken) ∙ c .before .before .loop .inv .1), omega arith)
 
 returns-2 : tie.Need-returns-2 Inv-loop μ-loop
-returns-2 c = (as-defined _ _ _ _ (demand-over-budget _ _ _ _ (c .if2 .taken) (c .before .if1 .left) ∙ c .before .before .before .loop .inv .1), omega arith)
+returns-2 c = (as-defined _ _ _ _ (demand-over-budget _ _ _ _ _ (c .if2 .taken) (c .before .if1 .left) ∙ c .before .before .before .loop .inv .1), omega arith)
 
 returns-3 : tie.Need-returns-3 Inv-loop μ-loop
 returns-3 c =
     let l = c .before .before .before .before .before .before .before .before .before .loop in
-    (run-stops (c .before .before .before .before .before .before .before .before .before .before .before .before .before .args .x) _ _ _ _ _ (l .inv .0) (c .before .before .before .before .before .before .if2 .left) (c .before .before .before .before .before .before .before .if1 .left) (c .before .before .before .before .demand-substep .ensures) _ _ (c .before .next .given .1) (l .inv .1), omega arith)
+    (run-stops (c .before .before .before .before .before .before .before .before .before .before .before .args .x) _ _ _ _ _ _ (l .inv .0) (c .before .before .before .before .before .before .if2 .left) (c .before .before .before .before .before .before .before .if1 .left) (c .before .before .before .before .demand-substep .ensures) _ _ (c .before .next .given .1) (l .inv .1), omega arith)
 
 pub demand-run-spec : {M : Type 1} → statement M
 demand-run-spec =
@@ -60,7 +58,6 @@ demand-run-spec =
     (tie.spec
     Inv-loop
     μ-loop
-    target-of-requires
     loop-holds
     demand-substep-requires
     add-substeps

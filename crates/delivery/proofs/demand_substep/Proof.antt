@@ -1,8 +1,9 @@
+use Rattle.substep.proofs.Passes.{level-none}
 use Rattle.delivery.proofs.InPlace.{demand-turn}
 use Rattle.runs.proofs.InPlace.{log-refused, finite-refused}
 use Rattle.substep.specs.declared.Drive.{Drive}
 use Rattle.delivery.specs.Demand.{demandDrive, demandBy}
-use mathlib.Core.Path.{refl, ap}
+use mathlib.Core.Path.{refl, sym, ap}
 use borrow.Author.Needs.{needs}
 use Rattle.delivery.proofs.demand_substep.Statement.{statement}
 use Rattle.delivery.proofs.demand_substep.Tie as tie
@@ -13,9 +14,9 @@ demand-drive-requires c κs = search needs
 process-in-place-requires : tie.Need-process-in-place-requires
 unfolding demandDrive
 process-in-place-requires c κs =
-    let p = c .before .before .before .before .pre in
+    let p = c .before .before .before .before .before .pre in
     let e = c .before .before .before .demand-drive .ensures in
-    (p .0, (ap (λ (d : Drive). d .mode) e, rw e (p .1)))
+    (p .0, (p .1, (ap (λ (d : Drive). d .mode) e, λ h j l. rw e (sym (level-none _ _ _)))))
 
 enum-told : tie.Need-enum-told
 enum-told c = search needs
@@ -31,15 +32,15 @@ enum-told-3 c = search needs
 
 returns : tie.Need-returns
 unfolding demandBy
-returns c = demand-turn _ _ _ _ _ _ _ _ (c .before .before .before .before .before .before .before .demand-drive .ensures) (c .before .before .before .process-in-place .ensures) (c .before .enum-told .given .1) (c .demand-delivered .ensures, λ h. refl)
+returns c = demand-turn _ _ _ _ _ _ _ _ _ (c .before .before .before .before .before .before .before .demand-drive .ensures) (c .before .before .before .process-in-place .ensures) (c .before .enum-told .given .1) (c .demand-delivered .ensures, λ h. refl)
 
 returns-2 : tie.Need-returns-2
 unfolding demandBy
-returns-2 c = demand-turn _ _ _ _ _ _ _ _ (c .before .before .before .before .before .before .demand-drive .ensures) (c .before .before .process-in-place .ensures) (c .enum-told2 .given .1) (refl, λ h. absurd (log-refused h))
+returns-2 c = demand-turn _ _ _ _ _ _ _ _ _ (c .before .before .before .before .before .before .demand-drive .ensures) (c .before .before .process-in-place .ensures) (c .enum-told2 .given .1) (refl, λ h. absurd (log-refused h))
 
 returns-3 : tie.Need-returns-3
 unfolding demandBy
-returns-3 c = demand-turn _ _ _ _ _ _ _ _ (c .before .before .before .before .before .before .demand-drive .ensures) (c .before .before .process-in-place .ensures) (c .enum-told3 .given .1) (refl, λ h. absurd (finite-refused h))
+returns-3 c = demand-turn _ _ _ _ _ _ _ _ _ (c .before .before .before .before .before .before .demand-drive .ensures) (c .before .before .process-in-place .ensures) (c .enum-told3 .given .1) (refl, λ h. absurd (finite-refused h))
 
 pub demand-substep-spec : {M : Type 1} → statement M
 demand-substep-spec =

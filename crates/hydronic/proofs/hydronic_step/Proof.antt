@@ -1,3 +1,4 @@
+use Rattle.substep.proofs.Charger.{idle-charges-none}
 use Rattle.runs.proofs.InPlace.{log-refused, finite-refused}
 use Rattle.runs.proofs.WetTurns.{hydronic-turn}
 use Rattle.substep.specs.declared.Drive.{Drive}
@@ -14,9 +15,9 @@ wet-drive-requires c κs = search needs
 process-in-place-requires : tie.Need-process-in-place-requires
 unfolding wetDrive
 process-in-place-requires c κs =
-    let p = c .before .before .before .before .before .pre in
+    let p = c .before .before .before .before .before .before .pre in
     let e = c .before .before .before .wet-drive .ensures in
-    (p .0, (ap (λ (d : Drive). d .mode) e, rw e (p .1 .1)))
+    (p .0, (p .1 .1, (ap (λ (d : Drive). d .mode) e, idle-charges-none _ (ap (λ (d : Drive). d .power) e))))
 
 enum-told : tie.Need-enum-told
 enum-told c = search needs
@@ -25,31 +26,31 @@ add-hydronic-whole : tie.Need-add-hydronic-whole
 add-hydronic-whole c = search needs
 
 hydronic-whole-requires : tie.Need-hydronic-whole-requires
-hydronic-whole-requires c κs = let p = c .before .before .before .before .before .before .before .before .before .pre in (p .0, (omega (arith, p .1 .0), p .1 .1))
+hydronic-whole-requires c κs = let p = c .before .before .before .before .before .before .before .before .before .before .pre in (p .0, (omega (arith, p .1 .0), p .1 .1))
 
 enum-told-2 : tie.Need-enum-told-2
 enum-told-2 c = search needs
 
-add-t18 : tie.Need-add-t18
-add-t18 c = search needs
+add-t19 : tie.Need-add-t19
+add-t19 c = search needs
 
 enum-told-3 : tie.Need-enum-told-3
 enum-told-3 c = search needs
 
-add-t21 : tie.Need-add-t21
-add-t21 c = search needs
+add-t22 : tie.Need-add-t22
+add-t22 c = search needs
 
 returns : tie.Need-returns
 unfolding hydronicBy
-returns c = hydronic-turn (c .before .before .before .before .before .before .before .before .before .before .args .x) _ _ _ _ _ _ _ _ (c .before .before .before .before .process-in-place .ensures) (c .before .before .enum-told .given .1) _ (c .before .before .before .before .before .before .before .before .wet-drive .ensures) (c .hydronic-whole .ensures)
+returns c = hydronic-turn (c .before .before .before .before .before .before .before .before .before .before .before .args .x) _ _ _ _ _ _ _ _ _ (c .before .before .before .before .process-in-place .ensures) (c .before .before .enum-told .given .1) _ (c .before .before .before .before .before .before .before .before .wet-drive .ensures) (c .hydronic-whole .ensures)
 
 returns-2 : tie.Need-returns-2
 unfolding hydronicBy
-returns-2 c = hydronic-turn (c .before .before .before .before .before .before .before .before .args .x) _ _ _ _ _ _ _ _ (c .before .before .process-in-place .ensures) (c .enum-told2 .given .1) _ (c .before .before .before .before .before .before .wet-drive .ensures) (refl, λ h. absurd (log-refused h))
+returns-2 c = hydronic-turn (c .before .before .before .before .before .before .before .before .before .args .x) _ _ _ _ _ _ _ _ _ (c .before .before .process-in-place .ensures) (c .enum-told2 .given .1) _ (c .before .before .before .before .before .before .wet-drive .ensures) (refl, λ h. absurd (log-refused h))
 
 returns-3 : tie.Need-returns-3
 unfolding hydronicBy
-returns-3 c = hydronic-turn (c .before .before .before .before .before .before .before .before .args .x) _ _ _ _ _ _ _ _ (c .before .before .process-in-place .ensures) (c .enum-told3 .given .1) _ (c .before .before .before .before .before .before .wet-drive .ensures) (refl, λ h. absurd (finite-refused h))
+returns-3 c = hydronic-turn (c .before .before .before .before .before .before .before .before .before .args .x) _ _ _ _ _ _ _ _ _ (c .before .before .process-in-place .ensures) (c .enum-told3 .given .1) _ (c .before .before .before .before .before .before .wet-drive .ensures) (refl, λ h. absurd (finite-refused h))
 
 pub hydronic-step-spec : {M : Type 1} → statement M
 hydronic-step-spec =
@@ -61,9 +62,9 @@ hydronic-step-spec =
     add-hydronic-whole
     hydronic-whole-requires
     enum-told-2
-    add-t18
+    add-t19
     enum-told-3
-    add-t21
+    add-t22
     returns
     returns-2
     returns-3)

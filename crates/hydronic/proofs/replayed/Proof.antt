@@ -1,5 +1,6 @@
 use Rattle.runs.proofs.InPlace.{as-defined}
 use Rattle.runs.proofs.WetTurns.{replayed-turn}
+use Rattle.substep.proofs.Charger.{idle-charges-none}
 use Rattle.logic.proofs.Branch.{via-true}
 use borrow.Author.Tests.{eq-eqb}
 use Rattle.runs.specs.Hydronic.{replayed, wetDrive}
@@ -22,9 +23,9 @@ wet-drive-requires c κs = search needs
 process-in-place-requires : tie.Need-process-in-place-requires
 unfolding wetDrive
 process-in-place-requires c κs =
-    let p = c .before .before .before .before .before .before .pre in
+    let p = c .before .before .before .before .before .before .before .pre in
     let e = c .before .before .wet-drive .ensures in
-    (p .0, (ap (λ (d : Drive). d .mode) e, rw e (p .1 .1)))
+    (p .0, (p .1 .1, (ap (λ (d : Drive). d .mode) e, idle-charges-none _ (ap (λ (d : Drive). d .power) e))))
 
 add-replay-by : tie.Need-add-replay-by
 add-replay-by c = search needs
@@ -34,7 +35,7 @@ replay-by-requires c κs = search needs
 
 returns-2 : tie.Need-returns-2
 returns-2 c =
-    replayed-turn (c .before .before .before .before .before .before .before .before .args .x) _ _ _ _ _ _ _ _ (c .before .process-in-place .ensures) refl _ _ (c .before .before .before .before .before .if1 .left) (c .before .before .before .before .wet-drive .ensures) (c .replay-by .ensures _ _)
+    replayed-turn (c .before .before .before .before .before .before .before .before .before .args .x) _ _ _ _ _ _ _ _ _ (c .before .process-in-place .ensures) refl _ _ (c .before .before .before .before .before .if1 .left) (c .before .before .before .before .wet-drive .ensures) (c .replay-by .ensures _ _)
 
 pub replayed-spec : {M : Type 1} → statement M
 replayed-spec =

@@ -1,3 +1,4 @@
+use Rattle.zone.specs.Lent.{zoneSalt}
 use Rattle.substep.proofs.OneLoop.{Underway, startOf, underway-start, underway-end}
 use Rattle.losses.proofs.Steps.{upward, losing-more}
 use mathlib.Core.Path.{refl}
@@ -8,11 +9,11 @@ use Rattle.losses.proofs.lose_zones.Statement.{statement}
 use Rattle.losses.proofs.lose_zones.Tie as tie
 
 abbrev Inv-loop : tie.InvT-loop
-Inv-loop course zones₀ n own left charged share outlet₀ sum₀ spread₀ k₀ zones outlet sum spread k =
-    (k ≤ n) × Underway course n k (startOf zones₀ outlet₀ left charged) zones outlet left charged sum spread
+Inv-loop course salts step zones₀ n left charged share outlet₀ sum₀ spread₀ k₀ zones outlet sum spread k =
+    (k ≤ n) × Underway course (zoneSalt salts step) n k (startOf zones₀ outlet₀ left charged) zones outlet left charged sum spread
 
 abbrev μ-loop : tie.MeasureT-loop
-μ-loop course zones₀ n own left charged share outlet₀ sum₀ spread₀ k₀ zones outlet sum spread k = n - k
+μ-loop course salts step zones₀ n left charged share outlet₀ sum₀ spread₀ k₀ zones outlet sum spread k = n - k
 
 cast-n : tie.Need-cast-n Inv-loop μ-loop
 cast-n c = search needs
@@ -24,10 +25,10 @@ int-to-float-share : tie.Need-int-to-float-share Inv-loop μ-loop
 int-to-float-share c = search needs
 
 loop-holds : tie.Need-loop-holds Inv-loop μ-loop
-loop-holds c = (omega arith, underway-start _ _ _ _ _ _)
+loop-holds c = (omega arith, underway-start _ _ _ _ _ _ _)
 
 zone-salt-requires : tie.Need-zone-salt-requires Inv-loop μ-loop
-zone-salt-requires c κs = search needs
+zone-salt-requires c κs = c .before .before .before .before .before .before .before .pre .1 .0 .1 _ (c .loop-test .taken)
 
 mul-loss-step : tie.Need-mul-loss-step Inv-loop μ-loop
 mul-loss-step c = search needs
@@ -38,7 +39,7 @@ element-copy-out-loss-step c = search needs
 loss-step-requires : tie.Need-loss-step-requires Inv-loop μ-loop
 loss-step-requires c κs =
     let p = c .before .before .before .before .before .before .before .before .before .pre in
-    (p .1 .0, (rw (c .before .before .before .before .before .before .charger-heat .ensures) (p .1 .1), refl))
+    (p .1 .1 .0, (rw (c .before .before .before .before .before .before .charger-heat .ensures) (p .1 .1 .1), refl))
 
 mul-zones : tie.Need-mul-zones Inv-loop μ-loop
 mul-zones c = search needs
@@ -74,7 +75,7 @@ loop-again c =
     let b = i .before .before .before .before .before .before .before in
     let p = b .pre in (
       omega arith,
-      losing-more (b .args .course) _ _ refl (p .0) _ (i .loop-test .taken) _ _ _ _ _ _ _ _ _ (upward _ _ _ (p .1 .0)) (c .before .before .before .before .before .before .zone-salt .ensures) (c .before .before .before .before .loss-step .ensures _) (c .before .before .finite-step .ensures) _ _ (p .1 .0) (rw (i .before .before .before .before .charger-heat .ensures) (p .1 .1)) (c .sum2-step .ensures) (i .before .loop .inv .1),
+      losing-more (b .args .course) _ _ _ refl (p .0) _ (i .loop-test .taken) _ _ _ _ _ _ _ _ _ (upward _ _ _ (p .1 .1 .0)) (c .before .before .before .before .before .before .zone-salt .ensures) (c .before .before .before .before .loss-step .ensures _) (c .before .before .finite-step .ensures) _ _ (p .1 .1 .0) (rw (i .before .before .before .before .charger-heat .ensures) (p .1 .1 .1)) (c .sum2-step .ensures) (i .before .loop .inv .1),
     )
 
 pass-fault-requires : tie.Need-pass-fault-requires Inv-loop μ-loop
@@ -83,7 +84,7 @@ pass-fault-requires c κs = search needs
 returns : tie.Need-returns Inv-loop μ-loop
 returns c =
     let l = c .before .before .before .loop in
-    underway-end _ _ _ _ _ (c .before .before .before .before .before .before .before .before .before .pre .0) _ _ _ _ _ _ _ _ (c .before .before .before .before .before .before .charger-heat .ensures) (l .inv .0) (c .before .before .loop-test .left) (l .inv .1) (c .pass-fault .ensures)
+    underway-end _ _ _ _ _ _ (c .before .before .before .before .before .before .before .before .before .pre .0) _ _ _ _ _ _ _ _ (c .before .before .before .before .before .before .charger-heat .ensures) (l .inv .0) (c .before .before .loop-test .left) (l .inv .1) (c .pass-fault .ensures)
 
 pub lose-zones-spec : {M : Type 1} → statement M
 lose-zones-spec =

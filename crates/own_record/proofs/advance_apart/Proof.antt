@@ -1,3 +1,4 @@
+use Rattle.card.proofs.Figures.{figures-salts}
 use Rattle.battery.specs.Answer.{refusedWith}
 use Rattle.replies.proofs.Settled.{settled-other}
 use Rattle.own_record.proofs.Answered.{answer-is, answered-few, answered-zones}
@@ -19,8 +20,14 @@ refused-shown-requires c κs = search needs
 enum-known-read : tie.Need-enum-known-read
 enum-known-read c = search needs
 
+figures-of-requires : tie.Need-figures-of-requires
+figures-of-requires c κs = search needs
+
+slice-aggregate-advance-in-place : tie.Need-slice-aggregate-advance-in-place
+slice-aggregate-advance-in-place c = search needs
+
 advance-in-place-requires : tie.Need-advance-in-place-requires
-advance-in-place-requires c κs = search needs
+advance-in-place-requires c κs = figures-salts _ _ (c .before .before .before .figures-of .ensures)
 
 cast-n : tie.Need-cast-n
 cast-n c = search needs
@@ -37,7 +44,7 @@ returns c =
     let taken = c .before .before .before .before .before .before .if1 .taken in
     let said = c .before .before .before .before .before .before .before .before .advance-in-place .ensures in
     let stored = c .before .before .renew-zones .ensures ∙ answered-zones _ _ _ _ _ _ taken said in
-    rw (← (c .before .before .before .before .before .before .before .before .before .before .before .before .before .before .read-call .ensures), c .before .before .before .before .before .before .before .before .before .before .before .before .read .given .1, c .reply-shown .ensures, stored) (ap advancedBy (answer-is _ _ _ _ _ _ taken said))
+    rw (← (c .before .before .before .before .before .before .before .before .before .before .before .before .before .before .before .before .read-call .ensures), c .before .before .before .before .before .before .before .before .before .before .before .before .before .before .read .given .1, c .reply-shown .ensures, stored) (ap advancedBy (answer-is _ _ _ _ _ _ taken said))
 
 refused-shown-requires-2 : tie.Need-refused-shown-requires-2
 refused-shown-requires-2 c κs = search needs
@@ -48,7 +55,7 @@ returns-2 c = rw (← (c .before .before .before .before .read-call .ensures), c
 
 returns-3 : tie.Need-returns-3
 unfolding advancedOf advancedRead advancedBy shownOf refusedWith
-returns-3 c = rw (← (c .before .before .before .before .before .before .before .before .before .before .read-call .ensures), c .before .before .before .before .before .before .before .before .read .given .1, c .refused-shown2 .ensures) (ap advancedBy (sym (settled-other _ _ _ _ (c .before .before .if1 .left)) ∙ c .before .before .before .before .advance-in-place .ensures))
+returns-3 c = rw (← (c .before .before .before .before .before .before .before .before .before .before .before .before .read-call .ensures), c .before .before .before .before .before .before .before .before .before .before .read .given .1, c .refused-shown2 .ensures) (ap advancedBy (sym (settled-other _ _ _ _ (c .before .before .if1 .left)) ∙ c .before .before .before .before .advance-in-place .ensures))
 
 pub advance-apart-spec : {M : Type 1} → statement M
 advance-apart-spec =
@@ -58,6 +65,8 @@ advance-apart-spec =
     enum-told
     refused-shown-requires
     enum-known-read
+    figures-of-requires
+    slice-aggregate-advance-in-place
     advance-in-place-requires
     cast-n
     renew-zones-requires

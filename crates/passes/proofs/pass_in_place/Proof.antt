@@ -1,5 +1,10 @@
+use Rattle.zone.specs.Lent.{zoneSalt}
+use lib.Ieee.{lt}
+use Rattle.floats.specs.Constants.{zero}
+use Rattle.zone.specs.declared.Kilojoules.{Kilojoules}
+use Rattle.substep.proofs.Passes.{left-at-first}
 use Rattle.substep.proofs.OneLoop.{Underway, startOf, underway-start, underway-more, underway-end}
-use mathlib.Core.Path.{refl}
+use mathlib.Core.Path.{refl, sym, _∙_, ap}
 use Prim.Native.Nat.{_≤_, _-_}
 use native.Mathlib.Omega.{arith}
 use borrow.Author.Needs.{needs}
@@ -7,11 +12,11 @@ use Rattle.passes.proofs.pass_in_place.Statement.{statement}
 use Rattle.passes.proofs.pass_in_place.Tie as tie
 
 abbrev Inv-loop : tie.InvT-loop
-Inv-loop course zones₀ n mode own outlet₀ left₀ charged₀ sum₀ spread₀ k₀ zones outlet left charged sum spread k =
-    (k ≤ n) × Underway course n k (startOf zones₀ outlet₀ left₀ charged₀) zones outlet left charged sum spread
+Inv-loop course salts step alike target zones₀ n mode outlet₀ left₀ charged₀ sum₀ spread₀ k₀ zones outlet left charged sum spread k =
+    (k ≤ n) × Underway course (zoneSalt salts step) n k (startOf zones₀ outlet₀ left₀ charged₀) zones outlet left charged sum spread
 
 abbrev μ-loop : tie.MeasureT-loop
-μ-loop course zones₀ n mode own outlet₀ left₀ charged₀ sum₀ spread₀ k₀ zones outlet left charged sum spread k = n - k
+μ-loop course salts step alike target zones₀ n mode outlet₀ left₀ charged₀ sum₀ spread₀ k₀ zones outlet left charged sum spread k = n - k
 
 cast-n : tie.Need-cast-n Inv-loop μ-loop
 cast-n c = search needs
@@ -20,13 +25,13 @@ charger-heat-requires : tie.Need-charger-heat-requires Inv-loop μ-loop
 charger-heat-requires c κs = search needs
 
 loop-holds : tie.Need-loop-holds Inv-loop μ-loop
-loop-holds c = (omega arith, underway-start _ _ _ _ _ _)
+loop-holds c = (omega arith, underway-start _ _ _ _ _ _ _)
 
 zone-index-requires : tie.Need-zone-index-requires Inv-loop μ-loop
 zone-index-requires c κs = search needs
 
 zone-salt-requires : tie.Need-zone-salt-requires Inv-loop μ-loop
-zone-salt-requires c κs = search needs
+zone-salt-requires c κs = c .before .before .before .before .before .before .pre .1 .0 .1 _ (c .zone-index .ensures .1)
 
 mul-zone-step : tie.Need-mul-zone-step Inv-loop μ-loop
 mul-zone-step c = search needs
@@ -35,7 +40,12 @@ element-copy-out-zone-step : tie.Need-element-copy-out-zone-step Inv-loop μ-loo
 element-copy-out-zone-step c = search needs
 
 zone-step-requires : tie.Need-zone-step-requires Inv-loop μ-loop
-zone-step-requires c κs = search needs
+zone-step-requires c κs h e =
+    let i = c .before .before .before in
+    let b = i .before .before .before .before .before in
+    let first = left-at-first _ _ _ _ _ (ap (λ (q : Kilojoules). lt (q .0) zero) (sym (i .before .loop .inv .1 .same-left)) ∙ h) in
+    rw (c .before .zone-salt .ensures)
+    (b .pre .1 .1 (ap (λ (q : Kilojoules). lt (q .0) zero) (sym (i .before .before .charger-heat .ensures)) ∙ first) e _ (c .before .before .zone-index .ensures .1))
 
 mul-zones : tie.Need-mul-zones Inv-loop μ-loop
 mul-zones c = search needs
@@ -56,7 +66,11 @@ sum2-step-requires : tie.Need-sum2-step-requires Inv-loop μ-loop
 sum2-step-requires c κs = search needs
 
 add-k : tie.Need-add-k Inv-loop μ-loop
-add-k c = search needs
+add-k c =
+    let i = c .before .before .before .before .before .before .before .before .before .before in
+    let taken = i .loop-test .taken in
+    let few = i .before .before .before .before .before .pre .0 in
+    search needs
 
 loop-less : tie.Need-loop-less Inv-loop μ-loop
 loop-less c = search needs
@@ -64,7 +78,7 @@ loop-less c = search needs
 loop-again : tie.Need-loop-again Inv-loop μ-loop
 loop-again c = (
   omega arith,
-  underway-more _ _ _ refl (c .before .before .before .before .before .before .before .before .before .before .before .before .before .before .before .pre) _ (c .before .before .before .before .before .before .before .before .before .before .loop-test .taken) _ _ _ _ _ _ _ _ _ _ _ (c .before .before .before .before .before .before .before .before .before .before .before .loop .inv .1) (c .before .before .before .before .before .before .before .before .before .zone-index .ensures .0) (c .before .before .before .before .before .before .before .before .zone-salt .ensures) (c .before .before .before .before .before .before .zone-step .ensures) (c .before .before .sum2-step .ensures) (c .before .before .before .before .finite-step .ensures),
+  underway-more _ _ _ _ refl (c .before .before .before .before .before .before .before .before .before .before .before .before .before .before .before .pre .0) _ (c .before .before .before .before .before .before .before .before .before .before .loop-test .taken) _ _ _ _ _ _ _ _ _ _ _ (c .before .before .before .before .before .before .before .before .before .before .before .loop .inv .1) (c .before .before .before .before .before .before .before .before .before .zone-index .ensures .0) (c .before .before .before .before .before .before .before .before .zone-salt .ensures) (c .before .before .before .before .before .before .zone-step .ensures) (c .before .before .sum2-step .ensures) (c .before .before .before .before .finite-step .ensures),
 )
 
 pass-fault-requires : tie.Need-pass-fault-requires Inv-loop μ-loop
@@ -73,7 +87,7 @@ pass-fault-requires c κs = search needs
 returns : tie.Need-returns Inv-loop μ-loop
 returns c =
     let l = c .before .before .before .loop in
-    underway-end _ _ _ _ _ (c .before .before .before .before .before .before .before .pre) _ _ _ _ _ _ _ _ (c .before .before .before .before .charger-heat .ensures) (l .inv .0) (c .before .before .loop-test .left) (l .inv .1) (c .pass-fault .ensures)
+    underway-end _ _ _ _ _ _ (c .before .before .before .before .before .before .before .pre .0) _ _ _ _ _ _ _ _ (c .before .before .before .before .charger-heat .ensures) (l .inv .0) (c .before .before .loop-test .left) (l .inv .1) (c .pass-fault .ensures)
 
 pub pass-in-place-spec : {M : Type 1} → statement M
 pass-in-place-spec =

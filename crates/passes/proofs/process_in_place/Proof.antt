@@ -1,7 +1,7 @@
 use Rattle.substep.specs.Substep.{zoneTransfer, withoutLogarithm, outcomeOf, substepFrom}
 use Rattle.water.specs.declared.Mode.{Mode}
 use Rattle.substep.specs.declared.Substep.{Substep}
-use Rattle.substep.proofs.Passes.{passed, refused-here}
+use Rattle.substep.proofs.Passes.{passed, refused-here, course-level}
 use mathlib.Core.Path.{sym, _∙_, ap}
 use borrow.Author.Needs.{needs}
 use Rattle.passes.proofs.process_in_place.Statement.{statement}
@@ -22,22 +22,24 @@ without-logarithm-requires c κs = search needs
 returns : tie.Need-returns
 unfolding withoutLogarithm
 returns c =
-    let b = c .before .before .before .before in
-    let e = sym (refused-here (b .args .card) (b .args .pcm) (b .args .d) (b .args .zones .now) _ (c .before .before .before .zone-transfer .ensures ∙ ap (λ (m : Mode). zoneTransfer m (b .args .card) (b .args .d)) (sym (b .pre .1 .0))) (c .before .enum-told .given .1)) in
+    let b = c .before .before .before .before .before in
+    let e = sym (refused-here (b .args .card) (b .args .pcm) _ (b .args .d) (b .args .zones .now) _ (c .before .before .before .zone-transfer .ensures ∙ ap (λ (m : Mode). zoneTransfer m (b .args .card) (b .args .d)) (sym (b .pre .1 .1 .0))) (c .before .enum-told .given .1)) in
     (ap (λ (v : Substep). v .zones) e, c .without-logarithm .ensures _ ∙ ap outcomeOf e)
 
 course-of-requires : tie.Need-course-of-requires
-course-of-requires c κs = let p = c .before .before .before .before .pre in (sym (p .1 .0), p .1 .1)
+course-of-requires c κs = sym (c .before .before .before .before .before .pre .1 .1 .0)
 
 pass-in-place-requires : tie.Need-pass-in-place-requires
-pass-in-place-requires c κs = search needs
+pass-in-place-requires c κs =
+    let p = c .before .before .before .before .before .before .before .pre in
+    (p .0, (p .1 .0, λ h e j l. p .1 .1 .1 h j l ∙ sym (course-level _ _ _ _ _ _ (c .before .course-of .ensures))))
 
 returns-2 : tie.Need-returns-2
 unfolding substepFrom
 returns-2 c =
-    let b = c .before .before .before .before .before .before .before in
-    let t = c .before .before .before .before .before .before .zone-transfer .ensures ∙ ap (λ (m : Mode). zoneTransfer m (b .args .card) (b .args .d)) (sym (b .pre .1 .0)) in
-    rw (passed (b .args .card) (b .args .pcm) (b .args .d) (b .args .zones .now) _ _ _ t (c .before .before .before .before .transfer .given .1) (c .before .before .course-of .ensures)) (c .pass-in-place .ensures)
+    let b = c .before .before .before .before .before .before .before .before in
+    let t = c .before .before .before .before .before .before .zone-transfer .ensures ∙ ap (λ (m : Mode). zoneTransfer m (b .args .card) (b .args .d)) (sym (b .pre .1 .1 .0)) in
+    rw (passed (b .args .card) (b .args .pcm) _ (b .args .d) (b .args .zones .now) _ _ _ t (c .before .before .before .before .transfer .given .1) (c .before .before .course-of .ensures)) (c .pass-in-place .ensures)
 
 pub process-in-place-spec : {M : Type 1} → statement M
 process-in-place-spec =

@@ -8,7 +8,7 @@ mass-flow-requires c κs = search needs
 
 returns : tie.Need-returns
 unfolding courseOf
-returns c = rw (c .before .before .pre .0, c .before .before .pre .1, ← (c .mass-flow .ensures))
+returns c = rw (c .before .pre, ← (c .mass-flow .ensures))
 
 pub course-of-spec : {M : Type 1} → statement M
 course-of-spec = tie.close (tie.spec mass-flow-requires returns)

@@ -23,14 +23,14 @@ unfolding demandFrom
 returns c = rw (← (c .before .before .before .before .service-class .ensures), ← (c .before .before .before .unserved .ensures), ← (c .before .before .both .ensures)) (via-true _ _ (c .before .if1 .taken) (settled-refusal _ _ _ _ 21 (c .refused-reply .ensures) refl))
 
 committed-requires : tie.Need-committed-requires
-committed-requires c κs = let p = c .before .before .before .before .before .before .before .pre in (p .0, p .1, c .before .if2 .taken)
+committed-requires c κs = let p = c .before .before .before .before .before .before .before .before .pre in (p .0, p .1, p .2, c .before .if2 .taken)
 
 returns-2 : tie.Need-returns-2
 unfolding demandFrom
 returns-2 c = rw (← (c .before .before .before .before .before .before .service-class .ensures), ← (c .before .before .before .before .before .unserved .ensures), ← (c .before .before .before .before .both .ensures)) (via-false _ _ (c .before .before .before .if1 .left) (c .committed .ensures))
 
 trial-requires : tie.Need-trial-requires
-trial-requires c κs = let p = c .before .before .before .before .before .before .before .pre in (p .0, p .1, c .before .if2 .left)
+trial-requires c κs = let p = c .before .before .before .before .before .before .before .before .pre in (p .0, p .1, p .2, c .before .if2 .left)
 
 returns-3 : tie.Need-returns-3
 unfolding demandFrom

@@ -17,8 +17,8 @@ unless-refused-requires c κs = ap (λ (x : Reply). x .refusal) (c .demand-reply
 returns : tie.Need-returns
 returns c =
     let w = c .before .before .before .demand-stopped .ensures in
-    let p = c .before .before .before .before .before .before .pre in
-    c .unless-refused .ensures (c .before .before .before .before .before .before .args .l) _ _ (λ h. p .1) ∙ trial-with _ _ _ _ _ w _ _ (p .2) (c .before .demand-reply .ensures)
+    let p = c .before .before .before .before .before .before .before .pre in
+    c .unless-refused .ensures (c .before .before .before .before .before .before .before .args .l) _ _ (λ h. p .2) ∙ trial-with _ _ _ _ _ w _ _ (p .3) (c .before .demand-reply .ensures)
 
 pub trial-spec : {M : Type 1} → statement M
 trial-spec =

@@ -23,18 +23,18 @@ both-requires c κs = search needs
 asked-requires : tie.Need-asked-requires
 asked-requires c κs = search needs
 
-step-requires : tie.Need-step-requires
-step-requires c κs =
-    let a = c .before .before .before .before .before .before .before .before .args in
+asked-step-requires : tie.Need-asked-step-requires
+asked-step-requires c κs =
+    let a = c .before .before .before .before .before .before .before .before .before .args in
     let b = whole (a .l) (a .zones .now) in
     let x = c .before .before .before .before .call-in-range .result in
     let h : (batteryAccepted (a .version) b && x) ≡ true =
     rw (← (c .before .before .before .before .before .is-accepted .ensures), ← (c .before .before .before .both .ensures)) (c .before .before .if1 .taken) in
-    (accepted-few (a .version) b x h, accepted-finite (a .version) b x h, accepted-losses (a .version) b x h)
+    (accepted-few (a .version) b x h, c .before .before .before .before .before .before .before .before .before .pre, accepted-finite (a .version) b x h, accepted-losses (a .version) b x h)
 
 returns : tie.Need-returns
 unfolding advanceOf
-returns c = rw (← (c .before .before .before .before .before .before .is-accepted .ensures), ← (c .before .before .before .before .before .call-in-range .ensures), ← (c .before .before .before .before .both .ensures)) (via-true _ _ (c .before .before .before .if1 .taken) (c .step .ensures ∙ stepped _ _ _ _ (c .before .before .asked .ensures)))
+returns c = rw (← (c .before .before .before .before .before .before .is-accepted .ensures), ← (c .before .before .before .before .before .call-in-range .ensures), ← (c .before .before .before .before .both .ensures)) (via-true _ _ (c .before .before .before .if1 .taken) (c .asked-step .ensures ∙ stepped _ _ _ _ (c .before .before .asked .ensures)))
 
 refused-reply-requires : tie.Need-refused-reply-requires
 refused-reply-requires c κs = search needs
@@ -51,7 +51,7 @@ advance-in-place-spec =
     call-in-range-requires
     both-requires
     asked-requires
-    step-requires
+    asked-step-requires
     returns
     refused-reply-requires
     returns-2)

@@ -23,9 +23,9 @@ unless-refused-requires c κs = ap (λ (x : Reply). x .refusal) (c .run-reply .e
 returns : tie.Need-returns
 unfolding charge
 returns c =
-    let a = c .before .before .before .before .before .args in
+    let a = c .before .before .before .before .before .before .args in
     let w = c .before .before .before .charge-battery .ensures in
-    let f = charge-leaves-finite (whole (a .l) (a .zones .now)) (c .before .before .before .before .before .pre .1) (a .source) (a .target) in
+    let f = charge-leaves-finite (whole (a .l) (a .zones .now)) (c .before .before .before .before .before .before .pre .2) (a .source) (a .target) in
     c .unless-refused .ensures (a .l) _ _ (left-finite _ _ _ _ w f) ∙ charged-with _ _ _ _ _ w _ _ (c .before .before .charged-totals .ensures) (c .before .run-reply .ensures)
 
 pub charge-spec : {M : Type 1} → statement M

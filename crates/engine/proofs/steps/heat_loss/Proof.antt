@@ -20,7 +20,7 @@ unless-refused-requires c κs = ap (λ (x : Reply). x .refusal) (c .run-reply .e
 returns : tie.Need-returns
 unfolding heatLoss
 returns c =
-    let a = c .before .before .before .before .before .args in
+    let a = c .before .before .before .before .before .before .args in
     let w = c .before .before .before .battery-heat-loss .ensures in
     let f = loss-leaves-finite (whole (a .l) (a .zones .now)) in
     c .unless-refused .ensures (a .l) _ _ (left-finite _ _ _ _ w f) ∙ cooled-with _ _ _ _ _ w _ (c .before .run-reply .ensures)

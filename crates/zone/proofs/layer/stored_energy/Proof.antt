@@ -1,5 +1,6 @@
 use Rattle.zone.proofs.Sums.{stored-more, stored-end}
 use Rattle.zone.specs.Layer.{storedEnergy}
+use Rattle.zone.specs.Lent.{zoneSalt}
 use mathlib.Core.Path.{_≡_, refl}
 use Prim.Native.Nat.{_≤_, _-_}
 use native.Mathlib.Omega.{arith}
@@ -8,10 +9,10 @@ use Rattle.zone.proofs.layer.stored_energy.Statement.{statement}
 use Rattle.zone.proofs.layer.stored_energy.Tie as tie
 
 abbrev Inv-loop : tie.InvT-loop
-Inv-loop salt reference n zones sum₀ k₀ sum k = (k ≤ n) × (sum ≡ storedEnergy salt reference zones k)
+Inv-loop salts step reference n zones sum₀ k₀ sum k = (k ≤ n) × (sum ≡ storedEnergy (zoneSalt salts step) reference zones k)
 
 abbrev μ-loop : tie.MeasureT-loop
-μ-loop salt reference n zones sum₀ k₀ sum k = n - k
+μ-loop salts step reference n zones sum₀ k₀ sum k = n - k
 
 loop-holds : tie.Need-loop-holds Inv-loop μ-loop
 unfolding storedEnergy
@@ -25,7 +26,7 @@ array-read-calculate-layer-energy-stored :
 array-read-calculate-layer-energy-stored c = search needs
 
 zone-salt-requires : tie.Need-zone-salt-requires Inv-loop μ-loop
-zone-salt-requires c κs = search needs
+zone-salt-requires c κs = c .before .before .before .pre .1 .1 _ (c .loop-test .taken)
 
 calculate-layer-energy-stored-requires :
     tie.Need-calculate-layer-energy-stored-requires Inv-loop μ-loop

@@ -1,7 +1,7 @@
 use Rattle.engine.specs.Asked.{askedStep}
 use borrow.Author.Needs.{needs}
-use Rattle.engine.proofs.steps.step.Statement.{statement}
-use Rattle.engine.proofs.steps.step.Tie as tie
+use Rattle.engine.proofs.steps.asked_step.Statement.{statement}
+use Rattle.engine.proofs.steps.asked_step.Tie as tie
 
 enum-known-what : tie.Need-enum-known-what
 enum-known-what c = search needs
@@ -63,8 +63,8 @@ returns-6 : tie.Need-returns-6
 unfolding askedStep
 returns-6 c = rw (c .before .before .before .what3 .given .1) (c .charge-energy-demand .ensures)
 
-pub step-spec : {M : Type 1} → statement M
-step-spec =
+pub asked-step-spec : {M : Type 1} → statement M
+asked-step-spec =
     tie.close
     (tie.spec
     enum-known-what
