@@ -5,6 +5,7 @@ use mathlib.Core.Bool.{Bool, false, cond}
 use mathlib.Core.List.{List, [], _∷_}
 use lib.Dec.{leb, ltb, eqb}
 use lib.ListN.{length, take, drop, getD}
+use Rattle.refusals.specs.Refusals.{badCall, noVersion, badCard, badLine, disagrees, tooLong}
 use Rattle.codec.specs.Bytes.{beAt}
 use lib.Ieee.{Float}
 use Rattle.card.specs.Version.{knownVersion}
@@ -28,12 +29,12 @@ use Rattle.auditor.specs.declared.AuditVerdict.{AuditVerdict}
 -- after k lines: what the line shows against the steps' own answer, whose 10 is a field out of range
 unfoldable pub judge : (Float → Float → Bool) → ℕ → Answer → Answer → (Battery → Verdict) → Verdict
 judge same k seen own go =
-    cond (eqb (own .refusal) 10)
-    (Refused 42 (k + 1))
-    (cond (agrees same seen own) (go (own .battery)) (Refused 43 (k + 1)))
+    cond (eqb (own .refusal) badCall)
+    (Refused badLine (k + 1))
+    (cond (agrees same seen own) (go (own .battery)) (Refused disagrees (k + 1)))
 
 unfoldable pub auditLine : (Float → Float → Bool) → ℕ → Battery → ℕ → Answer → ReadCall → (Battery → Verdict) → Verdict
-auditLine same version b k seen Bad go = Refused 42 (k + 1)
+auditLine same version b k seen Bad go = Refused badLine (k + 1)
 auditLine same version b k seen (Good call) go = judge same k seen (advanceOf version b call) go
 
 -- the lines from the front of bs on, after k lines; `most` bounds how many there are
@@ -75,8 +76,8 @@ auditOf rules bs =
     cond (knownVersion version)
     (cond (cardLineOk version bs)
     (auditCard rules version (cardAt version (cardPart version bs)) (linesPart version bs))
-    (Refused 41 0))
-    (Refused 40 0)
+    (Refused badCard 0))
+    (Refused noVersion 0)
 
 -- the most bytes that the program and the C audit take
 abbrev pub limit : ℕ
@@ -84,7 +85,7 @@ limit = 65536
 
 -- '44 more than 65,536 bytes, from the program and the C audit only (index 0, tested first)'
 unfoldable pub limitedAuditOf : Rules → List ℕ → Verdict
-limitedAuditOf rules bs = cond (ltb limit (length bs)) (Refused 44 0) (auditOf rules bs)
+limitedAuditOf rules bs = cond (ltb limit (length bs)) (Refused tooLong 0) (auditOf rules bs)
 
 -- document 01's numbers: 'K × 256 + R, or N × 256 when it accepts'
 unfoldable pub verdictWord : Verdict → ℕ

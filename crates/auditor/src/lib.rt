@@ -21,17 +21,6 @@ pub struct AuditVerdict {
     pub line: u64,
 }
 
-// Document 01's refusals of a sheet.
-pub const NO_VERSION: u8 = 40;
-
-pub const NO_CARD: u8 = 41;
-
-pub const BAD_LINE: u8 = 42;
-
-pub const DISAGREES: u8 = 43;
-
-pub const TOO_LONG: u8 = 44;
-
 // The most bytes that the program and the C audit take.
 const LIMIT: usize = 65536;
 
@@ -65,9 +54,9 @@ pub fn audit(sheet: &[u8]) -> Verdict
             let card = records::cards::read_card(version, &sheet[3..end]);
             return lines::audit_lines(version, card, &sheet[end..]);
         }
-        return Verdict::Refused(NO_CARD, 0);
+        return Verdict::Refused(refusals::BAD_CARD, 0);
     }
-    Verdict::Refused(NO_VERSION, 0)
+    Verdict::Refused(refusals::NO_VERSION, 0)
 }
 
 // The program's and the C entry's audit: 44 beyond the limit.
@@ -75,7 +64,7 @@ pub fn audit_limited(sheet: &[u8]) -> Verdict
     ensures { λ r. ⌜ r ≡ limitedAuditOf plain (now (sheet .entry)) ⌝ }
 {
     if LIMIT < sheet.len() {
-        return Verdict::Refused(TOO_LONG, 0);
+        return Verdict::Refused(refusals::TOO_LONG, 0);
     }
     audit(sheet)
 }

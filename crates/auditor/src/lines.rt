@@ -1,6 +1,4 @@
 // The walk over the lines.
-use crate::BAD_LINE;
-use crate::DISAGREES;
 use crate::Verdict;
 use calls::ReadCall;
 use card::Card;
@@ -8,9 +6,6 @@ ghost use mathlib.Core.Path.{_≡_};
 ghost use Prim.Native.Nat.{_≤_};
 ghost use Rattle.sheet.specs.Answers.{sameNumber};
 ghost use Rattle.auditor.specs.Audit.{auditLines};
-
-// The refusal by which a step on an own battery says that a call field is out of range.
-const OUT_OF_RANGE: u8 = 10;
 
 // Steps an own battery through the lines.
 pub fn audit_lines(version: u8, card: Card, bytes: &[u8]) -> Verdict
@@ -23,12 +18,12 @@ pub fn audit_lines(version: u8, card: Card, bytes: &[u8]) -> Verdict
     while rest.len() > 0 {
         match front::line_call(version, card, rest) {
             ReadCall::Bad => {
-                return Verdict::Refused(BAD_LINE, k + 1);
+                return Verdict::Refused(refusals::BAD_LINE, k + 1);
             }
             ReadCall::Good(call) => {
                 let own = engine::steps::advance(version, b, call);
-                if own.refusal == OUT_OF_RANGE {
-                    return Verdict::Refused(BAD_LINE, k + 1);
+                if own.refusal == refusals::BAD_CALL {
+                    return Verdict::Refused(refusals::BAD_LINE, k + 1);
                 }
                 let seen = front::line_answer(version, card, rest);
                 if sheet::answers::answers_agree(seen, own) {
@@ -38,7 +33,7 @@ pub fn audit_lines(version: u8, card: Card, bytes: &[u8]) -> Verdict
                     rest = &rest[size..];
                     k += 1;
                 } else {
-                    return Verdict::Refused(DISAGREES, k + 1);
+                    return Verdict::Refused(refusals::DISAGREES, k + 1);
                 }
             }
         }

@@ -6,6 +6,7 @@ use mathlib.Core.List.{List, [], _∷_}
 use mathlib.Core.Logic.{_⊎_}
 use lib.Dec.{leb}
 use lib.Ieee.{lt, le}
+use Rattle.refusals.specs.Refusals.{answered, cardOutOfRange, lowerAboveUpper, maxTooLow, nothingToStore}
 use Rattle.floats.specs.Constants.{maxRelative, tolerance, ratedAmbient}
 use Rattle.floats.specs.Standins.{nearlyEqual}
 use Rattle.ranges.specs.Ranges.{isSubstep, isTimestep, isTemperature, isCapacity, isVelocity, isDiameter, isCoefficient, isFlow, isPower}
@@ -64,11 +65,11 @@ cardVerdict version c =
 
 -- document 01's numbers, 0 for none
 unfoldable pub verdictNumber : CardVerdict → ℕ
-verdictNumber Accepted = 0
-verdictNumber OutOfRange = 1
-verdictNumber LowerAboveUpper = 2
-verdictNumber MaxTooLow = 3
-verdictNumber NothingToStore = 4
+verdictNumber Accepted = answered
+verdictNumber OutOfRange = cardOutOfRange
+verdictNumber LowerAboveUpper = lowerAboveUpper
+verdictNumber MaxTooLow = maxTooLow
+verdictNumber NothingToStore = nothingToStore
 
 unfoldable pub cardRefusal : ℕ → Card → ℕ
 cardRefusal version c = verdictNumber (cardVerdict version c)
@@ -80,7 +81,7 @@ OneOf (x ∷ xs) n = (n ≡ x) ⊎ OneOf xs n
 
 -- the refusals of a card
 abbrev pub cardRefusals : List ℕ
-cardRefusals = 1 ∷ 2 ∷ 3 ∷ 4 ∷ []
+cardRefusals = cardOutOfRange ∷ lowerAboveUpper ∷ maxTooLow ∷ nothingToStore ∷ []
 
 abbrev pub CardRefusal : ℕ → Type 0
 CardRefusal r = OneOf cardRefusals r

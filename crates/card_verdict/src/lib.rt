@@ -37,10 +37,10 @@ pub fn refusal(version: u8, card: Card) -> u8
 {
     let verdict = check(version, card);
     match verdict {
-        CardVerdict::Accepted => 0,
-        CardVerdict::OutOfRange => 1,
-        CardVerdict::LowerAboveUpper => 2,
-        CardVerdict::MaxTooLow => 3,
-        CardVerdict::NothingToStore => 4,
+        CardVerdict::Accepted => refusals::ANSWERED,
+        CardVerdict::OutOfRange => refusals::CARD_OUT_OF_RANGE,
+        CardVerdict::LowerAboveUpper => refusals::LOWER_ABOVE_UPPER,
+        CardVerdict::MaxTooLow => refusals::MAX_TOO_LOW,
+        CardVerdict::NothingToStore => refusals::NOTHING_TO_STORE,
     }
 }

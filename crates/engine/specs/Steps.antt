@@ -3,6 +3,7 @@ use Prim.Native.Nat.{ℕ}
 use mathlib.Core.Bool.{Bool, cond, _&&_}
 use lib.Dec.{eqb}
 use lib.Ieee.{Float, le}
+use Rattle.refusals.specs.Refusals.{badCall, noReturn, noService, overFull}
 use Rattle.floats.specs.F64.{_⊗_, _⊘_}
 use Rattle.floats.specs.Constants.{zero, tolerance, hour}
 use Rattle.zone.specs.Heat.{kwh}
@@ -64,11 +65,11 @@ demandAnswered b d feed = unlessRefused b (demandRan b d feed .part .end) (deman
 
 -- '21 committed, required above 1e-10, service type 0', before the first substep
 unfoldable pub demandFrom : Battery → Demand → Float → Answer
-demandFrom b d feed = cond (d .commit && unserved (serviceClass (b .card) (d .service))) (refusedWith 21 b) (demandAnswered b d feed)
+demandFrom b d feed = cond (d .commit && unserved (serviceClass (b .card) (d .service))) (refusedWith noService b) (demandAnswered b d feed)
 
 -- '20 required above 1e-10 without return temperature'
 unfoldable pub demandGiven : Battery → Demand → Given → Answer
-demandGiven b d Absent = refusedWith 20 b
+demandGiven b d Absent = refusedWith noReturn b
 demandGiven b d (Value feed) = demandFrom b d feed
 
 -- `demand_energy`: 'Required at most 1e-10 answers 0 with no substep'
@@ -94,12 +95,12 @@ level b = stateOfCharge (saltAt (saltsOf (b .card))) (b .card .reference) (store
 
 -- kind 6: '25 state of charge above 1.0 + 1e-10'
 unfoldable pub readLevel : Battery → StateOfCharge → Answer
-readLevel b Above = refusedWith 25 b
+readLevel b Above = refusedWith overFull b
 readLevel b (Level soc) = checked b (plainAnswer soc b)
 
 -- kind 7
 unfoldable pub demandToLevel : Battery → Given → Float → StateOfCharge → Answer
-demandToLevel b most target Above = refusedWith 25 b
+demandToLevel b most target Above = refusedWith overFull b
 demandToLevel b most target (Level soc) = checked b (plainAnswer (chargeEnergyDemand (b .card) most target soc .0) b)
 
 -- a hydronic call as a wet source
@@ -123,4 +124,4 @@ stepOf version b (ChargeEnergyDemand most target) = demandToLevel b most target 
 -- a call on any battery whatsoever: 10, or the steps
 unfoldable pub advanceOf : ℕ → Battery → Call → Answer
 advanceOf version b call =
-    cond (batteryAccepted version b && callInRange version (b .card) call) (stepOf version b call) (refusedWith 10 b)
+    cond (batteryAccepted version b && callInRange version (b .card) call) (stepOf version b call) (refusedWith badCall b)

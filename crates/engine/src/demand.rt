@@ -113,7 +113,7 @@ fn demand_from(
     let card = l.card;
     let class = totals::service_class(card, d.service);
     if logic::both(d.commit, totals::unserved(class)) {
-        return answers::refused_reply(21);
+        return answers::refused_reply(refusals::NO_SERVICE);
     }
     if d.commit {
         return committed(l, salts, step, d, feed, zones);
@@ -133,7 +133,7 @@ fn demand_given(
     ensures { λ r. ⌜ settled l (now (zones .entry)) r (now (zones .exit)) ≡ demandGiven (whole l (now (zones .entry))) d given ⌝ }
 {
     match given {
-        Given::Absent => answers::refused_reply(20),
+        Given::Absent => answers::refused_reply(refusals::NO_RETURN),
         Given::Value(feed) => demand_from(l, salts, step, d, feed, zones),
     }
 }

@@ -71,7 +71,7 @@ fn read_level(l: Ledger, level: StateOfCharge, zones: &[f64; 64]) -> Reply
     ensures { λ r. ⌜ settled l (now (zones .entry)) r (now (zones .entry)) ≡ readLevel (whole l (now (zones .entry))) level ⌝ }
 {
     match level {
-        StateOfCharge::Above => answers::refused_reply(25),
+        StateOfCharge::Above => answers::refused_reply(refusals::OVER_FULL),
         StateOfCharge::Level(soc) => {
             let totals = l.totals;
             let a = answers::plain_reply(soc, totals);
@@ -93,7 +93,7 @@ fn demand_to_level(
     ensures { λ r. ⌜ settled l (now (zones .entry)) r (now (zones .entry)) ≡ demandToLevel (whole l (now (zones .entry))) most target level ⌝ }
 {
     match level {
-        StateOfCharge::Above => answers::refused_reply(25),
+        StateOfCharge::Above => answers::refused_reply(refusals::OVER_FULL),
         StateOfCharge::Level(soc) => {
             let energy = charges::calculate_charge_energy_demand(l, salts, step, most, target, soc);
             let totals = l.totals;
@@ -206,7 +206,7 @@ pub fn advance_in_place(
         let what = asked(call);
         return asked_step(l, salts, step, what, zones);
     }
-    answers::refused_reply(10)
+    answers::refused_reply(refusals::BAD_CALL)
 }
 
 // The same by value.

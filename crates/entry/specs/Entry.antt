@@ -5,6 +5,7 @@ use mathlib.Core.Bool.{Bool, false, cond}
 use mathlib.Core.List.{List}
 use lib.Dec.{leb, eqb}
 use lib.ListN.{length, take}
+use Rattle.refusals.specs.Refusals.{cardOutOfRange, badCall, noRoom}
 use Rattle.codec.specs.Bytes.{over}
 use Rattle.card.specs.Card.{cardRefusal}
 use Rattle.battery.specs.Battery.{fresh}
@@ -44,10 +45,10 @@ openOf version card rec free =
     (cond (eqb (length rec) (recordLength version card))
     (cond (leb (openingLength version card) (length free))
     (openedWith version card free)
-    (unchanged 11 rec free))
-    (unchanged 10 rec free))
+    (unchanged noRoom rec free))
+    (unchanged badCall rec free))
     (unchanged (cardRefusal version c) rec free))
-    (unchanged 1 rec free)
+    (unchanged cardOutOfRange rec free)
 
 -- the record renewed; a refused call leaves zones and totals as they are
 unfoldable pub renewed : ℕ → List ℕ → Answer → List ℕ
@@ -60,11 +61,11 @@ entered version rec call free a = record { code = a .refusal; record' = renewed 
 -- '10 before 11, both before 20 to 25'
 unfoldable pub lineAfter : ℕ → List ℕ → List ℕ → List ℕ → Answer → After
 lineAfter version rec call free a =
-    cond (eqb (a .refusal) 10)
-    (unchanged 10 rec free)
+    cond (eqb (a .refusal) badCall)
+    (unchanged badCall rec free)
     (cond (leb (lineSize version (a .battery .card) (length call)) (length free))
     (entered version rec call free a)
-    (unchanged 11 rec free))
+    (unchanged noRoom rec free))
 
 -- a record of a length that its accepted card gives
 unfoldable pub recordLaid : ℕ → List ℕ → Bool

@@ -12,7 +12,7 @@ pub fn open(version: u8, card: &[u8], record: &mut [u8], sheet: &mut [u8]) -> u8
     ensures { λ r. ⌜ WasAfter (openOf version (now (card .entry)) (now («record» .entry)) (now (sheet .entry))) r (now («record» .exit)) (now (sheet .exit)) ⌝ }
 {
     if card.len() != records::cards::card_length(version, card) {
-        return 1;
+        return refusals::CARD_OUT_OF_RANGE;
     }
     let c = records::cards::read_card(version, card);
     let refusal = card_verdict::refusal(version, c);
@@ -20,10 +20,10 @@ pub fn open(version: u8, card: &[u8], record: &mut [u8], sheet: &mut [u8]) -> u8
         return refusal;
     }
     if record.len() != records::record_length(version, c, card) {
-        return 10;
+        return refusals::BAD_CALL;
     }
     if sheet.len() < sheet::lines::opening_length(version, card) {
-        return 11;
+        return refusals::NO_ROOM;
     }
     let b = battery::fresh(c);
     records::put_record(version, record, card, b);
@@ -50,12 +50,12 @@ pub fn enter(version: u8, record: &mut [u8], call: &[u8], sheet: &mut [u8], a: A
     requires { ⌜ (a .battery .card .layers ≤ 64) × (length (now call) < 65536) × (length (now «record») ≡ cardLength version (now «record») + stateLength version (a .battery .card)) ⌝ }
     ensures { λ r. ⌜ WasAfter (lineAfter version (now («record» .entry)) (now (call .entry)) (now (sheet .entry)) a) r (now («record» .exit)) (now (sheet .exit)) ⌝ }
 {
-    if a.refusal == 10 {
-        return 10;
+    if a.refusal == refusals::BAD_CALL {
+        return refusals::BAD_CALL;
     }
     let card = a.battery.card;
     if sheet.len() < sheet::lines::line_size(version, card, call.len()) {
-        return 11;
+        return refusals::NO_ROOM;
     }
     sheet::lines::put_line(version, sheet, call, a);
     if a.refusal != 0 {

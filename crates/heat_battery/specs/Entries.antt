@@ -2,6 +2,7 @@
 use Prim.Native.Nat.{ℕ}
 use mathlib.Core.Bool.{cond}
 use mathlib.Core.List.{List}
+use Rattle.refusals.specs.Refusals.{badCall}
 use Rattle.engine.specs.Steps.{advanceOf}
 use Rattle.records.specs.Records.{recordOf}
 use Rattle.calls.specs.Calls.{callOf}
@@ -10,9 +11,9 @@ use Rattle.calls.specs.declared.ReadCall.the-variants.{Good, Bad}
 use Rattle.entry.specs.Entry.{After, unchanged, lineAfter, recordLaid}
 
 unfoldable pub entryRead : ℕ → List ℕ → List ℕ → List ℕ → ReadCall → After
-entryRead version rec call free Bad = unchanged 10 rec free
+entryRead version rec call free Bad = unchanged badCall rec free
 entryRead version rec call free (Good c) = lineAfter version rec call free (advanceOf version (recordOf version rec) c)
 
 -- a call: 10 for another length of record or call, a record that is refused, a call field that is
 unfoldable pub entryOf : ℕ → List ℕ → List ℕ → List ℕ → After
-entryOf version rec call free = cond (recordLaid version rec) (entryRead version rec call free (callOf version call)) (unchanged 10 rec free)
+entryOf version rec call free = cond (recordLaid version rec) (entryRead version rec call free (callOf version call)) (unchanged badCall rec free)

@@ -5,6 +5,7 @@ use mathlib.Core.List.{List, [], _∷_, _++_}
 use mathlib.Core.Bool.{Bool, cond, _||_}
 use lib.Dec.{eqb}
 use lib.ListN.{length, take, drop}
+use Rattle.refusals.specs.Refusals.{badCall, noRoom}
 use Rattle.codec.specs.Bytes.{beAt}
 use Rattle.battery.specs.Answer.{refusedWith}
 use Rattle.battery.specs.Battery.{fresh, GoodBattery}
@@ -24,7 +25,7 @@ use Rattle.heat_battery.specs.Entries.{entryOf}
 
 -- 10 or 11: no line was written
 unfoldable pub noLine : After → Bool
-noLine a = eqb (a .code) 10 || eqb (a .code) 11
+noLine a = eqb (a .code) badCall || eqb (a .code) noRoom
 
 -- the bytes that the call's line takes at the front of the lent part, by its own length
 unfoldable pub lineTaken : After → ℕ
@@ -89,7 +90,7 @@ sparedOf version card rec free calls =
 
 unfoldable pub answerRead : ℕ → Battery → ReadCall → Answer
 answerRead version b (Good c) = stepOf version b c
-answerRead version b Bad = refusedWith 10 b
+answerRead version b Bad = refusedWith badCall b
 
 unfoldable pub answerTo : ℕ → Battery → List ℕ → Answer
 answerTo version b call = answerRead version b (callOf version call)

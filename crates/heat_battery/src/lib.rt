@@ -31,7 +31,7 @@ fn advance(version: u8, record: &mut [u8], call: &[u8], sheet: &mut [u8]) -> u8
 {
     let read = calls::read_call(version, call);
     match read {
-        ReadCall::Bad => 10,
+        ReadCall::Bad => refusals::BAD_CALL,
         ReadCall::Good(c) => {
             let card = records::cards::read_card(version, record);
             let b = records::read_record(version, card, record);
@@ -49,7 +49,7 @@ pub extern "C" fn heat_battery_call(record: &mut [u8], call: &[u8], sheet: &mut 
     if entry::record_laid(ONLY_VERSION, record) {
         return advance(ONLY_VERSION, record, call, sheet);
     }
-    10
+    refusals::BAD_CALL
 }
 
 // Audits a sheet: line × 256 + refusal, or lines × 256 where it is accepted; 44 above 65,536 bytes.

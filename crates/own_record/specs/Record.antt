@@ -3,6 +3,7 @@ use Prim.Native.Nat.{ℕ, zero, suc}
 use mathlib.Core.List.{List}
 use lib.ListN.{getD, set}
 use lib.Ieee.{Float, nan}
+use Rattle.refusals.specs.Refusals.{badCall}
 use Rattle.battery.specs.Answer.{replyOf, refusedReply, refusedWith}
 use Rattle.battery.specs.Ledger.{renewedBattery}
 use Rattle.battery.specs.declared.Battery.{Battery}
@@ -48,7 +49,7 @@ advancedBy a = record { battery = a .battery; shown = shownOf a }
 
 -- 10 for a call that can't be read
 unfoldable pub advancedRead : ℕ → Battery → ReadCall → Advanced
-advancedRead version b Bad = advancedBy (refusedWith 10 b)
+advancedRead version b Bad = advancedBy (refusedWith badCall b)
 advancedRead version b (Good call) = advancedBy (advanceOf version b call)
 
 unfoldable pub advancedOf : ℕ → Battery → List ℕ → Advanced

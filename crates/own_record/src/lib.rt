@@ -75,7 +75,7 @@ pub fn advance_apart(version: u8, l: Ledger, call: &[u8], zones: &mut [f64; 64])
     match read {
         ReadCall::Bad => {
             let totals = l.totals;
-            let shown = refused_shown(10);
+            let shown = refused_shown(refusals::BAD_CALL);
             Renewed { totals, shown }
         }
         ReadCall::Good(c) => {

@@ -3,6 +3,7 @@ use mathlib.Core.Bool.{cond}
 use lib.Dec.{eqb}
 use lib.IntN.{pos}
 use lib.Ieee.{Float, binary64, ofInt}
+use Rattle.refusals.specs.Refusals.{notFinite}
 use Rattle.floats.specs.F64.{_⊗_}
 use Rattle.floats.specs.Constants.{zero, one}
 use Rattle.zone.specs.Heat.{kwh}
@@ -27,7 +28,7 @@ use Rattle.runs.specs.Runs.{endRefusal, reynoldBetween}
 
 -- '23 .. or a reported number or total isn't' finite: the refusal line with the battery b as before
 unfoldable pub checked : Battery → Answer → Answer
-checked b a = cond (answerFinite a) a (refusedWith 23 b)
+checked b a = cond (answerFinite a) a (refusedWith notFinite b)
 
 -- an answer of a run, unless it ended in 22, 23 or 24
 unfoldable pub unlessRefused : Battery → End → Answer → Answer

@@ -26,7 +26,7 @@ pub fn checked(l: Ledger, a: Reply, zones: &[f64; 64]) -> Reply
     if answers::reply_finite(l, a, zones) {
         return a;
     }
-    answers::refused_reply(23)
+    answers::refused_reply(refusals::NOT_FINITE)
 }
 
 // The answer of a run, unless it ended in 22, 23 or 24. The zones of a run that answers are finite by a law
@@ -40,7 +40,7 @@ pub fn unless_refused(end: End, a: Reply) -> Reply
         if answers::numbers_finite(a) {
             return a;
         }
-        return answers::refused_reply(23);
+        return answers::refused_reply(refusals::NOT_FINITE);
     }
     answers::refused_reply(refusal)
 }

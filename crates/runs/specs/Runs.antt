@@ -1,6 +1,7 @@
 -- What the runs of substeps share: how they end, what they hand out, the Reynolds number between substeps, the time left.
 use Prim.Native.Nat.{ℕ}
 use lib.Ieee.{Float}
+use Rattle.refusals.specs.Refusals.{overBudget, notFinite, noLogarithm}
 use Rattle.floats.specs.F64.{_⊖_, _⊗_, _⊘_}
 use Rattle.floats.specs.Constants.{one}
 use Rattle.water.specs.Water.{kinematicViscosity, reynoldNumber}
@@ -31,9 +32,9 @@ endRefusal NoStep = 0
 endRefusal Level = 0
 endRefusal Limit = 0
 endRefusal Time = 0
-endRefusal OverBudget = 22
-endRefusal NotFiniteRun = 23
-endRefusal NoLogarithm = 24
+endRefusal OverBudget = overBudget
+endRefusal NotFiniteRun = notFinite
+endRefusal NoLogarithm = noLogarithm
 
 -- the refusal that a turn ends with, 0 for none
 abbrev pub nextRefusal : Next → ℕ

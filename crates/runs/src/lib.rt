@@ -111,9 +111,9 @@ pub fn end_refusal(end: End) -> u8
         End::Level => 0,
         End::Limit => 0,
         End::Time => 0,
-        End::OverBudget => 22,
-        End::NotFiniteRun => 23,
-        End::NoLogarithm => 24,
+        End::OverBudget => refusals::OVER_BUDGET,
+        End::NotFiniteRun => refusals::NOT_FINITE,
+        End::NoLogarithm => refusals::NO_LOGARITHM,
     }
 }
 

@@ -125,7 +125,15 @@ impl Refusal {
 
     /// Whether it stands on the sheet as a line: 20 to 25.
     pub fn is_line(&self) -> bool {
-        (20..=25).contains(&self.number())
+        matches!(
+            self,
+            Refusal::NoReturn
+                | Refusal::NoService
+                | Refusal::OverBudget
+                | Refusal::NotFinite
+                | Refusal::NoLogarithm
+                | Refusal::OverFull
+        )
     }
 }
 
