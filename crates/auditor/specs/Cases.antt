@@ -1,4 +1,4 @@
--- Each of 40 to 44 'is given only in its case': the cases, in the words of a sheet, and which verdicts there are.
+-- Each of 40 to 44, and 70, 'is given only in its case': the cases, in the words of a sheet, and which verdicts there are.
 use Prim.Native.Nat.{ℕ, _≤_}
 use mathlib.Core.Path.{_≡_}
 use mathlib.Core.Bool.{true, false}
@@ -73,15 +73,18 @@ pub record Disagrees (rules : Rules) (bs : List ℕ) (k : ℕ) : Type 0 where
       (expected (sheet .version) (cardAt (sheet .version) (sheet .card)) (sheet .calls) call)
       ≡ false
 
--- document 01's refusals, with their index
+-- document 01's refusals, with their index; those of an audit by any rules
 abbrev pub Known : ℕ → ℕ → Type 0
 Known r i = ((r ≡ 40) × (i ≡ 0)) ⊎ (((r ≡ 41) × (i ≡ 0)) ⊎ (((r ≡ 42) × (1 ≤ i)) ⊎ ((r ≡ 43) × (1 ≤ i))))
 
--- those of an audit by any rules
 abbrev pub KnownBy : ℕ → ℕ → Type 0
 KnownBy r i = Known r i ⊎ ((r ≡ 70) × (i ≡ 0))
 
--- the verdicts that the program and the C audit give
+-- the verdicts that the program and the C audit give; those of any audit with their limit
 abbrev pub Given : Verdict → Type 0
 Given (Accepted n) = Unit
 Given (Refused r i) = Known r i ⊎ ((r ≡ 44) × (i ≡ 0))
+
+abbrev pub GivenBy : Verdict → Type 0
+GivenBy (Accepted n) = Unit
+GivenBy (Refused r i) = KnownBy r i ⊎ ((r ≡ 44) × (i ≡ 0))

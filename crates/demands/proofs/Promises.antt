@@ -11,7 +11,7 @@ use Rattle.own_record.proofs.OwnRecord.{refused-record-stays, places-above-stay
 use Rattle.auditor.specs.Audit.{limitedAuditOf}
 use Rattle.auditor.proofs.Exact.{exact}
 use Rattle.auditor.proofs.Refusals.{refused-40, refused-41, refused-42, refused-43, refused-44, refused-70, no-other}
-use Rattle.auditor.proofs.Words.{verdict-given, same-verdict, word-accepts}
+use Rattle.auditor.proofs.Words.{verdict-given, plain-given, same-verdict, word-accepts}
 use Rattle.auditor.proofs.Fields.{fields-accept, fields-refuse, fields-word}
 use Rattle.claims.proofs.Directions.{directions}
 use Rattle.claims.proofs.Charged.{charged-total}
@@ -29,7 +29,7 @@ pub own-record-numbers : OwnRecordNumbers
 own-record-numbers version known b call = among-own _ (own-codes version b call)
 
 pub audit-verdicts : AuditVerdicts
-audit-verdicts = verdict-given
+audit-verdicts = plain-given
 
 pub auditor-verdicts : AuditorVerdicts
 auditor-verdicts = no-other
@@ -68,7 +68,7 @@ pub exactly-when-in-c : ExactlyWhenInC
 exactly-when-in-c = word-accepts
 
 pub word-tells-the-verdict : WordTellsTheVerdict
-word-tells-the-verdict bs cs = same-verdict (limitedAuditOf plain bs) (limitedAuditOf plain cs) (verdict-given bs) (verdict-given cs)
+word-tells-the-verdict rules bs cs = same-verdict (limitedAuditOf rules bs) (limitedAuditOf rules cs) (verdict-given rules bs) (verdict-given rules cs)
 
 pub exactly-when-of-any-length : ExactlyWhenOfAnyLength
 exactly-when-of-any-length = fields-accept

@@ -120,28 +120,31 @@ AcceptsAListByRules =
 abbrev pub ExactlyWhen : Type 0
 ExactlyWhen = (rules : Rules) (bs : List ℕ) (n : ℕ) → (auditOf rules bs ≡ Accepted n) ↔ Sheet rules bs n
 
--- the same of the number that the C audit returns, for at most 65,536 bytes
+-- the same of its number for at most 65,536 bytes, which the C audit returns by `plain`
 abbrev pub ExactlyWhenInC : Type 0
-ExactlyWhenInC = (bs : List ℕ) (n : ℕ) → length bs ≤ limit → (verdictWord (limitedAuditOf plain bs) ≡ n * 256) ↔ Sheet plain bs n
+ExactlyWhenInC = (rules : Rules) (bs : List ℕ) (n : ℕ) → length bs ≤ limit → (verdictWord (limitedAuditOf rules bs) ≡ n * 256) ↔ Sheet rules bs n
 
 -- and that number tells the verdict
 abbrev pub WordTellsTheVerdict : Type 0
-WordTellsTheVerdict = (bs cs : List ℕ) → verdictWord (limitedAuditOf plain bs) ≡ verdictWord (limitedAuditOf plain cs) → limitedAuditOf plain bs ≡ limitedAuditOf plain cs
+WordTellsTheVerdict =
+    (rules : Rules) (bs cs : List ℕ) → verdictWord (limitedAuditOf rules bs) ≡ verdictWord (limitedAuditOf rules cs) → limitedAuditOf rules bs ≡ limitedAuditOf rules cs
 
--- the same of the refusal and the line that the C audit without a limit returns, for any length
+-- the same of its refusal and its line for any length, which the C audit without a limit returns by `plain`
 abbrev pub ExactlyWhenOfAnyLength : Type 0
 ExactlyWhenOfAnyLength =
-    (bs : List ℕ) (n : ℕ) → ((verdictFields (auditOf plain bs) .refusal ≡ 0) × (verdictFields (auditOf plain bs) .line ≡ n)) ↔ Sheet plain bs n
+    (rules : Rules) (bs : List ℕ) (n : ℕ) → ((verdictFields (auditOf rules bs) .refusal ≡ 0) × (verdictFields (auditOf rules bs) .line ≡ n)) ↔ Sheet rules bs n
 
 -- and these two tell the verdict
 abbrev pub FieldsTellTheVerdict : Type 0
 FieldsTellTheVerdict =
-    (bs : List ℕ) (r i : ℕ) → 1 ≤ r → ((verdictFields (auditOf plain bs) .refusal ≡ r) × (verdictFields (auditOf plain bs) .line ≡ i)) ↔ (auditOf plain bs ≡ Refused r i)
+    (rules : Rules) (bs : List ℕ) (r i : ℕ) → 1 ≤ r
+    → ((verdictFields (auditOf rules bs) .refusal ≡ r) × (verdictFields (auditOf rules bs) .line ≡ i)) ↔ (auditOf rules bs ≡ Refused r i)
 
 -- where both audits look at the lines, they say the same
 abbrev pub BothAuditsAgree : Type 0
 BothAuditsAgree =
-    (bs : List ℕ) → length bs ≤ limit → verdictWord (limitedAuditOf plain bs) ≡ verdictFields (auditOf plain bs) .line * 256 + verdictFields (auditOf plain bs) .refusal
+    (rules : Rules) (bs : List ℕ) → length bs ≤ limit
+    → verdictWord (limitedAuditOf rules bs) ≡ verdictFields (auditOf rules bs) .line * 256 + verdictFields (auditOf rules bs) .refusal
 
 -- 'In each accepted sheet no zone is warmer after a standing loss, none cooler after an electric charge, and none altered by a refused or trial line.'
 -- This and the next of every audit whose comparison accepts no more than f64 equality, as document 01's.
