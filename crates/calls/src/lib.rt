@@ -98,12 +98,10 @@ fn demand_call(version: u8, bytes: &[u8]) -> ReadCall
     ensures { λ r. ⌜ r ≡ demandCall version (now (bytes .entry)) ⌝ }
 {
     let commit = commit_place(version);
-    if logic::both(
+    if logic::all_three(
         bytes[commit] <= 1,
-        logic::both(
-            bytes[commit + CONTROL] <= 1,
-            mark_ok(bytes, commit + RETURN),
-        ),
+        bytes[commit + CONTROL] <= 1,
+        mark_ok(bytes, commit + RETURN),
     ) {
         return ReadCall::Good(Call::DemandEnergy(read_demand(version, bytes)));
     }

@@ -91,18 +91,12 @@ fn same_zones(x: [f64; 64], y: [f64; 64], n: usize) -> bool
 fn same_totals(x: Battery, y: Battery) -> bool
     ensures { λ r. ⌜ r ≡ sameTotals sameNumber x y ⌝ }
 {
-    logic::both(
+    logic::all_five(
         same_number(x.total, y.total),
-        logic::both(
-            same_number(x.pump, y.pump),
-            logic::both(
-                same_number(x.direct, y.direct),
-                logic::both(
-                    same_number(x.charged, y.charged),
-                    same_number(x.electric, y.electric),
-                ),
-            ),
-        ),
+        same_number(x.pump, y.pump),
+        same_number(x.direct, y.direct),
+        same_number(x.charged, y.charged),
+        same_number(x.electric, y.electric),
     )
 }
 
@@ -116,19 +110,17 @@ pub fn answers_agree(x: Answer, y: Answer) -> bool
     let n = b.card.layers as usize;
     let own = b.zones;
     let other = c.zones;
-    let state = logic::both(same_zones(own, other, n), same_totals(b, c));
-    let run = logic::both(
+    let run = logic::all_four(
         same_number(x.time, y.time),
-        logic::both(x.substeps == y.substeps, state),
+        x.substeps == y.substeps,
+        same_zones(own, other, n),
+        same_totals(b, c),
     );
-    logic::both(
+    logic::all_five(
         x.refusal == y.refusal,
-        logic::both(
-            same_number(x.energy, y.energy),
-            logic::both(
-                x.mark == y.mark,
-                logic::both(same_number(x.outlet, y.outlet), run),
-            ),
-        ),
+        same_number(x.energy, y.energy),
+        x.mark == y.mark,
+        same_number(x.outlet, y.outlet),
+        run,
     )
 }

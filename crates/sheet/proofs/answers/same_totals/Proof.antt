@@ -18,21 +18,12 @@ same-number-requires-4 c κs = search needs
 same-number-requires-5 : tie.Need-same-number-requires-5
 same-number-requires-5 c κs = search needs
 
-both-requires : tie.Need-both-requires
-both-requires c κs = search needs
-
-both-requires-2 : tie.Need-both-requires-2
-both-requires-2 c κs = search needs
-
-both-requires-3 : tie.Need-both-requires-3
-both-requires-3 c κs = search needs
-
-both-requires-4 : tie.Need-both-requires-4
-both-requires-4 c κs = search needs
+all-five-requires : tie.Need-all-five-requires
+all-five-requires c κs = search needs
 
 returns : tie.Need-returns
 unfolding sameTotals
-returns c = rw (← (c .before .before .before .before .before .before .before .before .same-number .ensures), ← (c .before .before .before .before .before .before .before .same-number2 .ensures), ← (c .before .before .before .before .before .before .same-number3 .ensures), ← (c .before .before .before .before .before .same-number4 .ensures), ← (c .before .before .before .before .same-number5 .ensures), ← (c .before .before .before .both .ensures), ← (c .before .before .both2 .ensures), ← (c .before .both3 .ensures), ← (c .both4 .ensures))
+returns c = rw (← (c .before .before .before .before .before .same-number .ensures), ← (c .before .before .before .before .same-number2 .ensures), ← (c .before .before .before .same-number3 .ensures), ← (c .before .before .same-number4 .ensures), ← (c .before .same-number5 .ensures), ← (c .all-five .ensures))
 
 pub same-totals-spec : {M : Type 1} → statement M
 same-totals-spec =
@@ -43,8 +34,5 @@ same-totals-spec =
     same-number-requires-3
     same-number-requires-4
     same-number-requires-5
-    both-requires
-    both-requires-2
-    both-requires-3
-    both-requires-4
+    all-five-requires
     returns)
