@@ -49,7 +49,7 @@ module _ (rules : Rules) (bs : List ℕ) (o : Opened bs) (taken : rules .test (o
         calls = calls;
         layout =
             record {
-              known = o .known;
+              known = rw (o .known);
               head = o .head;
               bytes = refl;
               two = o .two;

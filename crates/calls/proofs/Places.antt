@@ -1,4 +1,4 @@
--- Where a demand's fields stand, and how long a call is, whatever the version. Nothing outside of this file opens commitPlace or callLength but their own functions.
+-- Where a demand's fields stand, and how long a call is, whatever the version. No other law opens commitPlace or callLength but examples by computation.
 use mathlib.Core.Path.{_≡_, refl}
 use mathlib.Core.Bool.{Bool, true, false, cond}
 use Prim.Native.Nat.{ℕ, _+_, _≤_, _<_}

@@ -24,7 +24,8 @@ use Rattle.calls.specs.declared.ReadCall.the-variants.{Good}
 use Rattle.sheet.proofs.Lengths.{length-lineBytes}
 use Rattle.battery.proofs.GoodParts.{good-layers}
 use Rattle.sheet.proofs.AnswerBack.{record-back}
-use Rattle.records.proofs.CardLaws.{card-length-front, card-at-front}
+use Rattle.records.proofs.CardLaws.{card-length-front}
+use Rattle.sheet.proofs.CardFront.{card-at-front}
 use Rattle.calls.proofs.CallLaws.{call-length}
 use Rattle.calls.proofs.Places.{call-short}
 use Rattle.sheet.proofs.LineLaws.{line-fits, line-says, line-behind}

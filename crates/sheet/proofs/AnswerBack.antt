@@ -16,7 +16,8 @@ use Rattle.battery.specs.declared.Battery.{Battery}
 use Rattle.battery.specs.declared.Answer.{Answer}
 use Rattle.battery.specs.Battery.{GoodBattery}
 use Rattle.records.specs.Cards.{cardLength, cardAt}
-use Rattle.records.proofs.CardLaws.{card-length-front, card-at-front}
+use Rattle.records.proofs.CardLaws.{card-length-front}
+use Rattle.sheet.proofs.CardFront.{card-at-front}
 use Rattle.records.specs.Records.{stateAt, stateBytes, recordOf, recordBytes}
 use Rattle.calls.specs.Calls.{markOk}
 use Rattle.sheet.specs.Answers.{headLength, headBytes, answerAt, answerBytes, marksOk, GoodAnswer}
