@@ -100,7 +100,7 @@ module _ (x : HydronicTask) (steps n : ℕ) (s : Zoned WetPace) where
     unfolding hydronicRun
     hydronic-over-budget e = rw left (via-true _ _ (eq-eqb _ _ e) refl)
 
-    -- a turn behind s, and the zones that it leaves
+    -- a turn after s, and the zones that it leaves
     module _ (t : WetTurn) (after : List Float) (h : n ≡ x .card .budget → ⊥) (l : AsDefined (nextRefusal (t .next)) t after (hydronicStep x n s)) where
       hydronic-unfolds : hydronicRun x (steps - n) n s ≡ hydronicThen (hydronicRun x (steps - (n + 1))) (zoned (t .pace) (hydronicStep x n s .zones)) (t .next) (t .substeps)
       unfolding hydronicRun
