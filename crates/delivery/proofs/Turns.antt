@@ -35,7 +35,7 @@ module _ (x : DemandTask) (salts : ℕ → Salt) (b n : ℕ) (s : Zoned Pace) wh
       let z : b - n ≡ 0 = omega arith in
       rw z (via-true _ _ (not-false (lt Constants.zero (s .part .step)) h) refl)
 
-  -- a turn behind s, and the zones that it leaves
+  -- a turn after s, and the zones that it leaves
   module _ (t : PaceTurn) (after : List Float) (p : n ≤ b) (q : n ≡ b → ⊥) (h : not (lt Constants.zero (s .part .step)) ≡ false)
       (l : AsDefined (nextRefusal (t .next)) t after (demandSubstep x salts s)) where
     demand-unfolds : demandRun x salts (b - n) n s ≡ demandThen (demandRun x salts (b - (n + 1)) (n + 1)) (n + 1) (zoned (t .pace) (demandSubstep x salts s .zones)) (t .next)

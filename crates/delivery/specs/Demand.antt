@@ -51,7 +51,7 @@ demandMet x delivered =
 unfoldable pub cut : DemandTask → Float → Float → Float
 cut x running step = cond (lt (x .seconds) (running ⊕ step)) (x .seconds ⊖ running) step
 
--- the pace behind a substep, with its next step and its delivery
+-- the pace after a substep, with its next step and its delivery
 unfoldable pub paceAfter : DemandTask → Pace → Outcome → Float → KilowattHours → Pace
 paceAfter x s u step delivered =
     record {
