@@ -12,7 +12,6 @@ use Rattle.card.specs.Version.{knownVersion}
 use Rattle.card.specs.Card.{cardRefusal}
 use Rattle.card.proofs.Versions.{zero-unknown}
 use Rattle.battery.specs.Battery.{fresh}
-use Rattle.battery.proofs.FreshGood.{fresh-good}
 use Rattle.records.specs.Cards.{cardLength, cardAt}
 use Rattle.records.proofs.CardLaws.{card-length-front, card-length-take}
 use Rattle.sheet.specs.Lines.{openingLength}
@@ -21,12 +20,11 @@ use Rattle.auditor.specs.Rules.{Rules}
 use Rattle.auditor.specs.Sheet.{CardAccepted}
 use Rattle.auditor.specs.Cases.{Opened}
 use Rattle.auditor.proofs.Opening.{opening-is, card-line}
-use Rattle.auditor.proofs.Walks.{Own}
+use Rattle.auditor.proofs.Walks.{Own, own-fresh}
 use Rattle.auditor.proofs.ReadCalls.{card-held}
 
 pub fresh-own : (version : ℕ) (card : List ℕ) → CardAccepted version card → Own version (cardAt version card) (fresh (cardAt version card))
-unfolding fresh
-fresh-own version card a = record { good = fresh-good version (cardAt version card) a (card-held version card .start); card = refl }
+fresh-own version card a = own-fresh version (cardAt version card) a (card-held version card .start)
 
 -- ---- taken apart
 module _ (version : ℕ) (known : knownVersion version ≡ true) (head card rest : List ℕ) (two : length head ≡ 2) (long : length card ≡ cardLength version card) where

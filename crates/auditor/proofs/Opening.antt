@@ -10,7 +10,6 @@ use lib.ListN.{length, take, drop, length-drop}
 use lib.Seq.{take-all, length-take-le}
 use Rattle.codec.specs.Bytes.{beAt}
 use Rattle.card.specs.Card.{cardRefusal}
-use Rattle.card.proofs.Accepted.{accepted-layers}
 use Rattle.records.specs.Cards.{cardLength, cardAt}
 use Rattle.records.proofs.CardLaws.{card-length-take}
 use Rattle.sheet.specs.Lines.{openingLength}
@@ -63,6 +62,3 @@ unfolding cardLineOk
 no-card-line version bs h =
     let l : length bs < openingLength version (drop 3 bs) = omega (arith, opening-is version (drop 3 bs)) in
     rw (lt-leb (openingLength version (drop 3 bs)) (length bs) l)
-
-pub few-layers : (version : ℕ) (bs : List ℕ) → CardLine version bs → cardAt version (cardPart version bs) .layers ≤ 64
-few-layers version bs l = accepted-layers version (cardAt version (cardPart version bs)) (l .accepted) .1

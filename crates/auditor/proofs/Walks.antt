@@ -1,5 +1,5 @@
 -- The auditor's own battery, and its walk over lines that are laid and agree.
-use mathlib.Core.Path.{_≡_, sym, ap, _∙_}
+use mathlib.Core.Path.{_≡_, refl, sym, ap, _∙_}
 use mathlib.Core.List.{List, [], _∷_, _++_, append-assoc}
 use mathlib.Core.Bool.{Bool, true, false}
 use mathlib.Core.Logic.{_⊎_, inl, inr}
@@ -7,16 +7,19 @@ use Prim.Native.Nat.{ℕ, zero, suc, _+_, _≤_}
 use native.Mathlib.Nat.{add-zero}
 use native.Mathlib.Omega.{arith}
 use borrow.Author.Tests.{ne-eqb}
-use lib.Ieee.{Float}
+use lib.Dec.{T}
+use lib.Ieee.{Float, fits, binary64}
 use lib.ListN.{length}
+use Rattle.card.specs.Card.{cardRefusal}
 use Rattle.card.specs.declared.Card.{Card}
-use Rattle.battery.specs.Battery.{GoodBattery}
+use Rattle.battery.specs.Battery.{fresh, GoodBattery}
+use Rattle.battery.proofs.FreshGood.{fresh-good}
 use Rattle.call_ranges.specs.Call.{callInRange}
 use Rattle.battery.specs.Answer.{refusedWith}
 use Rattle.battery.specs.declared.Battery.{Battery}
 use Rattle.battery.specs.declared.Call.{Call}
 use Rattle.engine.specs.Steps.{stepOf, advanceOf}
-use Rattle.engine.proofs.AdvanceKeeps.{advance-is-step}
+use Rattle.engine.proofs.AdvanceKeeps.{advance-is-step, advance-keeps-good, advance-keeps-card}
 use Rattle.engine.proofs.StepKeeps.{step-refusals, step-keeps-card, step-keeps-good}
 use Rattle.sheet.specs.Answers.{answerAt}
 use Rattle.auditor.specs.Audit.{judge, auditLine, auditFrom}
@@ -30,9 +33,16 @@ pub record Own (version : ℕ) (c : Card) (b : Battery) : Type 0 where
   pub good : GoodBattery version b
   pub card : b .card ≡ c
 
+pub own-fresh : (version : ℕ) (c : Card) → cardRefusal version c ≡ 0 → T (fits binary64 (c .start)) → Own version c (fresh c)
+unfolding fresh
+own-fresh version c h f = record { good = fresh-good version c h f; card = refl }
+
 module _ (version : ℕ) (c : Card) (b : Battery) (o : Own version c b) (call : Call) where
   pub next-own : Own version c (stepOf version b call .battery)
   next-own = record { good = step-keeps-good version b call (o .good); card = step-keeps-card version b call ∙ o .card }
+
+  pub advanced-own : Own version c (advanceOf version b call .battery)
+  advanced-own = record { good = advance-keeps-good version b call (o .good); card = advance-keeps-card version b call ∙ o .card }
 
   pub own-step : callInRange version c call ≡ true → advanceOf version b call ≡ stepOf version b call
   own-step h = advance-is-step version b call (o .good .accepted) (ap (λ (x : Card). callInRange version x call) (o .card) ∙ h)

@@ -3,13 +3,13 @@ use crate::Verdict;
 use calls::ReadCall;
 use card::Card;
 ghost use mathlib.Core.Path.{_≡_};
-ghost use Prim.Native.Nat.{_≤_};
+ghost use Rattle.card.specs.Card.{cardRefusal};
 ghost use Rattle.sheet.specs.Answers.{sameNumber};
 ghost use Rattle.auditor.specs.Audit.{auditLines};
 
-// Steps an own battery through the lines.
+// Steps an own battery of an accepted card through the lines. It stays accepted, so that a line's call is all that 10 tests.
 pub fn audit_lines(version: u8, card: Card, bytes: &[u8]) -> Verdict
-    requires { ⌜ card .layers ≤ 64 ⌝ }
+    requires { ⌜ cardRefusal version card ≡ 0 ⌝ }
     ensures { λ r. ⌜ r ≡ auditLines sameNumber version card (now (bytes .entry)) ⌝ }
 {
     let mut rest = bytes;

@@ -1,6 +1,6 @@
 -- The same laws of `advance`, which is the step, or refusal 10.
 use mathlib.Core.Path.{_≡_, refl, sym, _∙_, ap}
-use mathlib.Core.Bool.{true, _&&_}
+use mathlib.Core.Bool.{true, false, _&&_}
 use mathlib.Core.Logic.{_⊎_, inl, inr}
 use Prim.Native.Nat.{ℕ, _≤_, _<_}
 use native.Mathlib.Omega.{arith}
@@ -31,6 +31,15 @@ module _ (version : ℕ) (b : Battery) (call : Call) where
   pub advance-is-step : batteryAccepted version b ≡ true → callInRange version (b .card) call ≡ true → advanceOf version b call ≡ stepOf version b call
   unfolding advanceOf
   advance-is-step h k = rw (true-and h k)
+
+  -- 10, where the battery is not accepted, or a field of the call is out of its range
+  pub not-accepted-ten : batteryAccepted version b ≡ false → advanceOf version b call ≡ refusedWith 10 b
+  unfolding advanceOf
+  not-accepted-ten h = rw h
+
+  pub out-of-range-ten : batteryAccepted version b ≡ true → callInRange version (b .card) call ≡ false → advanceOf version b call ≡ refusedWith 10 b
+  unfolding advanceOf
+  out-of-range-ten h k = rw (h, k)
 
   pub advance-is : (advanceOf version b call ≡ stepOf version b call) ⊎ (advanceOf version b call ≡ refusedWith 10 b)
   unfolding advanceOf

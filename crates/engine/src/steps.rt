@@ -18,7 +18,7 @@ ghost use Prim.Native.Nat.{_≤_};
 ghost use lib.Ieee.{lt};
 ghost use Rattle.floats.specs.Constants.{zero};
 ghost use Rattle.card.specs.Lent.{SaltsLent};
-ghost use Rattle.battery.specs.Battery.{zonesFinite};
+ghost use Rattle.battery.specs.Battery.{zonesFinite, batteryAccepted};
 ghost use Rattle.battery.specs.Answer.{settled};
 ghost use Rattle.battery.specs.Ledger.{whole};
 ghost use Rattle.substep.specs.Substep.{chargerHeat};
@@ -186,7 +186,27 @@ fn asked_step(l: Ledger, salts: &[f64], step: usize, what: Asked, zones: &mut [f
     }
 }
 
-// A call on any battery whatsoever, its zones and its salts apart: 10, or the steps.
+// A call on an accepted battery, its zones and its salts apart: 10 where a field of the call is out of its range, or the steps.
+pub fn advance_accepted(
+    version: u8,
+    l: Ledger,
+    salts: &[f64],
+    step: usize,
+    call: Call,
+    zones: &mut [f64; 64],
+) -> Reply
+    requires { ⌜ SaltsLent (l .card) (now salts) step × (batteryAccepted version (whole l (now zones)) ≡ true) ⌝ }
+    ensures { λ r. ⌜ settled l (now (zones .entry)) r (now (zones .exit)) ≡ advanceOf version (whole l (now (zones .entry))) call ⌝ }
+{
+    let card = l.card;
+    if call_ranges::call_in_range(version, card, call) {
+        let what = asked(call);
+        return asked_step(l, salts, step, what, zones);
+    }
+    answers::refused_reply(refusals::BAD_CALL)
+}
+
+// A call on any battery whatsoever: 10 where it is not accepted.
 pub fn advance_in_place(
     version: u8,
     l: Ledger,
@@ -198,25 +218,21 @@ pub fn advance_in_place(
     requires { ⌜ SaltsLent (l .card) (now salts) step ⌝ }
     ensures { λ r. ⌜ settled l (now (zones .entry)) r (now (zones .exit)) ≡ advanceOf version (whole l (now (zones .entry))) call ⌝ }
 {
-    let card = l.card;
-    if logic::both(
-        battery::is_accepted(version, l, zones),
-        call_ranges::call_in_range(version, card, call),
-    ) {
-        let what = asked(call);
-        return asked_step(l, salts, step, what, zones);
+    if battery::is_accepted(version, l, zones) {
+        return advance_accepted(version, l, salts, step, call, zones);
     }
     answers::refused_reply(refusals::BAD_CALL)
 }
 
-// The same by value.
+// A call on an accepted battery by value.
 pub fn advance(version: u8, b: Battery, call: Call) -> Answer
+    requires { ⌜ batteryAccepted version b ≡ true ⌝ }
     ensures { λ r. ⌜ r ≡ advanceOf version b call ⌝ }
 {
     let l = battery::ledger_of(b);
     let salts = pcm::figures_of(l.card);
     let mut zones = b.zones;
-    let a = advance_in_place(version, l, &salts, 0, call, &mut zones);
+    let a = advance_accepted(version, l, &salts, 0, call, &mut zones);
     if a.refusal == 0 {
         let card = b.card;
         let battery = Battery {

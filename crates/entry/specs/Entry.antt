@@ -13,6 +13,8 @@ use Rattle.battery.specs.declared.Answer.{Answer}
 use Rattle.records.specs.Cards.{cardLength, cardAt}
 use Rattle.records.specs.Records.{recordLength, recordBytes}
 use Rattle.sheet.specs.Lines.{lineSize, lineBytes, openingLength, openingBytes}
+use Rattle.entry.specs.declared.RecordCard.{RecordCard}
+use Rattle.entry.specs.declared.RecordCard.the-variants.{Good, Bad}
 
 -- the refusal, the battery record and the lent part of the sheet afterwards
 pub record After : Type 0 where
@@ -75,3 +77,7 @@ recordLaid version rec =
     (eqb (length rec) (recordLength version rec))
     false)
     false
+
+-- its card
+unfoldable pub recordCard : ℕ → List ℕ → RecordCard
+recordCard version rec = cond (recordLaid version rec) (Good (cardAt version rec)) Bad

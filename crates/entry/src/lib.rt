@@ -1,11 +1,22 @@
-// What A's entries write: the opening, a call's line and the record.
+// What A's entries read and write: the record that is handed in; the opening, a call's line and the record renewed.
 use battery::Answer;
+use battery::Battery;
+use battery::Totals;
+use card::Card;
 ghost use mathlib.Core.Path.{_≡_};
 ghost use Prim.Native.Nat.{_+_, _≤_, _<_};
 ghost use lib.ListN.{length};
 ghost use Rattle.records.specs.Cards.{cardLength};
 ghost use Rattle.records.specs.Records.{stateLength};
-ghost use Rattle.entry.specs.Entry.{WasAfter, openOf, lineAfter, recordLaid};
+ghost use Rattle.card.specs.Card.{cardRefusal};
+ghost use Rattle.battery.specs.Battery.{batteryAccepted};
+ghost use Rattle.entry.specs.Entry.{WasAfter, openOf, lineAfter, recordCard};
+
+// What the card of a record is: bad ones are refused with 10.
+pub enum RecordCard {
+    Good(Card),
+    Bad,
+}
 
 // Opens a sheet: its version and card line, and a fresh battery.
 pub fn open(version: u8, card: &[u8], record: &mut [u8], sheet: &mut [u8]) -> u8
@@ -31,18 +42,41 @@ pub fn open(version: u8, card: &[u8], record: &mut [u8], sheet: &mut [u8]) -> u8
     0
 }
 
-// Whether a record has the length that its accepted card gives.
-pub fn record_laid(version: u8, record: &[u8]) -> bool
-    ensures { λ r. ⌜ r ≡ recordLaid version (now («record» .entry)) ⌝ }
+// The card of a record, read and judged once; Bad where it is refused, or the record has another length.
+pub fn record_card(version: u8, record: &[u8]) -> RecordCard
+    ensures { λ r. ⌜ r ≡ recordCard version (now («record» .entry)) ⌝ }
 {
     if records::cards::card_length(version, record) <= record.len() {
         let c = records::cards::read_card(version, record);
-        if card_verdict::refusal(version, c) == 0 {
-            return record.len() == records::record_length(version, c, record);
+        if card::is_accepted(version, c) {
+            if record.len() == records::record_length(version, c, record) {
+                return RecordCard::Good(c);
+            }
+            return RecordCard::Bad;
         }
-        return false;
+        return RecordCard::Bad;
     }
-    false
+    RecordCard::Bad
+}
+
+// Whether a battery of an accepted card and its count is accepted: zones and totals decide.
+pub fn record_accepted(version: u8, b: Battery) -> bool
+    requires { ⌜ (cardRefusal version (b .card) ≡ 0) × (b .count ≡ b .card .layers) ⌝ }
+    ensures { λ r. ⌜ r ≡ batteryAccepted version b ⌝ }
+{
+    let totals = Totals {
+        total: b.total,
+        pump: b.pump,
+        direct: b.direct,
+        charged: b.charged,
+        electric: b.electric,
+    };
+    let zones = b.zones;
+    let n = b.card.layers as usize;
+    logic::both(
+        battery::zones_finite(&zones, n),
+        battery::totals_finite(totals),
+    )
 }
 
 // The line of an answer, and the record renewed; 10 and 11 leave every byte.

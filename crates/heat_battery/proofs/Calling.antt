@@ -1,14 +1,19 @@
 -- What a call leaves, way by way through its tests.
-use mathlib.Core.Path.{_≡_}
+use mathlib.Core.Path.{_≡_, refl}
 use mathlib.Core.List.{List}
 use mathlib.Core.Bool.{true, false}
 use Prim.Native.Nat.{ℕ}
 use Rattle.battery.specs.declared.Call.{Call}
+use Rattle.battery.specs.Answer.{refusedWith}
+use Rattle.battery.specs.Battery.{batteryAccepted}
 use Rattle.engine.specs.Steps.{advanceOf}
+use Rattle.engine.proofs.AdvanceKeeps.{not-accepted-ten}
 use Rattle.records.specs.Records.{recordOf}
 use Rattle.calls.specs.Calls.{callOf}
+use Rattle.calls.specs.declared.ReadCall.{ReadCall}
 use Rattle.calls.specs.declared.ReadCall.the-variants.{Good, Bad}
 use Rattle.entry.specs.Entry.{unchanged, lineAfter, recordLaid}
+use Rattle.entry.proofs.Entering.{line-ten}
 use Rattle.heat_battery.specs.Entries.{entryRead, entryOf}
 
 module _ (version : ℕ) (rec call free : List ℕ) where
@@ -24,3 +29,10 @@ module _ (version : ℕ) (rec call free : List ℕ) where
     pub entry-read : (c : Call) → callOf version call ≡ Good c → entryOf version rec call free ≡ lineAfter version rec call free (advanceOf version (recordOf version rec) c)
     unfolding entryOf entryRead
     entry-read c h = rw (l, h)
+
+  -- 10 for a battery that is not accepted, whatever the call's bytes
+  module _ (n : batteryAccepted version (recordOf version rec) ≡ false) where
+    pub read-not-accepted : (r : ReadCall) → entryRead version rec call free r ≡ unchanged 10 rec free
+    unfolding entryRead refusedWith
+    read-not-accepted Bad = refl
+    read-not-accepted (Good c) = rw (not-accepted-ten version (recordOf version rec) c n) (line-ten version rec call free (refusedWith 10 (recordOf version rec)) refl)

@@ -4,10 +4,15 @@
 use auditor::AuditVerdict;
 use battery::Battery;
 use calls::ReadCall;
+use card::Card;
 use card::version::ONLY_VERSION;
+use entry::RecordCard;
 use own_record::Shown;
 ghost use mathlib.Core.Path.{_≡_};
 ghost use mathlib.Core.Bool.{true};
+ghost use Rattle.battery.specs.Battery.{batteryAccepted};
+ghost use Rattle.records.specs.Cards.{cardAt};
+ghost use Rattle.records.specs.Records.{recordOf};
 ghost use Rattle.calls.specs.Calls.{callOf};
 ghost use Rattle.card.specs.Version.{onlyVersion};
 ghost use Rattle.auditor.specs.Rules.{plain};
@@ -24,21 +29,37 @@ pub extern "C" fn heat_battery_open(card: &[u8], record: &mut [u8], sheet: &mut 
     entry::open(ONLY_VERSION, card, record, sheet)
 }
 
-// A call on a record that is laid out: read, advanced, entered.
-fn advance(version: u8, record: &mut [u8], call: &[u8], sheet: &mut [u8]) -> u8
-    requires { ⌜ recordLaid version (now «record») ≡ true ⌝ }
+// A call on a record's accepted battery: read, advanced, entered.
+fn advance(version: u8, b: Battery, record: &mut [u8], call: &[u8], sheet: &mut [u8]) -> u8
+    requires { ⌜ (recordLaid version (now «record») ≡ true) × (b ≡ recordOf version (now «record»)) × (batteryAccepted version b ≡ true) ⌝ }
     ensures { λ r. ⌜ WasAfter (entryRead version (now («record» .entry)) (now (call .entry)) (now (sheet .entry)) (callOf version (now (call .entry)))) r (now («record» .exit)) (now (sheet .exit)) ⌝ }
 {
     let read = calls::read_call(version, call);
     match read {
         ReadCall::Bad => refusals::BAD_CALL,
         ReadCall::Good(c) => {
-            let card = records::cards::read_card(version, record);
-            let b = records::read_record(version, card, record);
             let a = engine::steps::advance(version, b, c);
             entry::enter(version, record, call, sheet, a)
         }
     }
+}
+
+// A call on a record whose card was read and accepted: its battery read and judged.
+fn with_card(
+    version: u8,
+    card: Card,
+    record: &mut [u8],
+    call: &[u8],
+    sheet: &mut [u8],
+) -> u8
+    requires { ⌜ (recordLaid version (now «record») ≡ true) × (card ≡ cardAt version (now «record»)) ⌝ }
+    ensures { λ r. ⌜ WasAfter (entryRead version (now («record» .entry)) (now (call .entry)) (now (sheet .entry)) (callOf version (now (call .entry)))) r (now («record» .exit)) (now (sheet .exit)) ⌝ }
+{
+    let b = records::read_record(version, card, record);
+    if entry::record_accepted(version, b) {
+        return advance(version, b, record, call, sheet);
+    }
+    refusals::BAD_CALL
 }
 
 // One call on a battery record: its line at the front of the lent part of the sheet, and the record renewed.
@@ -46,10 +67,11 @@ fn advance(version: u8, record: &mut [u8], call: &[u8], sheet: &mut [u8]) -> u8
 pub extern "C" fn heat_battery_call(record: &mut [u8], call: &[u8], sheet: &mut [u8]) -> u8
     ensures { λ r. ⌜ WasAfter (entryOf onlyVersion (now («record» .entry)) (now (call .entry)) (now (sheet .entry))) r (now («record» .exit)) (now (sheet .exit)) ⌝ }
 {
-    if entry::record_laid(ONLY_VERSION, record) {
-        return advance(ONLY_VERSION, record, call, sheet);
+    let read = entry::record_card(ONLY_VERSION, record);
+    match read {
+        RecordCard::Bad => refusals::BAD_CALL,
+        RecordCard::Good(card) => with_card(ONLY_VERSION, card, record, call, sheet),
     }
-    refusals::BAD_CALL
 }
 
 // Audits a sheet: line × 256 + refusal, or lines × 256 where it is accepted; 44 above 65,536 bytes.

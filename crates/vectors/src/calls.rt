@@ -5,7 +5,12 @@ use words::cards::VERSION;
 fn advanced(s: &[u8], held: &[u8]) -> Answer {
     let b = lists::battery(held);
     let call = lists::calls::read(s);
-    engine::steps::advance(VERSION, b, call)
+    let l = battery::ledger_of(b);
+    let zones = b.zones;
+    if battery::is_accepted(VERSION, l, &zones) {
+        return engine::steps::advance(VERSION, b, call);
+    }
+    answers::refused(refusals::BAD_CALL, b)
 }
 
 pub fn call(s: &[u8], held: &mut [u8]) -> bool {

@@ -4,7 +4,7 @@ use lib.ListN.{drop}
 use borrow.Author.Needs.{needs}
 use Rattle.logic.proofs.Branch.{via-true, via-false}
 use Rattle.auditor.specs.Audit.{auditCard, auditOf}
-use Rattle.auditor.proofs.Opening.{opening-is, opening-end, card-slice, card-whole, card-line, few-layers}
+use Rattle.auditor.proofs.Opening.{opening-is, opening-end, card-slice, card-whole, card-line}
 use Rattle.auditor.proofs.Turns.{rest-of}
 use Rattle.auditor.proofs.audit.Statement.{statement}
 use Rattle.auditor.proofs.audit.Tie as tie
@@ -102,7 +102,7 @@ audit-lines-requires c κs =
     let line = card-line version bs (sym (c .before .before .before .before .before .before .card-line-ok .ensures) ∙ c .before .before .before .before .before .if2 .taken) in
     let opening = c .before .before .before .opening-length in
     let end = opening-end version bs (opening .result) (opening .ensures) in
-    rw (c .before .read-card .ensures, card-slice version bs (opening .result) end) (few-layers version bs line)
+    rw (c .before .read-card .ensures, card-slice version bs (opening .result) end) (line .accepted)
 
 returns : tie.Need-returns
 unfolding auditOf auditCard

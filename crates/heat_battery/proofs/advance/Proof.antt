@@ -43,30 +43,18 @@ enum-told c = search needs
 enum-known-read : tie.Need-enum-known-read
 enum-known-read c = search needs
 
-read-card-requires : tie.Need-read-card-requires
-read-card-requires c κs = let r = c .before .before .before .before .before .before .before .before in record-laid (r .args .version) (r .args .«record» .now) (r .pre) .card-there
-
-read-record-requires : tie.Need-read-record-requires
-read-record-requires c κs =
-    let r = c .before .before .before .before .before .before .before .before .before .before in
-    let rec = r .args .«record» .now in
-    let l = record-laid (r .args .version) rec (r .pre) in
-    let e = c .before .read-card .ensures in
-    (e, rw e (accepted-layers (r .args .version) (cardAt (r .args .version) rec) (l .card-accepted) .1), omega (arith, l .long))
-
 advance-requires : tie.Need-advance-requires
-advance-requires c κs = search needs
+advance-requires c κs = c .before .before .before .before .before .before .before .pre .2
 
 enter-requires : tie.Need-enter-requires
 unfolding recordLength
 enter-requires c κs =
-    let r = c .before .before .before .before .before .before .before .before .before .before .before .before .before .before in
+    let r = c .before .before .before .before .before .before .before .before .before .before in
     let rec = r .args .«record» .now in
-    let l = record-laid (r .args .version) rec (r .pre) in
-    let e =
-    answer-card (r .args .version) rec (c .before .before .before .read-record .result) (c .before .before .advance .result) _ (c .before .before .before .read-record .ensures) (c .before .before .advance .ensures) in (
+    let l = record-laid (r .args .version) rec (r .pre .0) in
+    let e = answer-card (r .args .version) rec (r .args .b) (c .before .before .advance .result) _ (r .pre .1) (c .before .before .advance .ensures) in (
       rw e (accepted-layers (r .args .version) (cardAt (r .args .version) rec) (l .card-accepted) .1),
-      read-short (r .args .version) (r .args .call .now) _ (sym (c .before .before .before .before .before .before .before .before .before .before .read-call .ensures) ∙ c .before .before .before .before .before .before .before .before .read .given .1),
+      read-short (r .args .version) (r .args .call .now) _ (sym (c .before .before .before .before .before .before .read-call .ensures) ∙ c .before .before .before .before .read .given .1),
       rw e (l .long),
     )
 
@@ -83,8 +71,8 @@ same-length-2 c = search needs
 returns-2 : tie.Need-returns-2
 unfolding entryRead
 returns-2 c =
-    let r = c .before .before .before .before .before .before .before .before .before .before .before .before .before .before .before .before .before .before .before in
-    rw (← (c .before .before .before .before .before .before .before .before .before .before .before .before .before .before .before .read-call .ensures), c .before .before .before .before .before .before .before .before .before .before .before .before .before .read .given .1, ← (answer-is (r .args .version) (r .args .«record» .now) (c .before .before .before .before .before .before .before .before .read-record .result) (c .before .before .before .before .before .before .before .advance .result) _ (c .before .before .before .before .before .before .before .before .read-record .ensures) (c .before .before .before .before .before .before .before .advance .ensures)))
+    let r = c .before .before .before .before .before .before .before .before .before .before .before .before .before .before .before in
+    rw (← (c .before .before .before .before .before .before .before .before .before .before .before .read-call .ensures), c .before .before .before .before .before .before .before .before .before .read .given .1, ← (answer-is (r .args .version) (r .args .«record» .now) (r .args .b) (c .before .before .before .before .before .before .before .advance .result) _ (r .pre .1) (c .before .before .before .before .before .before .before .advance .ensures)))
     (c .before .before .before .before .enter .ensures)
 
 pub advance-spec : {M : Type 1} → statement M
@@ -94,8 +82,6 @@ advance-spec =
     read-call-requires
     enum-told
     enum-known-read
-    read-card-requires
-    read-record-requires
     advance-requires
     enter-requires
     returns

@@ -1,40 +1,49 @@
 use mathlib.Core.Path.{refl, sym, _∙_}
+use Rattle.entry.proofs.Checked.{good-card, bad-card}
 use Rattle.heat_battery.specs.Entries.{entryOf}
 use borrow.Author.Needs.{needs}
 use Rattle.heat_battery.proofs.heat_battery_call.Statement.{statement}
 use Rattle.heat_battery.proofs.heat_battery_call.Tie as tie
 
-record-laid-requires : tie.Need-record-laid-requires
-record-laid-requires c κs = search needs
+record-card-requires : tie.Need-record-card-requires
+record-card-requires c κs = search needs
 
-advance-requires : tie.Need-advance-requires
-advance-requires c κs = sym (c .before .before .before .record-laid .ensures) ∙ c .before .before .if1 .taken
+enum-told : tie.Need-enum-told
+enum-told c = search needs
+
+enum-known-read : tie.Need-enum-known-read
+enum-known-read c = search needs
+
+with-card-requires : tie.Need-with-card-requires
+with-card-requires c κs = good-card _ _ _ (sym (c .before .before .before .before .before .record-card .ensures) ∙ c .before .before .before .read .given .1)
 
 same-length : tie.Need-same-length
 same-length c = search needs
 
-same-length-2 : tie.Need-same-length-2
-same-length-2 c = search needs
-
 returns : tie.Need-returns
 unfolding entryOf
-returns c = rw (sym (c .before .before .before .before .before .before .before .before .record-laid .ensures) ∙ c .before .before .before .before .before .before .before .if1 .taken) (c .before .before .before .before .advance .ensures)
+returns c = rw (bad-card _ _ (sym (c .before .before .record-card .ensures) ∙ c .enum-told .given .1)) (record { code-is = refl; record-is = refl; sheet-is = refl })
+
+same-length-2 : tie.Need-same-length-2
+same-length-2 c = search needs
 
 same-length-3 : tie.Need-same-length-3
 same-length-3 c = search needs
 
 returns-2 : tie.Need-returns-2
 unfolding entryOf
-returns-2 c = rw (sym (c .before .record-laid .ensures) ∙ c .if1 .left) (record { code-is = refl; record-is = refl; sheet-is = refl })
+returns-2 c = rw (good-card _ _ _ (sym (c .before .before .before .before .before .before .before .before .before .before .record-card .ensures) ∙ c .before .before .before .before .before .before .before .before .read .given .1) .0) (c .before .before .before .before .with-card .ensures)
 
 pub heat-battery-call-spec : {M : Type 1} → statement M
 heat-battery-call-spec =
     tie.close
     (tie.spec
-    record-laid-requires
-    advance-requires
+    record-card-requires
+    enum-told
+    enum-known-read
+    with-card-requires
     same-length
-    same-length-2
     returns
+    same-length-2
     same-length-3
     returns-2)

@@ -3,26 +3,35 @@ use Prim.Native.Nat.{_≤_, _+_}
 use native.Mathlib.Omega.{arith}
 use borrow.Author.Needs.{needs}
 use lib.ListN.{length}
+use lib.Dec.{T}
+use lib.Ieee.{fits, binary64}
+use Rattle.card.proofs.Accepted.{accepted-layers}
 use Rattle.battery.specs.declared.Answer.{Answer}
 use Rattle.auditor.specs.Audit.{auditLines}
 use Rattle.sheet.specs.Answers.{sameNumber, agrees, answerAt}
 use Rattle.records.specs.Records.{stateAt}
 use Rattle.auditor.proofs.Turns.{turn-bad, turn-out, turn-differs, turn-next, at-end, head-read, rest-less, Walked, walked-on}
+use Rattle.auditor.proofs.Walks.{Own, own-fresh, advanced-own}
 use Rattle.auditor.proofs.lines.audit_lines.Statement.{statement}
 use Rattle.auditor.proofs.lines.audit_lines.Tie as tie
 
 abbrev Inv-loop : tie.InvT-loop
-Inv-loop version card bytes rest₀ b₀ k₀ rest b k = Walked sameNumber version card bytes (auditLines sameNumber version card bytes) b k rest
+Inv-loop version card bytes rest₀ b₀ k₀ rest b k = Walked sameNumber version card bytes (auditLines sameNumber version card bytes) b k rest × Own version card b
 
 abbrev μ-loop : tie.MeasureT-loop
 μ-loop version card bytes rest₀ b₀ k₀ rest b k = length rest
 
 fresh-requires : tie.Need-fresh-requires Inv-loop μ-loop
-fresh-requires c κs = search needs
+fresh-requires c κs = accepted-layers _ _ (c .before .pre) .1
 
 loop-holds : tie.Need-loop-holds Inv-loop μ-loop
 unfolding auditLines
-loop-holds c = (omega arith, record { most = length (c .before .before .args .bytes .now); enough = omega arith; gives = rw (c .fresh .ensures) })
+loop-holds c =
+    let r = c .before .before in
+    let f : T (fits binary64 (r .args .card .start)) = search (needs, r .good .1 .0 .1 .1 .1 .1 .1 .1 .1 .1 .1 .1 .1 .1 .1 .1 .1 .1 .1 .1 .1 .1 .1 .1 .1 .0) in (
+      (omega arith, record { most = length (r .args .bytes .now); enough = omega arith; gives = rw (c .fresh .ensures) }),
+      rw (c .fresh .ensures) (own-fresh (r .args .version) (r .args .card) (r .pre) f),
+    )
 
 line-call-requires : tie.Need-line-call-requires Inv-loop μ-loop
 line-call-requires c κs = search needs
@@ -38,16 +47,19 @@ returns c =
     let a = c .before .before .before .before .before .before .before .args in
     let l = c .before .before .before .before .loop in
     let read = sym (c .before .before .line-call .ensures) ∙ c .enum-told .given .1 in
-    sym (turn-bad sameNumber (a .version) (a .card) (l .b) (l .k) (l .rest .now) _ (c .before .before .before .loop-test .taken) (l .inv .1) read)
+    sym (turn-bad sameNumber (a .version) (a .card) (l .b) (l .k) (l .rest .now) _ (c .before .before .before .loop-test .taken) (l .inv .0 .1) read)
 
 enum-known-call : tie.Need-enum-known-call Inv-loop μ-loop
 enum-known-call c = search needs
 
 advance-requires : tie.Need-advance-requires Inv-loop μ-loop
-advance-requires c κs = search needs
+advance-requires c κs = c .before .before .before .before .before .loop .inv .1 .good .accepted
 
 add-t17 : tie.Need-add-t17 Inv-loop μ-loop
-add-t17 c = search needs
+add-t17 c =
+    let l = c .before .before .before .before .before .before .before .before .loop in
+    let k : l .k + 1 ≤ length (c .before .before .before .before .before .before .before .before .before .before .before .args .bytes .now) = omega (arith, l .inv .0 .0, c .before .before .before .before .before .before .before .loop-test .taken) in
+    omega (arith, k, c .before .before .before .before .before .before .before .before .before .before .before .good)
 
 returns-2 : tie.Need-returns-2 Inv-loop μ-loop
 returns-2 c =
@@ -55,17 +67,17 @@ returns-2 c =
     let l = c .before .before .before .before .before .before .before .before .loop in
     let own = c .before .before .advance in
     let read = sym (c .before .before .before .before .before .before .line-call .ensures) ∙ c .before .before .before .before .call .given .1 in
-    sym (turn-out sameNumber (a .version) (a .card) (l .b) (l .k) (l .rest .now) _ (c .before .before .before .before .before .before .before .loop-test .taken) (l .inv .1) _ read (own .result) (own .ensures) (c .if1 .taken))
+    sym (turn-out sameNumber (a .version) (a .card) (l .b) (l .k) (l .rest .now) _ (c .before .before .before .before .before .before .before .loop-test .taken) (l .inv .0 .1) _ read (own .result) (own .ensures) (c .if1 .taken))
 
 line-answer-requires : tie.Need-line-answer-requires Inv-loop μ-loop
 line-answer-requires c κs =
     let a = c .before .before .before .before .before .before .before .before .before .before .before .args in
     let read = sym (c .before .before .before .before .before .before .line-call .ensures) ∙ c .before .before .before .before .call .given .1 in
-    (c .before .before .before .before .before .before .before .before .before .before .before .pre, head-read (a .version) (a .card) (c .before .before .before .before .before .before .before .before .loop .rest .now) _ read)
+    (accepted-layers _ _ (c .before .before .before .before .before .before .before .before .before .before .before .pre) .1, head-read (a .version) (a .card) (c .before .before .before .before .before .before .before .before .loop .rest .now) _ read)
 
 answers-agree-requires : tie.Need-answers-agree-requires Inv-loop μ-loop
 unfolding answerAt stateAt
-answers-agree-requires c κs = rw (c .line-answer .ensures) (c .before .before .before .before .before .before .before .before .before .before .before .before .pre)
+answers-agree-requires c κs = rw (c .line-answer .ensures) (accepted-layers _ _ (c .before .before .before .before .before .before .before .before .before .before .before .before .pre) .1)
 
 front-size-requires : tie.Need-front-size-requires Inv-loop μ-loop
 front-size-requires c κs =
@@ -85,7 +97,7 @@ part-rest-end c = search needs
 add-k : tie.Need-add-k Inv-loop μ-loop
 add-k c =
     let l = c .before .before .before .before .before .before .before .before .before .before .before .before .before .before .loop in
-    let k : l .k + 1 ≤ length (c .before .before .before .before .before .before .before .before .before .before .before .before .before .before .before .before .before .args .bytes .now) = omega (arith, l .inv .0, c .before .before .before .before .before .before .before .before .before .before .before .before .before .loop-test .taken) in
+    let k : l .k + 1 ≤ length (c .before .before .before .before .before .before .before .before .before .before .before .before .before .before .before .before .before .args .bytes .now) = omega (arith, l .inv .0 .0, c .before .before .before .before .before .before .before .before .before .before .before .before .before .loop-test .taken) in
     omega (arith, k, c .before .before .before .before .before .before .before .before .before .before .before .before .before .before .before .before .before .good)
 
 loop-less : tie.Need-loop-less Inv-loop μ-loop
@@ -100,15 +112,18 @@ loop-again c =
     let own = c .before .before .before .before .before .before .before .before .advance in
     let front = c .before .front-size in
     let read = sym (c .before .before .before .before .before .before .before .before .before .before .before .before .line-call .ensures) ∙ c .before .before .before .before .before .before .before .before .before .before .call .given .1 in
-    walked-on sameNumber (a .version) (a .card) (a .bytes .now) (l .rest .now) _ (l .b) _ (l .k) (front .result)
-    (l .inv) (front .ensures .2) (front .ensures .0) (front .ensures .1)
-    (turn-next sameNumber (a .version) (a .card) (l .b) (l .k) (l .rest .now) _ (c .before .before .before .before .before .before .before .before .before .before .before .before .before .loop-test .taken) (l .inv .1) _ read (own .result) (own .ensures) (c .before .before .before .before .before .before .if1 .left)
-    (ap (λ (x : Answer). agrees sameNumber x (own .result)) (sym (c .before .before .before .before .before .line-answer .ensures)) ∙ sym (c .before .before .before .before .answers-agree .ensures) ∙ c .before .before .before .if2 .taken))
+    (
+      walked-on sameNumber (a .version) (a .card) (a .bytes .now) (l .rest .now) _ (l .b) _ (l .k) (front .result)
+    (l .inv .0) (front .ensures .2) (front .ensures .0) (front .ensures .1)
+    (turn-next sameNumber (a .version) (a .card) (l .b) (l .k) (l .rest .now) _ (c .before .before .before .before .before .before .before .before .before .before .before .before .before .loop-test .taken) (l .inv .0 .1) _ read (own .result) (own .ensures) (c .before .before .before .before .before .before .if1 .left)
+    (ap (λ (x : Answer). agrees sameNumber x (own .result)) (sym (c .before .before .before .before .before .line-answer .ensures)) ∙ sym (c .before .before .before .before .answers-agree .ensures) ∙ c .before .before .before .if2 .taken)),
+      rw (own .ensures) (advanced-own (a .version) (a .card) (l .b) (l .inv .1) _),
+    )
 
 add-t22 : tie.Need-add-t22 Inv-loop μ-loop
 add-t22 c =
     let l = c .before .before .before .before .before .before .before .before .before .before .before .loop in
-    let k : l .k + 1 ≤ length (c .before .before .before .before .before .before .before .before .before .before .before .before .before .before .args .bytes .now) = omega (arith, l .inv .0, c .before .before .before .before .before .before .before .before .before .before .loop-test .taken) in
+    let k : l .k + 1 ≤ length (c .before .before .before .before .before .before .before .before .before .before .before .before .before .before .args .bytes .now) = omega (arith, l .inv .0 .0, c .before .before .before .before .before .before .before .before .before .before .loop-test .taken) in
     omega (arith, k, c .before .before .before .before .before .before .before .before .before .before .before .before .before .before .good)
 
 returns-3 : tie.Need-returns-3 Inv-loop μ-loop
@@ -118,14 +133,14 @@ returns-3 c =
     let own = c .before .before .before .before .before .advance in
     let read = sym (c .before .before .before .before .before .before .before .before .before .line-call .ensures) ∙ c .before .before .before .before .before .before .before .call .given .1 in
     sym
-    (turn-differs sameNumber (a .version) (a .card) (l .b) (l .k) (l .rest .now) _ (c .before .before .before .before .before .before .before .before .before .before .loop-test .taken) (l .inv .1) _ read (own .result) (own .ensures) (c .before .before .before .if1 .left)
+    (turn-differs sameNumber (a .version) (a .card) (l .b) (l .k) (l .rest .now) _ (c .before .before .before .before .before .before .before .before .before .before .loop-test .taken) (l .inv .0 .1) _ read (own .result) (own .ensures) (c .before .before .before .if1 .left)
     (ap (λ (x : Answer). agrees sameNumber x (own .result)) (sym (c .before .before .line-answer .ensures)) ∙ sym (c .before .answers-agree .ensures) ∙ c .if2 .left))
 
 returns-4 : tie.Need-returns-4 Inv-loop μ-loop
 returns-4 c =
     let a = c .before .before .before .before .args in
     let l = c .before .loop in
-    sym (at-end sameNumber (a .version) (a .card) (l .b) (l .k) (l .rest .now) _ (omega arith) (l .inv .1))
+    sym (at-end sameNumber (a .version) (a .card) (l .b) (l .k) (l .rest .now) _ (omega arith) (l .inv .0 .1))
 
 pub audit-lines-spec : {M : Type 1} → statement M
 audit-lines-spec =
