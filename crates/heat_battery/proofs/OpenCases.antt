@@ -1,5 +1,5 @@
 -- Opening: each refusal is given exactly in its case, and leaves every byte.
-use mathlib.Core.Path.{_≡_, refl, sym, ap, _∙_, subst}
+use mathlib.Core.Path.{_≡_, refl, sym, _∙_, subst}
 use mathlib.Core.Logic.{_⊎_, _↔_, inl, inr}
 use mathlib.Core.List.{List}
 use mathlib.Core.Bool.{false}

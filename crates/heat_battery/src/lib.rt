@@ -45,13 +45,7 @@ fn advance(version: u8, b: Battery, record: &mut [u8], call: &[u8], sheet: &mut 
 }
 
 // A call on a record whose card was read and accepted: its battery read and judged.
-fn with_card(
-    version: u8,
-    card: Card,
-    record: &mut [u8],
-    call: &[u8],
-    sheet: &mut [u8],
-) -> u8
+fn with_card(version: u8, card: Card, record: &mut [u8], call: &[u8], sheet: &mut [u8]) -> u8
     requires { ⌜ (recordLaid version (now «record») ≡ true) × (card ≡ cardAt version (now «record»)) ⌝ }
     ensures { λ r. ⌜ WasAfter (entryRead version (now («record» .entry)) (now (call .entry)) (now (sheet .entry)) (callOf version (now (call .entry)))) r (now («record» .exit)) (now (sheet .exit)) ⌝ }
 {

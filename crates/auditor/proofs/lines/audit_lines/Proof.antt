@@ -111,12 +111,11 @@ loop-again c =
     let l = c .before .before .before .before .before .before .before .before .before .before .before .before .before .before .loop in
     let own = c .before .before .before .before .before .before .before .before .advance in
     let front = c .before .front-size in
-    let read = sym (c .before .before .before .before .before .before .before .before .before .before .before .before .line-call .ensures) ∙ c .before .before .before .before .before .before .before .before .before .before .call .given .1 in
-    (
+    let read = sym (c .before .before .before .before .before .before .before .before .before .before .before .before .line-call .ensures) ∙ c .before .before .before .before .before .before .before .before .before .before .call .given .1 in (
       walked-on sameNumber (a .version) (a .card) (a .bytes .now) (l .rest .now) _ (l .b) _ (l .k) (front .result)
-    (l .inv .0) (front .ensures .2) (front .ensures .0) (front .ensures .1)
-    (turn-next sameNumber (a .version) (a .card) (l .b) (l .k) (l .rest .now) _ (c .before .before .before .before .before .before .before .before .before .before .before .before .before .loop-test .taken) (l .inv .0 .1) _ read (own .result) (own .ensures) (c .before .before .before .before .before .before .if1 .left)
-    (ap (λ (x : Answer). agrees sameNumber x (own .result)) (sym (c .before .before .before .before .before .line-answer .ensures)) ∙ sym (c .before .before .before .before .answers-agree .ensures) ∙ c .before .before .before .if2 .taken)),
+          (l .inv .0) (front .ensures .2) (front .ensures .0) (front .ensures .1)
+          (turn-next sameNumber (a .version) (a .card) (l .b) (l .k) (l .rest .now) _ (c .before .before .before .before .before .before .before .before .before .before .before .before .before .loop-test .taken) (l .inv .0 .1) _ read (own .result) (own .ensures) (c .before .before .before .before .before .before .if1 .left)
+          (ap (λ (x : Answer). agrees sameNumber x (own .result)) (sym (c .before .before .before .before .before .line-answer .ensures)) ∙ sym (c .before .before .before .before .answers-agree .ensures) ∙ c .before .before .before .if2 .taken)),
       rw (own .ensures) (advanced-own (a .version) (a .card) (l .b) (l .inv .1) _),
     )
 
