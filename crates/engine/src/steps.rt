@@ -230,7 +230,7 @@ pub fn advance(version: u8, b: Battery, call: Call) -> Answer
     ensures { λ r. ⌜ r ≡ advanceOf version b call ⌝ }
 {
     let l = battery::ledger_of(b);
-    let salts = pcm::figures_of(l.card);
+    let salts = pcm::figures_of(b.card);
     let mut zones = b.zones;
     let a = advance_accepted(version, l, &salts, 0, call, &mut zones);
     if a.refusal == 0 {
