@@ -9,13 +9,26 @@ use substep::Outcome;
 use water::Mode;
 use zone::Kilojoules;
 use zone::KilowattHours;
+use zone::Salt;
 ghost use mathlib.Core.Path.{_≡_};
 ghost use mathlib.Core.Bool.{true};
-ghost use Prim.Native.Nat.{ℕ, _≤_, _<_};
+ghost use Prim.Native.Nat.{ℕ, _+_, _*_, _≤_, _<_};
+ghost use lib.ListN.{length};
 ghost use lib.Ieee.{lt};
 ghost use Rattle.floats.specs.Constants.{zero};
 ghost use Rattle.zone.specs.Lent.{zoneSalt, Salted};
 ghost use Rattle.substep.specs.Substep.{levelAt, zonesAfter, targetOf, passFrom, chargerHeat, outcomeOf, substepFrom, processHeatBatteryZones};
+
+// The salt of zone j. `first` is zone 0's, read before the loop: where one salt serves all, the compiler keeps what it works out of it.
+fn own_salt(first: Salt, salts: &[f64], step: usize, j: usize) -> Salt
+    requires { ⌜ (j * step + 5 ≤ length (now salts)) × (first ≡ zoneSalt (now salts) step 0) ⌝ }
+    ensures { λ r. ⌜ r ≡ zoneSalt (now (salts .entry)) step j ⌝ }
+{
+    if step == 0 {
+        return first;
+    }
+    zone::layer::zone_salt(salts, step, j)
+}
 
 // All zones in the mode's order, where they lie. It sums the energies and tests the zones as it goes, also where charging alone goes
 // downward, since the energies there are 0. Places above the zones are neither read nor written.
@@ -35,6 +48,7 @@ pub fn pass_in_place(
 {
     let n = card.layers as usize;
     let mode = course.mode;
+    let first = zone::layer::zone_salt(salts, step, 0);
     let mut outlet = d.inlet;
     let mut left = substep::charger_heat(d);
     let mut charged = KilowattHours(0.0);
@@ -43,7 +57,7 @@ pub fn pass_in_place(
     let mut spread = 0.0;
     for k in 0..n {
         let j = substep::zone_index(mode, n, k);
-        let salt = zone::layer::zone_salt(salts, step, j);
+        let salt = own_salt(first, salts, step, j);
         let z = substep::zone_step(course, salt, alike, target, zones[j], outlet, left, charged);
         zones[j] = z.temperature;
         spread = floats::finite_step(spread, zones[j]);

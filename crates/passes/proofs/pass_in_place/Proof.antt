@@ -12,14 +12,17 @@ use Rattle.passes.proofs.pass_in_place.Statement.{statement}
 use Rattle.passes.proofs.pass_in_place.Tie as tie
 
 abbrev Inv-loop : tie.InvT-loop
-Inv-loop course salts step alike target zones₀ n mode outlet₀ left₀ charged₀ sum₀ spread₀ k₀ zones outlet left charged sum spread k =
+Inv-loop course salts step alike target zones₀ n mode first outlet₀ left₀ charged₀ sum₀ spread₀ k₀ zones outlet left charged sum spread k =
     (k ≤ n) × Underway course (zoneSalt salts step) n k (startOf zones₀ outlet₀ left₀ charged₀) zones outlet left charged sum spread
 
 abbrev μ-loop : tie.MeasureT-loop
-μ-loop course salts step alike target zones₀ n mode outlet₀ left₀ charged₀ sum₀ spread₀ k₀ zones outlet left charged sum spread k = n - k
+μ-loop course salts step alike target zones₀ n mode first outlet₀ left₀ charged₀ sum₀ spread₀ k₀ zones outlet left charged sum spread k = n - k
 
 cast-n : tie.Need-cast-n Inv-loop μ-loop
 cast-n c = search needs
+
+zone-salt-requires : tie.Need-zone-salt-requires Inv-loop μ-loop
+zone-salt-requires c κs = search needs
 
 charger-heat-requires : tie.Need-charger-heat-requires Inv-loop μ-loop
 charger-heat-requires c κs = search needs
@@ -30,8 +33,8 @@ loop-holds c = (omega arith, underway-start _ _ _ _ _ _ _)
 zone-index-requires : tie.Need-zone-index-requires Inv-loop μ-loop
 zone-index-requires c κs = search needs
 
-zone-salt-requires : tie.Need-zone-salt-requires Inv-loop μ-loop
-zone-salt-requires c κs = c .before .before .before .before .before .before .pre .1 .0 .1 _ (c .zone-index .ensures .1)
+own-salt-requires : tie.Need-own-salt-requires Inv-loop μ-loop
+own-salt-requires c κs = (c .before .before .before .before .before .before .before .pre .1 .0 .1 _ (c .zone-index .ensures .1), c .before .before .before .before .zone-salt .ensures)
 
 mul-zone-step : tie.Need-mul-zone-step Inv-loop μ-loop
 mul-zone-step c = search needs
@@ -42,9 +45,9 @@ element-copy-out-zone-step c = search needs
 zone-step-requires : tie.Need-zone-step-requires Inv-loop μ-loop
 zone-step-requires c κs h e =
     let i = c .before .before .before in
-    let b = i .before .before .before .before .before in
+    let b = i .before .before .before .before .before .before in
     let first = left-at-first _ _ _ _ _ (ap (λ (q : Kilojoules). lt (q .0) zero) (sym (i .before .loop .inv .1 .same-left)) ∙ h) in
-    rw (c .before .zone-salt .ensures)
+    rw (c .before .own-salt .ensures)
     (b .pre .1 .1 (ap (λ (q : Kilojoules). lt (q .0) zero) (sym (i .before .before .charger-heat .ensures)) ∙ first) e _ (c .before .before .zone-index .ensures .1))
 
 mul-zones : tie.Need-mul-zones Inv-loop μ-loop
@@ -69,7 +72,7 @@ add-k : tie.Need-add-k Inv-loop μ-loop
 add-k c =
     let i = c .before .before .before .before .before .before .before .before .before .before in
     let taken = i .loop-test .taken in
-    let few = i .before .before .before .before .before .pre .0 in
+    let few = i .before .before .before .before .before .before .pre .0 in
     search needs
 
 loop-less : tie.Need-loop-less Inv-loop μ-loop
@@ -78,7 +81,7 @@ loop-less c = search needs
 loop-again : tie.Need-loop-again Inv-loop μ-loop
 loop-again c = (
   omega arith,
-  underway-more _ _ _ _ refl (c .before .before .before .before .before .before .before .before .before .before .before .before .before .before .before .pre .0) _ (c .before .before .before .before .before .before .before .before .before .before .loop-test .taken) _ _ _ _ _ _ _ _ _ _ _ (c .before .before .before .before .before .before .before .before .before .before .before .loop .inv .1) (c .before .before .before .before .before .before .before .before .before .zone-index .ensures .0) (c .before .before .before .before .before .before .before .before .zone-salt .ensures) (c .before .before .before .before .before .before .zone-step .ensures) (c .before .before .sum2-step .ensures) (c .before .before .before .before .finite-step .ensures),
+  underway-more _ _ _ _ refl (c .before .before .before .before .before .before .before .before .before .before .before .before .before .before .before .before .pre .0) _ (c .before .before .before .before .before .before .before .before .before .before .loop-test .taken) _ _ _ _ _ _ _ _ _ _ _ (c .before .before .before .before .before .before .before .before .before .before .before .loop .inv .1) (c .before .before .before .before .before .before .before .before .before .zone-index .ensures .0) (c .before .before .before .before .before .before .before .before .own-salt .ensures) (c .before .before .before .before .before .before .zone-step .ensures) (c .before .before .sum2-step .ensures) (c .before .before .before .before .finite-step .ensures),
 )
 
 pass-fault-requires : tie.Need-pass-fault-requires Inv-loop μ-loop
@@ -87,7 +90,7 @@ pass-fault-requires c κs = search needs
 returns : tie.Need-returns Inv-loop μ-loop
 returns c =
     let l = c .before .before .before .loop in
-    underway-end _ _ _ _ _ _ (c .before .before .before .before .before .before .before .pre .0) _ _ _ _ _ _ _ _ (c .before .before .before .before .charger-heat .ensures) (l .inv .0) (c .before .before .loop-test .left) (l .inv .1) (c .pass-fault .ensures)
+    underway-end _ _ _ _ _ _ (c .before .before .before .before .before .before .before .before .pre .0) _ _ _ _ _ _ _ _ (c .before .before .before .before .charger-heat .ensures) (l .inv .0) (c .before .before .loop-test .left) (l .inv .1) (c .pass-fault .ensures)
 
 pub pass-in-place-spec : {M : Type 1} → statement M
 pass-in-place-spec =
@@ -96,10 +99,11 @@ pass-in-place-spec =
     Inv-loop
     μ-loop
     cast-n
+    zone-salt-requires
     charger-heat-requires
     loop-holds
     zone-index-requires
-    zone-salt-requires
+    own-salt-requires
     mul-zone-step
     element-copy-out-zone-step
     zone-step-requires
