@@ -1,3 +1,4 @@
+use native.Mathlib.Omega.{arith}
 use Rattle.card.proofs.Accepted.{accepted-layers}
 use Rattle.entry.proofs.Checked.{finite-decides}
 use borrow.Author.Needs.{needs}
@@ -8,7 +9,7 @@ cast-n : tie.Need-cast-n
 cast-n c = search needs
 
 zones-finite-requires : tie.Need-zones-finite-requires
-zones-finite-requires c κs = let r = c .before .before .before in accepted-layers (r .args .version) (r .args .b .card) (r .pre .0) .1
+zones-finite-requires c κs = let r = c .before .before .before in omega (arith, accepted-layers (r .args .version) (r .args .b .card) (r .pre .0) .1)
 
 totals-finite-requires : tie.Need-totals-finite-requires
 totals-finite-requires c κs = search needs
