@@ -57,7 +57,7 @@ extern "C" {
    6 state of charge    none
    7 charge energy      mark (u8) and flow maximum, target
      demand
-   A mark is 0 with eight zero bytes behind it, or 1 with an f64. */
+   A mark is 0 with eight zero bytes after it, or 1 with an f64. */
 #define HEAT_BATTERY_DEMAND_LENGTH 29
 #define HEAT_BATTERY_ELECTRIC_LENGTH 17
 #define HEAT_BATTERY_HYDRONIC_LENGTH 73
@@ -91,7 +91,7 @@ extern "C" {
 #define HEAT_BATTERY_OVER_FULL 25          /* state of charge above 1 + 1e-10 */
 
 /* Opens a sheet: writes the version and line 0 to the front of `sheet`, and a
-   fresh battery to `record`. The bytes of `sheet` behind them stay.
+   fresh battery to `record`. The bytes of `sheet` after them stay.
 
    Refused with 1 to 4 for the card, in this order; then with 10 if record_len
    is not the card's record length; then with 11 if sheet_len is below 161. A
@@ -101,9 +101,9 @@ uint8_t heat_battery_open(const uint8_t *card, size_t card_len,
                           uint8_t *sheet, size_t sheet_len);
 
 /* Advances the battery of `record` by a call: writes the call's line to the
-   front of `sheet`, which is the free part behind the last line, and renews the
-   record. The bytes of `sheet` behind the line stay; the next call gets the
-   part behind it, which starts at HEAT_BATTERY_LINE_LENGTH.
+   front of `sheet`, which is the free part after the last line, and renews the
+   record. The bytes of `sheet` after the line stay; the next call gets the
+   part after it, which starts at HEAT_BATTERY_LINE_LENGTH.
 
    Refused with 10 if the record is not one: shorter than a card, with a card
    that 1 to 4 refuse, of another length than its card's, or with a zone or

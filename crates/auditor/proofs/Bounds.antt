@@ -14,17 +14,17 @@ use Rattle.battery.specs.Battery.{fresh}
 use Rattle.battery.specs.declared.Battery.{Battery}
 use Rattle.battery.specs.declared.Answer.{Answer}
 use Rattle.engine.specs.Steps.{advanceOf}
-use Rattle.records.specs.Cards.{cardAt}
-use Rattle.sheet.specs.Answers.{agrees}
-use Rattle.calls.specs.declared.ReadCall.{ReadCall}
-use Rattle.calls.specs.declared.ReadCall.the-variants.{Good, Bad}
+use Rattle.sheet_records.specs.Cards.{cardAt}
+use Rattle.sheet_lines.specs.Answers.{agrees}
+use Rattle.sheet_calls.specs.declared.ReadCall.{ReadCall}
+use Rattle.sheet_calls.specs.declared.ReadCall.the-variants.{Good, Bad}
 use Rattle.auditor.specs.declared.Verdict.{Verdict}
 use Rattle.auditor.specs.declared.Verdict.the-variants.{Accepted, Refused}
-use Rattle.front.specs.Front.{behind, lineCall, lineAnswer}
+use Rattle.sheet_lines.specs.Front.{following, lineCall, lineAnswer}
 use Rattle.auditor.specs.Audit.{limit, judge, auditLine, auditFrom, auditLines, auditCard, cardPart, linesPart, cardLineOk, auditOf, limitedAuditOf}
 use Rattle.auditor.specs.Rules.{Rules}
 use Rattle.auditor.specs.Bound.{IndexAtMost}
-use Rattle.auditor.proofs.Turns.{behind-short}
+use Rattle.auditor.proofs.Turns.{following-short}
 
 pub below-accepted : (v : Verdict) (m n : ℕ) → v ≡ Accepted n → IndexAtMost m v → n ≤ m
 below-accepted v m n e h = rw e at h
@@ -59,9 +59,9 @@ most-from same version c (suc most) b k bs = on bs (λ next t. most-from same ve
         → IndexAtMost (k + length t) (auditFrom same version c (suc most) b k t)
     on [] ih = omega arith
     on (x ∷ t) ih =
-        let r = behind version c (x ∷ t) in
+        let r = following version c (x ∷ t) in
         most-line same version b k (k + suc (length t)) (lineAnswer version c (x ∷ t)) (lineCall version c (x ∷ t)) (λ next. auditFrom same version c most next (k + 1) r) (omega arith)
-        (λ next. most-more (k + 1 + length r) (k + suc (length t)) (auditFrom same version c most next (k + 1) r) (omega (arith, behind-short version c (x ∷ t))) (ih next r))
+        (λ next. most-more (k + 1 + length r) (k + suc (length t)) (auditFrom same version c most next (k + 1) r) (omega (arith, following-short version c (x ∷ t))) (ih next r))
 
 pub most-audit : (rules : Rules) (bs : List ℕ) → IndexAtMost (length bs) (auditOf rules bs)
 unfolding auditOf auditCard auditLines

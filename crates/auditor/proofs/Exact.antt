@@ -11,14 +11,14 @@ use lib.Ieee.{Float}
 use Rattle.card.specs.declared.Card.{Card}
 use Rattle.battery.specs.Battery.{fresh}
 use Rattle.battery.specs.declared.Call.{Call}
-use Rattle.records.specs.Cards.{cardAt}
-use Rattle.sheet.specs.Answers.{answerAt, sameNumber}
-use Rattle.sheet.proofs.Agreement.{agrees-more}
+use Rattle.sheet_records.specs.Cards.{cardAt}
+use Rattle.sheet_lines.specs.Answers.{answerAt, sameNumber}
+use Rattle.sheet_lines.proofs.Agreement.{agrees-more}
 use Rattle.auditor.specs.declared.Verdict.{Verdict}
 use Rattle.auditor.specs.declared.Verdict.the-variants.{Accepted, Refused}
 use Rattle.auditor.specs.Rules.{Rules, plain, NoLooser}
 use Rattle.auditor.specs.Audit.{auditFrom, auditOf}
-use Rattle.auditor.specs.Sheet.{Line, linesBytes, stepsFrom, expected, AgreesBehind, Sheet}
+use Rattle.auditor.specs.Sheet.{Line, linesBytes, stepsFrom, expected, AgreesAfter, Sheet}
 use Rattle.auditor.specs.Cases.{Opened}
 use Rattle.auditor.proofs.Turns.{audit-none, From}
 use Rattle.auditor.proofs.Stepped.{Stepped, stepped}
@@ -99,7 +99,7 @@ exact rules bs n = (sheet-of rules bs n (outcome rules bs), accepted rules bs n)
 -- ---- a sheet by a comparison that accepts no more than document 01's is a sheet of document 01
 
 pub agreed-plain : (same : Float → Float → Bool) → ((x y : Float) → same x y ≡ true → sameNumber x y ≡ true) → (version : ℕ) (c : Card) (earlier : List Call) (ls : List Line) (calls : List Call)
-    → AgreesBehind same version c earlier ls calls → AgreesBehind sameNumber version c earlier ls calls
+    → AgreesAfter same version c earlier ls calls → AgreesAfter sameNumber version c earlier ls calls
 agreed-plain same more version c earlier [] [] a = tt
 agreed-plain same more version c earlier [] (call ∷ calls) a = absurd a
 agreed-plain same more version c earlier (l ∷ ls) [] a = absurd a

@@ -9,29 +9,29 @@ use lib.ListN.{length, take, drop, getD, length-append, take-append-drop, List·
 use lib.Seq.{take-at, drop-at, getD-append-add, drop-drop, length-take-le}
 use Rattle.codec.specs.Bytes.{be, beAt}
 use Rattle.card.specs.declared.Card.{Card}
-use Rattle.call_ranges.specs.Call.{callInRange}
+use Rattle.battery.specs.Call.{callInRange}
 use Rattle.battery.specs.declared.Call.{Call}
-use Rattle.calls.specs.Calls.{callLength, callOf}
-use Rattle.sheet.specs.Answers.{answerLength, marksOk}
-use Rattle.sheet.specs.Lines.{lineLength, lineSize}
-use Rattle.calls.specs.declared.ReadCall.the-variants.{Good, Bad}
-use Rattle.calls.proofs.CallLaws.{test-good, call-length}
-use Rattle.calls.proofs.CallExact.{call-laid}
-use Rattle.front.specs.Front.{lineCallLength, callPart, answerPart, behind, headOk, lineCall}
+use Rattle.sheet_calls.specs.Calls.{callLength, callOf}
+use Rattle.sheet_lines.specs.Answers.{answerLength, marksOk}
+use Rattle.sheet_lines.specs.Lines.{lineLength, lineSize}
+use Rattle.sheet_calls.specs.declared.ReadCall.the-variants.{Good, Bad}
+use Rattle.sheet_calls.proofs.CallLaws.{test-good, call-length}
+use Rattle.sheet_calls.proofs.CallExact.{call-laid}
+use Rattle.sheet_lines.specs.Front.{lineCallLength, callPart, answerPart, following, headOk, lineCall}
 use Rattle.auditor.specs.Sheet.{Line, bytesOf, Laid}
-use Rattle.front.proofs.Fronts.{size-is, Front, front, call-long, answer-long}
+use Rattle.sheet_lines.proofs.Fronts.{size-is, Front, front, call-long, answer-long}
 
 -- a read call has a kind, so it is not empty
 call-some : (version : ℕ) (bs : List ℕ) (call : Call) → callOf version bs ≡ Good call → 1 ≤ length bs
 call-some version [] call h = absurd (omega (arith, call-laid version [] call h .from-one))
 call-some version (x ∷ bs) call h = omega arith
 
-getD-behind : (p q : List ℕ) (k : ℕ) → length p ≡ k → getD (p ++ q) k 0 ≡ getD q 0 0
-getD-behind p q k e =
+getD-after : (p q : List ℕ) (k : ℕ) → length p ≡ k → getD (p ++ q) k 0 ≡ getD q 0 0
+getD-after p q k e =
     let z : k ≡ length p + 0 = omega arith in
     ap (λ (m : ℕ). getD (p ++ q) m 0) z ∙ getD-append-add p q 0 0
 
--- ---- a laid line with r behind it
+-- ---- a laid line with r after it
 module _ (version : ℕ) (c : Card) (l : Line) (call : Call) (h : Laid version c l call) (r : List ℕ) where
   abbrev bs : List ℕ
   bs = bytesOf l ++ r
@@ -48,7 +48,7 @@ module _ (version : ℕ) (c : Card) (l : Line) (call : Call) (h : Laid version c
   kind : lineCallLength version bs ≡ length (l .call)
   kind =
       let e : getD bs 2 0 ≡ getD (l .call) 0 0 =
-      ap (λ (x : List ℕ). getD x 2 0) split ∙ getD-behind (l .head) rest 2 (h .two) ∙ List·getD-append (l .call) (l .answer ++ r) 0 0 (call-some version (l .call) call (h .reads)) in
+      ap (λ (x : List ℕ). getD x 2 0) split ∙ getD-after (l .head) rest 2 (h .two) ∙ List·getD-append (l .call) (l .answer ++ r) 0 0 (call-some version (l .call) call (h .reads)) in
       ap (callLength version) e ∙ sym (call-length version (l .call) call (h .reads))
 
   at-call : drop 2 bs ≡ rest
@@ -65,9 +65,9 @@ module _ (version : ℕ) (c : Card) (l : Line) (call : Call) (h : Laid version c
   unfolding answerPart
   answer-part = rw (kind, at-answer) (take-at (l .answer) r (answerLength version c) (h .long))
 
-  pub behind-part : behind version c bs ≡ r
-  unfolding behind
-  behind-part =
+  pub following-part : following version c bs ≡ r
+  unfolding following
+  following-part =
       rw (kind, size-is)
       (sym (drop-drop (answerLength version c) (2 + length (l .call)) bs) ∙ ap (drop (answerLength version c)) at-answer ∙ drop-at (l .answer) r (answerLength version c) (h .long))
 
@@ -103,8 +103,8 @@ module _ (version : ℕ) (c : Card) (bs : List ℕ) (call : Call) (h : lineCall 
   at-front : Front version c bs
   at-front = front version c bs (tests .0)
 
-  pub front-joined : bs ≡ bytesOf (frontLine version c bs) ++ behind version c bs
-  unfolding callPart answerPart behind
+  pub front-joined : bs ≡ bytesOf (frontLine version c bs) ++ following version c bs
+  unfolding callPart answerPart following
   front-joined =
       let n = lineCallLength version bs in
       let a = answerLength version c in

@@ -12,9 +12,9 @@ use Rattle.card.specs.Version.{knownVersion}
 use Rattle.card.specs.Card.{cardRefusal}
 use Rattle.card.proofs.Versions.{zero-unknown}
 use Rattle.battery.specs.Battery.{fresh}
-use Rattle.records.specs.Cards.{cardLength, cardAt}
-use Rattle.records.proofs.CardLaws.{card-length-front, card-length-take}
-use Rattle.sheet.specs.Lines.{openingLength}
+use Rattle.sheet_records.specs.Cards.{cardLength, cardAt}
+use Rattle.sheet_records.proofs.CardLaws.{card-length-front, card-length-take}
+use Rattle.sheet_lines.specs.Lines.{openingLength}
 use Rattle.auditor.specs.Audit.{cardPart, linesPart, cardLineOk, auditCard, auditOf}
 use Rattle.auditor.specs.Rules.{Rules}
 use Rattle.auditor.specs.Sheet.{CardAccepted}

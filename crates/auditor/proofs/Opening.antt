@@ -10,9 +10,9 @@ use lib.ListN.{length, take, drop, length-drop}
 use lib.Seq.{take-all, length-take-le}
 use Rattle.codec.specs.Bytes.{beAt}
 use Rattle.card.specs.Card.{cardRefusal}
-use Rattle.records.specs.Cards.{cardLength, cardAt}
-use Rattle.records.proofs.CardLaws.{card-length-take}
-use Rattle.sheet.specs.Lines.{openingLength}
+use Rattle.sheet_records.specs.Cards.{cardLength, cardAt}
+use Rattle.sheet_records.proofs.CardLaws.{card-length-take}
+use Rattle.sheet_lines.specs.Lines.{openingLength}
 use Rattle.auditor.specs.Audit.{cardPart, cardLineOk}
 use Rattle.logic.proofs.Branch.{three-tests}
 

@@ -10,7 +10,7 @@ use Rattle.card.specs.Version.{knownVersion}
 use Rattle.card.specs.declared.Card.{Card}
 use Rattle.battery.specs.Battery.{fresh}
 use Rattle.battery.specs.declared.Call.{Call}
-use Rattle.records.specs.Cards.{cardAt}
+use Rattle.sheet_records.specs.Cards.{cardAt}
 use Rattle.auditor.specs.declared.Verdict.{Verdict}
 use Rattle.auditor.specs.declared.Verdict.the-variants.{Accepted, Refused}
 use Rattle.auditor.specs.Rules.{Rules}

@@ -14,11 +14,11 @@ use Rattle.battery.specs.Kinds.{kindOf, isCharge}
 use Rattle.battery.specs.declared.Demand.{Demand}
 use Rattle.battery.specs.declared.Call.{Call}
 use Rattle.battery.specs.declared.Call.the-variants.{DemandEnergy, ChargeElectric, ChargeHydronic, HeatLoss, CloseTimestep, ReadStateOfCharge, ChargeEnergyDemand}
-use Rattle.records.specs.Cards.{cardAt}
-use Rattle.calls.specs.Calls.{callLength, commitPlace, controlPlace, returnPlace, markOk, demandAt, demandCall, callBy, callOf}
-use Rattle.calls.specs.declared.ReadCall.{ReadCall}
-use Rattle.calls.specs.declared.ReadCall.the-variants.{Good}
-use Rattle.calls.proofs.CallLaws.{test-good, call-kind, same-call}
+use Rattle.sheet_records.specs.Cards.{cardAt}
+use Rattle.sheet_calls.specs.Calls.{callLength, commitPlace, controlPlace, returnPlace, markOk, demandAt, demandCall, callBy, callOf}
+use Rattle.sheet_calls.specs.declared.ReadCall.{ReadCall}
+use Rattle.sheet_calls.specs.declared.ReadCall.the-variants.{Good}
+use Rattle.sheet_calls.proofs.CallLaws.{test-good, call-kind, same-call}
 
 -- ---- numbers
 

@@ -15,14 +15,14 @@ use Rattle.card.specs.declared.Card.{Card}
 use Rattle.battery.specs.Battery.{fresh}
 use Rattle.battery.specs.declared.Battery.{Battery}
 use Rattle.engine.specs.Steps.{stepOf}
-use Rattle.records.specs.Cards.{cardAt}
+use Rattle.sheet_records.specs.Cards.{cardAt}
 use Rattle.auditor.specs.declared.Verdict.{Verdict}
 use Rattle.auditor.specs.declared.Verdict.the-variants.{Refused}
 use Rattle.auditor.specs.Rules.{Rules, plain}
 use Rattle.auditor.specs.Audit.{cardLineOk, judge, auditFrom, auditOf, limit, limitedAuditOf}
 use Rattle.auditor.specs.Sheet.{bytesOf, linesBytes, stepsFrom, expected}
 use Rattle.auditor.specs.Cases.{NoVersion, NoCard, CardNotTaken, NoLine, BadLine, Disagrees, Known, KnownBy}
-use Rattle.auditor.proofs.Walks.{not-ten, one-line, own-behind}
+use Rattle.auditor.proofs.Walks.{not-ten, one-line, own-after}
 use Rattle.auditor.proofs.LaidLines.{line-long}
 use Rattle.auditor.proofs.Verdicts.{Told, whole, unlaid, differing, told}
 use Rattle.auditor.proofs.Opened.{fresh-own, opened}
@@ -134,7 +134,7 @@ no-line rules bs k h =
     let w = sheet-walk rules (h .front) k s (h .rest) in
     ap (auditOf rules) (h .bytes) ∙ w .gives
     ∙ none-told (rules .same) v c b k (h .rest) (auditFrom (rules .same) v c (w .most) b k (h .rest)) (h .some) (h .none)
-    (told (rules .same) v c (w .most) b k (h .rest) (own-behind v c (s .calls) (fresh c) (fresh-own v (s .card) (s .accepted))) (w .enough))
+    (told (rules .same) v c (w .most) b k (h .rest) (own-after v c (s .calls) (fresh c) (fresh-own v (s .card) (s .accepted))) (w .enough))
 
 pub refused-42 : (rules : Rules) (bs : List ℕ) (k : ℕ) → (auditOf rules bs ≡ Refused 42 (k + 1)) ↔ BadLine rules bs k
 refused-42 rules bs k = (in-42 rules bs k (outcome rules bs), no-line rules bs k)
@@ -159,7 +159,7 @@ differs rules bs k h =
     let v = s .version in
     let c = cardAt v (s .card) in
     let b = stepsFrom v (fresh c) (s .calls) in
-    let o = own-behind v c (s .calls) (fresh c) (fresh-own v (s .card) (s .accepted)) in
+    let o = own-after v c (s .calls) (fresh c) (fresh-own v (s .card) (s .accepted)) in
     let t = bytesOf (h .line) ++ h .rest in
     let w = sheet-walk rules (h .front) k s t in
     let m : w .most ≡ suc (w .most - 1) = omega (arith, w .enough, line-long v c (h .line) (h .call) (h .laid) (h .rest)) in

@@ -9,8 +9,8 @@ use Rattle.battery.specs.Battery.{fresh}
 use Rattle.battery.specs.declared.Battery.{Battery}
 use Rattle.battery.specs.declared.Call.{Call}
 use Rattle.engine.specs.Steps.{stepOf}
-use Rattle.sheet.specs.Answers.{answerAt, agrees}
-use Rattle.auditor.specs.Sheet.{Line, Laid, AllLaid, stepsFrom, expected, AgreesBehind}
+use Rattle.sheet_lines.specs.Answers.{answerAt, agrees}
+use Rattle.auditor.specs.Sheet.{Line, Laid, AllLaid, stepsFrom, expected, AgreesAfter}
 
 abbrev pub Stepped : (Float → Float → Bool) → ℕ → Card → Battery → List Line → List Call → Type 0
 Stepped same version c b [] [] = Unit
@@ -31,7 +31,7 @@ module _ (same : Float → Float → Bool) (version : ℕ) (c : Card) where
   abbrev at : List Call → Battery
   at earlier = stepsFrom version (fresh c) earlier
 
-  pub stepped : (earlier : List Call) (ls : List Line) (calls : List Call) → AllLaid version c ls calls → AgreesBehind same version c earlier ls calls
+  pub stepped : (earlier : List Call) (ls : List Line) (calls : List Call) → AllLaid version c ls calls → AgreesAfter same version c earlier ls calls
       → Stepped same version c (at earlier) ls calls
   unfolding expected
   stepped earlier [] [] laid a = tt
@@ -50,7 +50,7 @@ module _ (same : Float → Float → Bool) (version : ℕ) (c : Card) where
   all-laid b (l ∷ ls) (call ∷ calls) s = (s .0, all-laid (stepOf version b call .battery) ls calls (s .2))
 
   pub all-agree : (earlier : List Call) (b : Battery) (ls : List Line) (calls : List Call) → b ≡ at earlier → Stepped same version c b ls calls
-      → AgreesBehind same version c earlier ls calls
+      → AgreesAfter same version c earlier ls calls
   unfolding expected
   all-agree earlier b [] [] e s = tt
   all-agree earlier b [] (call ∷ calls) e s = absurd s

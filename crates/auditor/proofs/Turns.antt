@@ -13,14 +13,14 @@ use Rattle.battery.specs.declared.Battery.{Battery}
 use Rattle.battery.specs.declared.Call.{Call}
 use Rattle.battery.specs.declared.Answer.{Answer}
 use Rattle.engine.specs.Steps.{advanceOf}
-use Rattle.sheet.specs.Answers.{agrees}
-use Rattle.calls.specs.declared.ReadCall.the-variants.{Good, Bad}
-use Rattle.calls.proofs.CallLaws.{test-good}
+use Rattle.sheet_lines.specs.Answers.{agrees}
+use Rattle.sheet_calls.specs.declared.ReadCall.the-variants.{Good, Bad}
+use Rattle.sheet_calls.proofs.CallLaws.{test-good}
 use Rattle.auditor.specs.declared.Verdict.{Verdict}
 use Rattle.auditor.specs.declared.Verdict.the-variants.{Accepted, Refused}
-use Rattle.front.specs.Front.{lineCallLength, behind, headOk, lineCall, lineAnswer}
+use Rattle.sheet_lines.specs.Front.{lineCallLength, following, headOk, lineCall, lineAnswer}
 use Rattle.auditor.specs.Audit.{judge, auditLine, auditFrom}
-use Rattle.front.proofs.Fronts.{size-is}
+use Rattle.sheet_lines.proofs.Fronts.{size-is}
 
 pub audit-none : (same : Float → Float → Bool) (version : ℕ) (c : Card) (most : ℕ) (b : Battery) (k : ℕ) → auditFrom same version c most b k [] ≡ Accepted k
 unfolding auditFrom
@@ -29,14 +29,14 @@ audit-none same version c (suc most) b k = refl
 
 pub audit-some : (same : Float → Float → Bool) (version : ℕ) (c : Card) (most : ℕ) (b : Battery) (k : ℕ) (bs : List ℕ) → 1 ≤ length bs
     → auditFrom same version c (suc most) b k bs
-    ≡ auditLine same version b k (lineAnswer version c bs) (lineCall version c bs) (λ next. auditFrom same version c most next (k + 1) (behind version c bs))
+    ≡ auditLine same version b k (lineAnswer version c bs) (lineCall version c bs) (λ next. auditFrom same version c most next (k + 1) (following version c bs))
 unfolding auditFrom
 audit-some same version c most b k [] h = absurd (omega arith)
 audit-some same version c most b k (x ∷ bs) h = refl
 
-pub behind-short : (version : ℕ) (c : Card) (bs : List ℕ) → length (behind version c bs) ≤ length bs - 2
-unfolding behind
-behind-short version c bs = simp length-drop (omega (arith, size-is version c (lineCallLength version bs)))
+pub following-short : (version : ℕ) (c : Card) (bs : List ℕ) → length (following version c bs) ≤ length bs - 2
+unfolding following
+following-short version c bs = simp length-drop (omega (arith, size-is version c (lineCallLength version bs)))
 
 -- the lines from t on, of which there are at most so many, give the verdict v
 pub record From (same : Float → Float → Bool) (version : ℕ) (c : Card) (b : Battery) (k : ℕ) (t : List ℕ) (v : Verdict) : Type 0 where
@@ -45,7 +45,7 @@ pub record From (same : Float → Float → Bool) (version : ℕ) (c : Card) (b 
   pub gives : v ≡ auditFrom same version c most b k t
 
 module _ (same : Float → Float → Bool) (version : ℕ) (c : Card) (b : Battery) (k : ℕ) (t : List ℕ) (v : Verdict) (some : 1 ≤ length t) (h : From same version c b k t v) where
-  line : v ≡ auditLine same version b k (lineAnswer version c t) (lineCall version c t) (λ next. auditFrom same version c (h .most - 1) next (k + 1) (behind version c t))
+  line : v ≡ auditLine same version b k (lineAnswer version c t) (lineCall version c t) (λ next. auditFrom same version c (h .most - 1) next (k + 1) (following version c t))
   line =
       let e : h .most ≡ suc (h .most - 1) = omega (arith, h .enough) in
       h .gives ∙ ap (λ (m : ℕ). auditFrom same version c m b k t) e ∙ audit-some same version c (h .most - 1) b k t some
@@ -55,7 +55,7 @@ module _ (same : Float → Float → Bool) (version : ℕ) (c : Card) (b : Batte
   turn-bad e = line ∙ rw e
 
   module _ (call : Call) (e : lineCall version c t ≡ Good call) (own : Answer) (o : own ≡ advanceOf version b call) where
-    judged : v ≡ judge same k (lineAnswer version c t) own (λ next. auditFrom same version c (h .most - 1) next (k + 1) (behind version c t))
+    judged : v ≡ judge same k (lineAnswer version c t) own (λ next. auditFrom same version c (h .most - 1) next (k + 1) (following version c t))
     unfolding auditLine
     judged = line ∙ rw (e, o)
 
@@ -67,12 +67,12 @@ module _ (same : Float → Float → Bool) (version : ℕ) (c : Card) (b : Batte
     unfolding judge
     turn-differs r d = judged ∙ rw (ne-eqb (own .refusal) 10 r, d)
 
-    pub turn-next : (own .refusal ≡ 10 → ⊥) → agrees same (lineAnswer version c t) own ≡ true → From same version c (own .battery) (k + 1) (behind version c t) v
+    pub turn-next : (own .refusal ≡ 10 → ⊥) → agrees same (lineAnswer version c t) own ≡ true → From same version c (own .battery) (k + 1) (following version c t) v
     unfolding judge
     turn-next r d =
         record {
           most = h .most - 1;
-          enough = omega (arith, h .enough, behind-short version c t);
+          enough = omega (arith, h .enough, following-short version c t);
           gives = judged ∙ rw (ne-eqb (own .refusal) 10 r, d);
         }
 
@@ -97,7 +97,7 @@ abbrev pub Walked : (Float → Float → Bool) → ℕ → Card → List ℕ →
 Walked same version c s v b k t = (k + length t ≤ length s) × From same version c b k t v
 
 pub walked-on : (same : Float → Float → Bool) (version : ℕ) (c : Card) (s t : List ℕ) (v : Verdict) (b next : Battery) (k r : ℕ) → Walked same version c s v b k t
-    → 1 ≤ r → r ≤ length t → drop r t ≡ behind version c t → From same version c next (k + 1) (behind version c t) v
+    → 1 ≤ r → r ≤ length t → drop r t ≡ following version c t → From same version c next (k + 1) (following version c t) v
     → Walked same version c s v next (k + 1) (take (length t - r) (drop r t))
 walked-on same version c s t v b next k r w low high d f =
     let l : length (take (length t - r) (drop r t)) < length t = rest-less t r low high in

@@ -9,27 +9,27 @@ use lib.Ieee.{Float}
 use lib.ListN.{length}
 use Rattle.logic.proofs.Tests.{no-both}
 use Rattle.card.specs.declared.Card.{Card}
-use Rattle.call_ranges.specs.Call.{callInRange}
+use Rattle.battery.specs.Call.{callInRange}
 use Rattle.battery.specs.declared.Battery.{Battery}
 use Rattle.battery.specs.declared.Call.{Call}
 use Rattle.battery.specs.declared.Answer.{Answer}
 use Rattle.engine.specs.Steps.{stepOf, advanceOf}
-use Rattle.sheet.specs.Answers.{answerAt, agrees}
-use Rattle.calls.specs.declared.ReadCall.{ReadCall}
-use Rattle.calls.specs.declared.ReadCall.the-variants.{Good, Bad}
-use Rattle.calls.proofs.CallLaws.{same-call, no-call}
+use Rattle.sheet_lines.specs.Answers.{answerAt, agrees}
+use Rattle.sheet_calls.specs.declared.ReadCall.{ReadCall}
+use Rattle.sheet_calls.specs.declared.ReadCall.the-variants.{Good, Bad}
+use Rattle.sheet_calls.proofs.CallLaws.{same-call, no-call}
 use Rattle.auditor.specs.declared.Verdict.{Verdict}
 use Rattle.auditor.specs.declared.Verdict.the-variants.{Accepted, Refused}
-use Rattle.front.specs.Front.{behind, lineCall, lineAnswer}
+use Rattle.sheet_lines.specs.Front.{following, lineCall, lineAnswer}
 use Rattle.auditor.specs.Audit.{judge, auditLine, auditFrom}
 use Rattle.auditor.specs.Sheet.{Line, bytesOf, linesBytes, Laid, stepsFrom}
 use Rattle.auditor.specs.Cases.{NoLine}
-use Rattle.auditor.proofs.Turns.{audit-none, audit-some, behind-short}
+use Rattle.auditor.proofs.Turns.{audit-none, audit-some, following-short}
 use Rattle.auditor.proofs.Stepped.{Stepped}
 use Rattle.auditor.proofs.LaidLines.{line-call, frontLine, front-joined, front-laid}
 use Rattle.auditor.proofs.Walks.{Own, next-own, own-step, own-ten, not-ten}
 
--- behind k lines: the lines of bs and the verdict v on them
+-- after k lines: the lines of bs and the verdict v on them
 pub data Told (same : Float → Float → Bool) (version : ℕ) (c : Card) (b : Battery) (k : ℕ) (bs : List ℕ) (v : Verdict) : Type 0 where
   whole : (ls : List Line) (calls : List Call) → bs ≡ linesBytes ls → Stepped same version c b ls calls → v ≡ Accepted (k + length ls) → Told same version c b k bs v
   unlaid : (ls : List Line) (calls : List Call) (r : List ℕ) → bs ≡ linesBytes ls ++ r → Stepped same version c b ls calls → 1 ≤ length r → NoLine version c r
@@ -70,7 +70,7 @@ more same version c b k l call t v h a (differing ls calls l₂ call₂ r e s la
     (w ∙ ap (Refused 43) m)
 
 module _ (same : Float → Float → Bool) (version : ℕ) (c : Card) (b : Battery) (o : Own version c b) (k : ℕ) (bs : List ℕ) (some : 1 ≤ length bs) (v : Verdict) (go : Battery → Verdict)
-    (next : (x : Battery) → Own version c x → Told same version c x (k + 1) (behind version c bs) (go x)) where
+    (next : (x : Battery) → Own version c x → Told same version c x (k + 1) (following version c bs) (go x)) where
   abbrev seen : Answer
   seen = lineAnswer version c bs
 
@@ -81,11 +81,11 @@ module _ (same : Float → Float → Bool) (version : ℕ) (c : Card) (b : Batte
       → v ≡ cond t (go (stepOf version b call .battery)) (Refused 43 (k + 1)) → Told same version c b k bs v
   unfolding stepsFrom
   by-agreement call e i true a w =
-      told-at same version c b k bs (bytesOf (frontLine version c bs) ++ behind version c bs) v (go (stepOf version b call .battery)) (front-joined version c bs call e) w
-      (more same version c b k (frontLine version c bs) call (behind version c bs) (go (stepOf version b call .battery)) (front-laid version c bs call e i) a
+      told-at same version c b k bs (bytesOf (frontLine version c bs) ++ following version c bs) v (go (stepOf version b call .battery)) (front-joined version c bs call e) w
+      (more same version c b k (frontLine version c bs) call (following version c bs) (go (stepOf version b call .battery)) (front-laid version c bs call e i) a
       (next (stepOf version b call .battery) (next-own version c b o call)))
   by-agreement call e i false a w =
-      differing [] [] (frontLine version c bs) call (behind version c bs) (front-joined version c bs call e) tt (front-laid version c bs call e i) a (w ∙ ap (Refused 43) at-front)
+      differing [] [] (frontLine version c bs) call (following version c bs) (front-joined version c bs call e) tt (front-laid version c bs call e i) a (w ∙ ap (Refused 43) at-front)
 
   by-range : (call : Call) → lineCall version c bs ≡ Good call → (t : Bool) → callInRange version c call ≡ t → v ≡ judge same k seen (advanceOf version b call) go
       → Told same version c b k bs v
@@ -113,9 +113,9 @@ tells-more : (same : Float → Float → Bool) (version : ℕ) (c : Card) (most 
 tells-more same version c most ih b k [] o h = none-told same version c (suc most) b k
 tells-more same version c most ih b k (x ∷ t) o h =
     let bs = x ∷ t in
-    let less : length (behind version c bs) ≤ most = omega (arith, behind-short version c bs) in
-    by-call same version c b o k bs (omega arith) (auditFrom same version c (suc most) b k bs) (λ next. auditFrom same version c most next (k + 1) (behind version c bs))
-    (λ y p. ih y (k + 1) (behind version c bs) p less) (lineCall version c bs) refl (audit-some same version c most b k bs (omega arith))
+    let less : length (following version c bs) ≤ most = omega (arith, following-short version c bs) in
+    by-call same version c b o k bs (omega arith) (auditFrom same version c (suc most) b k bs) (λ next. auditFrom same version c most next (k + 1) (following version c bs))
+    (λ y p. ih y (k + 1) (following version c bs) p less) (lineCall version c bs) refl (audit-some same version c most b k bs (omega arith))
 
 tells-none : (same : Float → Float → Bool) (version : ℕ) (c : Card) → Tells same version c zero
 tells-none same version c b k [] o h = none-told same version c zero b k

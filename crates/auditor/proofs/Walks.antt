@@ -14,19 +14,19 @@ use Rattle.card.specs.Card.{cardRefusal}
 use Rattle.card.specs.declared.Card.{Card}
 use Rattle.battery.specs.Battery.{fresh, GoodBattery}
 use Rattle.battery.proofs.FreshGood.{fresh-good}
-use Rattle.call_ranges.specs.Call.{callInRange}
+use Rattle.battery.specs.Call.{callInRange}
 use Rattle.battery.specs.Answer.{refusedWith}
 use Rattle.battery.specs.declared.Battery.{Battery}
 use Rattle.battery.specs.declared.Call.{Call}
 use Rattle.engine.specs.Steps.{stepOf, advanceOf}
 use Rattle.engine.proofs.AdvanceKeeps.{advance-is-step, advance-keeps-good, advance-keeps-card}
 use Rattle.engine.proofs.StepKeeps.{step-refusals, step-keeps-card, step-keeps-good}
-use Rattle.sheet.specs.Answers.{answerAt}
+use Rattle.sheet_lines.specs.Answers.{answerAt}
 use Rattle.auditor.specs.Audit.{judge, auditLine, auditFrom}
 use Rattle.auditor.specs.Sheet.{Line, bytesOf, linesBytes, Laid, stepsFrom}
 use Rattle.auditor.proofs.Turns.{audit-some, From}
 use Rattle.auditor.proofs.Stepped.{Stepped}
-use Rattle.auditor.proofs.LaidLines.{line-long, answer-part, behind-part, line-call}
+use Rattle.auditor.proofs.LaidLines.{line-long, answer-part, following-part, line-call}
 
 -- the auditor's own battery: good, and its card the sheet's
 pub record Own (version : ℕ) (c : Card) (b : Battery) : Type 0 where
@@ -60,7 +60,7 @@ module _ (version : ℕ) (c : Card) (b : Battery) (o : Own version c b) (call : 
       on (inl z) = omega arith
       on (inr z) = omega arith
 
--- ---- the walk over lines that are laid and agree, to what lies behind them
+-- ---- the walk over lines that are laid and agree, to what lies after them
 
 pub one-line : (same : Float → Float → Bool) (version : ℕ) (c : Card) (most : ℕ) (b : Battery) (k : ℕ) (l : Line) (call : Call) (r : List ℕ) → Own version c b → Laid version c l call
     → auditFrom same version c (suc most) b k (bytesOf l ++ r)
@@ -69,12 +69,12 @@ unfolding auditLine
 one-line same version c most b k l call r o h =
     let some : 1 ≤ length (bytesOf l ++ r) = omega (arith, line-long version c l call h r) in
     audit-some same version c most b k (bytesOf l ++ r) some
-    ∙ rw (line-call version c l call h r, answer-part version c l call h r, behind-part version c l call h r, own-step version c b o call (h .in-range))
+    ∙ rw (line-call version c l call h r, answer-part version c l call h r, following-part version c l call h r, own-step version c b o call (h .in-range))
 
-pub own-behind : (version : ℕ) (c : Card) (calls : List Call) (b : Battery) → Own version c b → Own version c (stepsFrom version b calls)
+pub own-after : (version : ℕ) (c : Card) (calls : List Call) (b : Battery) → Own version c b → Own version c (stepsFrom version b calls)
 unfolding stepsFrom
-own-behind version c [] b o = o
-own-behind version c (call ∷ calls) b o = own-behind version c calls (stepOf version b call .battery) (next-own version c b o call)
+own-after version c [] b o = o
+own-after version c (call ∷ calls) b o = own-after version c calls (stepOf version b call .battery) (next-own version c b o call)
 
 pub walk : (same : Float → Float → Bool) (version : ℕ) (c : Card) (ls : List Line) (calls : List Call) (most : ℕ) (b : Battery) (k : ℕ) (r : List ℕ) → Own version c b → Stepped same version c b ls calls
     → length (linesBytes ls ++ r) ≤ most → From same version c (stepsFrom version b calls) (k + length ls) r (auditFrom same version c most b k (linesBytes ls ++ r))

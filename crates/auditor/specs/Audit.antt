@@ -15,12 +15,12 @@ use Rattle.battery.specs.Battery.{fresh}
 use Rattle.battery.specs.declared.Battery.{Battery}
 use Rattle.battery.specs.declared.Answer.{Answer}
 use Rattle.engine.specs.Steps.{advanceOf}
-use Rattle.records.specs.Cards.{cardLength, cardAt}
-use Rattle.sheet.specs.Answers.{agrees}
-use Rattle.sheet.specs.Lines.{openingLength}
-use Rattle.calls.specs.declared.ReadCall.{ReadCall}
-use Rattle.calls.specs.declared.ReadCall.the-variants.{Good, Bad}
-use Rattle.front.specs.Front.{lineCall, lineAnswer, behind}
+use Rattle.sheet_records.specs.Cards.{cardLength, cardAt}
+use Rattle.sheet_lines.specs.Answers.{agrees}
+use Rattle.sheet_lines.specs.Lines.{openingLength}
+use Rattle.sheet_calls.specs.declared.ReadCall.{ReadCall}
+use Rattle.sheet_calls.specs.declared.ReadCall.the-variants.{Good, Bad}
+use Rattle.sheet_lines.specs.Front.{lineCall, lineAnswer, following}
 use Rattle.auditor.specs.Rules.{Rules}
 use Rattle.auditor.specs.declared.Verdict.{Verdict}
 use Rattle.auditor.specs.declared.Verdict.the-variants.{Accepted, Refused}
@@ -34,16 +34,16 @@ judge same k seen own go =
     (cond (agrees same seen own) (go (own .battery)) (Refused disagrees (k + 1)))
 
 unfoldable pub auditLine : (Float → Float → Bool) → ℕ → Battery → ℕ → Answer → ReadCall → (Battery → Verdict) → Verdict
-auditLine same version b k seen Bad go = Refused badLine (k + 1)
-auditLine same version b k seen (Good call) go = judge same k seen (advanceOf version b call) go
+auditLine same version battery k seen Bad go = Refused badLine (k + 1)
+auditLine same version battery k seen (Good call) go = judge same k seen (advanceOf version battery call) go
 
 -- the lines from the front of bs on, after k lines; `most` bounds how many there are
 unfoldable pub auditFrom : (Float → Float → Bool) → ℕ → Card → ℕ → Battery → ℕ → List ℕ → Verdict
-auditFrom same version c zero b k bs = Accepted k
-auditFrom same version c (suc most) b k [] = Accepted k
-auditFrom same version c (suc most) b k (x ∷ bs) =
-    auditLine same version b k (lineAnswer version c (x ∷ bs)) (lineCall version c (x ∷ bs))
-    (λ next. auditFrom same version c most next (k + 1) (behind version c (x ∷ bs)))
+auditFrom same version card zero battery k bs = Accepted k
+auditFrom same version card (suc most) battery k [] = Accepted k
+auditFrom same version card (suc most) battery k (x ∷ bs) =
+    auditLine same version battery k (lineAnswer version card (x ∷ bs)) (lineCall version card (x ∷ bs))
+    (λ next. auditFrom same version card most next (k + 1) (following version card (x ∷ bs)))
 
 -- line 0's content, and all that follows it
 abbrev pub cardPart : ℕ → List ℕ → List ℕ
@@ -63,11 +63,11 @@ cardLineOk version bs =
 
 -- the call lines, from the card's fresh battery on
 unfoldable pub auditLines : (Float → Float → Bool) → ℕ → Card → List ℕ → Verdict
-auditLines same version c bs = auditFrom same version c (length bs) (fresh c) 0 bs
+auditLines same version card bs = auditFrom same version card (length bs) (fresh card) 0 bs
 
 -- the lines of an accepted card; 70 (index 0) for one that the audit doesn't take
 unfoldable pub auditCard : Rules → ℕ → Card → List ℕ → Verdict
-auditCard rules version c bs = cond (rules .test version c) (auditLines (rules .same) version c bs) (Refused 70 0)
+auditCard rules version card bs = cond (rules .test version card) (auditLines (rules .same) version card bs) (Refused 70 0)
 
 -- '40 no first byte or not 1 (index 0)': the first byte is the version
 unfoldable pub auditOf : Rules → List ℕ → Verdict

@@ -9,8 +9,8 @@ use Rattle.codec.specs.Bytes.{be}
 use Rattle.card.specs.Version.{knownVersion}
 use Rattle.card.specs.declared.Card.{Card}
 use Rattle.battery.specs.declared.Call.{Call}
-use Rattle.records.specs.Cards.{cardLength, cardAt}
-use Rattle.sheet.specs.Answers.{answerAt, agrees}
+use Rattle.sheet_records.specs.Cards.{cardLength, cardAt}
+use Rattle.sheet_lines.specs.Answers.{answerAt, agrees}
 use Rattle.auditor.specs.declared.Verdict.{Verdict}
 use Rattle.auditor.specs.declared.Verdict.the-variants.{Accepted, Refused}
 use Rattle.auditor.specs.Rules.{Rules}
@@ -48,7 +48,7 @@ pub record CardNotTaken (rules : Rules) (bs : List ℕ) : Type 0 where
 
 -- no call line stands at the front of bs to which 42 doesn't apply
 abbrev pub NoLine : ℕ → Card → List ℕ → Type 0
-NoLine version c bs = (l : Line) (call : Call) (rest : List ℕ) → bs ≡ bytesOf l ++ rest → Laid version c l call → ⊥
+NoLine version card bs = (l : Line) (call : Call) (rest : List ℕ) → bs ≡ bytesOf l ++ rest → Laid version card l call → ⊥
 
 -- k lines make a sheet, and after them are bytes that begin with no line: 42
 pub record BadLine (rules : Rules) (bs : List ℕ) (k : ℕ) : Type 0 where

@@ -4,7 +4,7 @@ use mathlib.Core.Path.{_≡_}
 use mathlib.Core.Bool.{Bool, true}
 use lib.Ieee.{Float}
 use Rattle.card.specs.declared.Card.{Card}
-use Rattle.sheet.specs.Answers.{sameNumber}
+use Rattle.sheet_lines.specs.Answers.{sameNumber}
 
 pub record Rules : Type 0 where
   pub same : Float → Float → Bool
@@ -12,7 +12,7 @@ pub record Rules : Type 0 where
 
 -- every accepted card
 abbrev pub anyCard : ℕ → Card → Bool
-anyCard version c = true
+anyCard version card = true
 
 -- document 01's audit
 abbrev pub plain : Rules

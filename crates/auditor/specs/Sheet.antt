@@ -10,15 +10,15 @@ use Rattle.card.specs.Version.{knownVersion}
 use Rattle.card.specs.Card.{cardRefusal}
 use Rattle.card.specs.declared.Card.{Card}
 use Rattle.battery.specs.Battery.{fresh}
-use Rattle.call_ranges.specs.Call.{callInRange}
+use Rattle.battery.specs.Call.{callInRange}
 use Rattle.battery.specs.declared.Battery.{Battery}
 use Rattle.battery.specs.declared.Call.{Call}
 use Rattle.battery.specs.declared.Answer.{Answer}
 use Rattle.engine.specs.Steps.{stepOf}
-use Rattle.records.specs.Cards.{cardLength, cardAt}
-use Rattle.calls.specs.Calls.{callOf}
-use Rattle.sheet.specs.Answers.{answerLength, answerAt, marksOk, agrees}
-use Rattle.calls.specs.declared.ReadCall.the-variants.{Good}
+use Rattle.sheet_records.specs.Cards.{cardLength, cardAt}
+use Rattle.sheet_calls.specs.Calls.{callOf}
+use Rattle.sheet_lines.specs.Answers.{answerLength, answerAt, marksOk, agrees}
+use Rattle.sheet_calls.specs.declared.ReadCall.the-variants.{Good}
 use Rattle.auditor.specs.Rules.{Rules}
 
 -- ---- Layout: no step is named
@@ -47,10 +47,10 @@ pub record Laid (version : ℕ) (c : Card) (l : Line) (call : Call) : Type 0 whe
 
 -- line for line
 abbrev pub AllLaid : ℕ → Card → List Line → List Call → Type 0
-AllLaid version c [] [] = Unit
-AllLaid version c [] (call ∷ calls) = ⊥
-AllLaid version c (l ∷ ls) [] = ⊥
-AllLaid version c (l ∷ ls) (call ∷ calls) = Laid version c l call × AllLaid version c ls calls
+AllLaid version card [] [] = Unit
+AllLaid version card [] (call ∷ calls) = ⊥
+AllLaid version card (l ∷ ls) [] = ⊥
+AllLaid version card (l ∷ ls) (call ∷ calls) = Laid version card l call × AllLaid version card ls calls
 
 -- 'A sheet has the layout when 40 doesn't apply, line 0 is there in its length and all bytes after it are call lines to which 42 doesn't apply.'
 pub record Layout (version : ℕ) (bs card : List ℕ) (lines : List Line) (calls : List Call) : Type 0 where
@@ -69,26 +69,26 @@ CardAccepted version card = cardRefusal version (cardAt version card) ≡ 0
 
 -- ---- Agrees
 
--- the battery that the steps leave behind calls: 'fed the version, the card and, line after line, kind and call fields, never an answer'
+-- the battery that the steps leave after calls: 'fed the version, the card and, line after line, kind and call fields, never an answer'
 unfoldable pub stepsFrom : ℕ → Battery → List Call → Battery
-stepsFrom version b [] = b
-stepsFrom version b (call ∷ calls) = stepsFrom version (stepOf version b call .battery) calls
+stepsFrom version battery [] = battery
+stepsFrom version battery (call ∷ calls) = stepsFrom version (stepOf version battery call .battery) calls
 
--- the answer expected of a call behind earlier ones: 'Their state is zones and five totals, at first fresh'
+-- the answer expected of a call after earlier ones: 'Their state is zones and five totals, at first fresh'
 unfoldable pub expected : ℕ → Card → List Call → Call → Answer
-expected version c earlier call = stepOf version (stepsFrom version (fresh c) earlier) call
+expected version card earlier call = stepOf version (stepsFrom version (fresh card) earlier) call
 
 -- 'A call line agrees when its refusal, mark, substeps and f64 agree with those of the steps, its own call included.'
-abbrev pub AgreesBehind : (Float → Float → Bool) → ℕ → Card → List Call → List Line → List Call → Type 0
-AgreesBehind same version c earlier [] [] = Unit
-AgreesBehind same version c earlier [] (call ∷ calls) = ⊥
-AgreesBehind same version c earlier (l ∷ ls) [] = ⊥
-AgreesBehind same version c earlier (l ∷ ls) (call ∷ calls) =
-    (agrees same (answerAt version c (l .answer)) (expected version c earlier call) ≡ true) × AgreesBehind same version c (earlier ++ (call ∷ [])) ls calls
+abbrev pub AgreesAfter : (Float → Float → Bool) → ℕ → Card → List Call → List Line → List Call → Type 0
+AgreesAfter same version card earlier [] [] = Unit
+AgreesAfter same version card earlier [] (call ∷ calls) = ⊥
+AgreesAfter same version card earlier (l ∷ ls) [] = ⊥
+AgreesAfter same version card earlier (l ∷ ls) (call ∷ calls) =
+    (agrees same (answerAt version card (l .answer)) (expected version card earlier call) ≡ true) × AgreesAfter same version card (earlier ++ (call ∷ [])) ls calls
 
 -- 'every call line agrees with 01's steps for the calls up to it'
 abbrev pub Agrees : (Float → Float → Bool) → ℕ → List ℕ → List Line → List Call → Type 0
-Agrees same version card lines calls = AgreesBehind same version (cardAt version card) [] lines calls
+Agrees same version card lines calls = AgreesAfter same version (cardAt version card) [] lines calls
 
 -- ---- a sheet with n call lines, by an audit's comparison and card test: document 01's is `Sheet plain`
 pub record Sheet (rules : Rules) (bs : List ℕ) (n : ℕ) : Type 0 where

@@ -31,12 +31,12 @@ fn card_line_ok(version: u8, sheet: &[u8]) -> bool
     if sheet.len() < 3 {
         return false;
     }
-    let end = sheet::lines::opening_length(version, &sheet[3..]);
+    let end = sheet_lines::lines::opening_length(version, &sheet[3..]);
     if end <= sheet.len() {
-        let n = records::cards::card_length(version, &sheet[3..]) as u64;
+        let n = sheet_records::cards::card_length(version, &sheet[3..]) as u64;
         if codec::read_be(sheet, 1, 2) == n {
-            let card = records::cards::read_card(version, &sheet[3..end]);
-            return card_verdict::refusal(version, card) == 0;
+            let card = sheet_records::cards::read_card(version, &sheet[3..end]);
+            return card::verdict::refusal(version, card) == 0;
         }
         return false;
     }
@@ -50,8 +50,8 @@ pub fn audit(sheet: &[u8]) -> Verdict
     let version = codec::byte_or_zero(sheet, 0);
     if card::version::known_version(version) {
         if card_line_ok(version, sheet) {
-            let end = sheet::lines::opening_length(version, &sheet[3..]);
-            let card = records::cards::read_card(version, &sheet[3..end]);
+            let end = sheet_lines::lines::opening_length(version, &sheet[3..]);
+            let card = sheet_records::cards::read_card(version, &sheet[3..end]);
             return lines::audit_lines(version, card, &sheet[end..]);
         }
         return Verdict::Refused(refusals::BAD_CARD, 0);

@@ -1,10 +1,10 @@
 // The walk over the lines.
 use crate::Verdict;
-use calls::ReadCall;
 use card::Card;
+use sheet_calls::ReadCall;
 ghost use mathlib.Core.Path.{_≡_};
 ghost use Rattle.card.specs.Card.{cardRefusal};
-ghost use Rattle.sheet.specs.Answers.{sameNumber};
+ghost use Rattle.sheet_lines.specs.Answers.{sameNumber};
 ghost use Rattle.auditor.specs.Audit.{auditLines};
 
 // Steps an own battery of an accepted card through the lines. It stays accepted, so that a line's call is all that 10 tests.
@@ -16,7 +16,7 @@ pub fn audit_lines(version: u8, card: Card, bytes: &[u8]) -> Verdict
     let mut b = battery::fresh(card);
     let mut k: usize = 0;
     while rest.len() > 0 {
-        match front::line_call(version, card, rest) {
+        match sheet_lines::front::line_call(version, card, rest) {
             ReadCall::Bad => {
                 return Verdict::Refused(refusals::BAD_LINE, k + 1);
             }
@@ -25,11 +25,11 @@ pub fn audit_lines(version: u8, card: Card, bytes: &[u8]) -> Verdict
                 if own.refusal == refusals::BAD_CALL {
                     return Verdict::Refused(refusals::BAD_LINE, k + 1);
                 }
-                let seen = front::line_answer(version, card, rest);
-                if sheet::answers::answers_agree(seen, own) {
+                let seen = sheet_lines::front::line_answer(version, card, rest);
+                if sheet_lines::answers::answers_agree(seen, own) {
                     let next = own.battery;
                     b = next;
-                    let size = front::front_size(version, card, rest);
+                    let size = sheet_lines::front::front_size(version, card, rest);
                     rest = &rest[size..];
                     k += 1;
                 } else {

@@ -1,4 +1,4 @@
--- What refusal 10 tells of a battery that it accepts, taken apart and put together; and what makes the battery behind a call good.
+-- What refusal 10 tells of a battery that it accepts, taken apart and put together; and what makes the battery after a call good.
 use mathlib.Core.Path.{_≡_, sym, _∙_, ap}
 use mathlib.Core.Bool.{true}
 use Prim.Native.Nat.{ℕ}

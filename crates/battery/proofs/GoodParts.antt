@@ -16,7 +16,7 @@ use Rattle.battery.specs.Shape.{AnswerShape}
 use Rattle.battery.specs.declared.Battery.{Battery}
 use Rattle.battery.specs.declared.Answer.{Answer}
 use Rattle.battery.proofs.Accepted.{accepted-battery}
-use Rattle.battery.proofs.Answers.{FiniteTotals, finite-totals, zero-finite}
+use Rattle.battery.proofs.AnswerLaws.{FiniteTotals, finite-totals, zero-finite}
 use Rattle.battery.proofs.Zones.{zones-finite-at}
 
 module _ (version : ℕ) (b : Battery) (g : GoodBattery version b) where

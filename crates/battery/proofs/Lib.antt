@@ -1,5 +1,6 @@
 pub mod Accepted
-pub mod Answers
+pub mod AnswerLaws
 pub mod FreshGood
 pub mod GoodParts
 pub mod Zones
+pub mod CallConstants

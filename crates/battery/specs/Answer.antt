@@ -15,25 +15,25 @@ use Rattle.battery.specs.Ledger.{totalsOf, whole, renewedBattery, totals
 use Rattle.battery.specs.Battery.{zonesFinite}
 
 abbrev pub replyOf : Answer → Reply
-replyOf a =
+replyOf answer =
     record {
-      refusal = a .refusal;
-      energy = a .energy;
-      mark = a .mark;
-      outlet = a .outlet;
-      time = a .time;
-      substeps = a .substeps;
-      totals = totalsOf (a .battery);
+      refusal = answer .refusal;
+      energy = answer .energy;
+      mark = answer .mark;
+      outlet = answer .outlet;
+      time = answer .time;
+      substeps = answer .substeps;
+      totals = totalsOf (answer .battery);
     }
 
 -- the reply's numbers, with this battery
 abbrev pub answerOf : Reply → Battery → Answer
-answerOf r b =
-    record { refusal = r .refusal; energy = r .energy; mark = r .mark; outlet = r .outlet; time = r .time; substeps = r .substeps; battery = b }
+answerOf reply b =
+    record { refusal = reply .refusal; energy = reply .energy; mark = reply .mark; outlet = reply .outlet; time = reply .time; substeps = reply .substeps; battery = b }
 
 -- the answer with these zones
 abbrev pub answerWith : Ledger → Reply → List Float → Answer
-answerWith l r zones = answerOf r (renewedBattery l (r .totals) zones)
+answerWith ledger reply zones = answerOf reply (renewedBattery ledger (reply .totals) zones)
 
 -- 'A refusal line shows energy 0, outlet absent, time 0, substeps 0, and zones and totals as before'
 abbrev pub refusedReply : ℕ → Reply
@@ -49,7 +49,7 @@ refusedReply n =
     }
 
 unfoldable pub refusedWith : ℕ → Battery → Answer
-refusedWith n b = answerOf (refusedReply n) b
+refusedWith n battery = answerOf (refusedReply n) battery
 
 -- an answer that ran no substep and has no outlet
 abbrev pub plainReply : Float → Totals → Reply
@@ -57,17 +57,17 @@ plainReply energy totals =
     record { refusal = 0; energy = energy; mark = 0; outlet = zero; time = zero; substeps = 0; totals = totals }
 
 unfoldable pub plainAnswer : Float → Battery → Answer
-plainAnswer energy b = answerOf (plainReply energy (totalsOf b)) b
+plainAnswer energy battery = answerOf (plainReply energy (totalsOf battery)) battery
 
 -- every reported number and total is finite, but for the zones
 unfoldable pub numbersFinite : Reply → Bool
-numbersFinite r =
-    finite64 (r .energy) && (finite64 (r .outlet) && (finite64 (r .time) && totalsFinite (r .totals)))
+numbersFinite reply =
+    finite64 (reply .energy) && (finite64 (reply .outlet) && (finite64 (reply .time) && totalsFinite (reply .totals)))
 
 -- every reported number and total is finite
 unfoldable pub answerFinite : Answer → Bool
-answerFinite a = numbersFinite (replyOf a) && zonesFinite (a .battery .zones) (a .battery .card .layers)
+answerFinite answer = numbersFinite (replyOf answer) && zonesFinite (answer .battery .zones) (answer .battery .card .layers)
 
 -- the answer to a call on zones that lie apart, as they were and as they are: a refusal shows the battery as it was
 unfoldable pub settled : Ledger → List Float → Reply → List Float → Answer
-settled l before r after = cond (eqb (r .refusal) 0) (answerWith l r after) (refusedWith (r .refusal) (whole l before))
+settled ledger before reply after = cond (eqb (reply .refusal) 0) (answerWith ledger reply after) (refusedWith (reply .refusal) (whole ledger before))

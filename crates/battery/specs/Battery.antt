@@ -39,10 +39,10 @@ zonesFinite zones (suc n) = zonesFinite zones n && finite64 (getD zones n nan)
 
 -- refusal 10's test of a battery handed in: refused is one 'whose card 1 to 4 refuse or whose zones or totals aren't finite', or whose count is not its card's
 unfoldable pub batteryAccepted : ℕ → Battery → Bool
-batteryAccepted version b =
-    cond (eqb (cardRefusal version (b .card)) 0)
-    (cond (eqb (b .count) (b .card .layers))
-    (zonesFinite (b .zones) (b .card .layers) && totalsFinite (totalsOf b))
+batteryAccepted version battery =
+    cond (eqb (cardRefusal version (battery .card)) 0)
+    (cond (eqb (battery .count) (battery .card .layers))
+    (zonesFinite (battery .zones) (battery .card .layers) && totalsFinite (totalsOf battery))
     false)
     false
 

@@ -8,29 +8,29 @@ use Rattle.battery.specs.declared.Totals.{Totals}
 use Rattle.battery.specs.declared.Ledger.{Ledger}
 
 abbrev pub totalsOf : Battery → Totals
-totalsOf b = record { total = b .total; pump = b .pump; direct = b .direct; charged = b .charged; electric = b .electric }
+totalsOf battery = record { total = battery .total; pump = battery .pump; direct = battery .direct; charged = battery .charged; electric = battery .electric }
 
 abbrev pub ledgerOf : Battery → Ledger
-ledgerOf b = record { card = b .card; count = b .count; totals = totalsOf b }
+ledgerOf battery = record { card = battery .card; count = battery .count; totals = totalsOf battery }
 
 -- the battery with these zones
 abbrev pub whole : Ledger → List Float → Battery
-whole l zones =
+whole ledger zones =
     record {
-      card = l .card;
+      card = ledger .card;
       zones = zones;
-      count = l .count;
-      total = l .totals .total;
-      pump = l .totals .pump;
-      direct = l .totals .direct;
-      charged = l .totals .charged;
-      electric = l .totals .electric;
+      count = ledger .count;
+      total = ledger .totals .total;
+      pump = ledger .totals .pump;
+      direct = ledger .totals .direct;
+      charged = ledger .totals .charged;
+      electric = ledger .totals .electric;
     }
 
 -- the battery after a call: its card and count stay
 abbrev pub renewedBattery : Ledger → Totals → List Float → Battery
-renewedBattery l totals zones = whole (record { card = l .card; count = l .count; totals = totals }) zones
+renewedBattery ledger totals zones = whole (record { card = ledger .card; count = ledger .count; totals = totals }) zones
 
 unfoldable pub totalsFinite : Totals → Bool
-totalsFinite t =
-    finite64 (t .total) && (finite64 (t .pump) && (finite64 (t .direct) && (finite64 (t .charged) && finite64 (t .electric))))
+totalsFinite totals =
+    finite64 (totals .total) && (finite64 (totals .pump) && (finite64 (totals .direct) && (finite64 (totals .charged) && finite64 (totals .electric))))

@@ -4,3 +4,4 @@ pub mod Kinds
 pub mod Shape
 pub mod Ledger
 pub mod Places
+pub mod Call

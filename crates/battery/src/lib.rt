@@ -1,4 +1,7 @@
 // The battery by value, the seven kinds of call, and what a call answers: document 01's types, and refusal 10's test of a battery.
+pub mod answers;
+pub mod call_ranges;
+
 use card::Card;
 ghost use mathlib.Core.Path.{_≡_};
 ghost use Prim.Native.Nat.{_≤_};

@@ -7,7 +7,7 @@ use lib.Dec.{leb}
 use lib.Ieee.{lt, le}
 use Rattle.floats.specs.Constants.{maxRelative, tolerance, ratedAmbient}
 use Rattle.floats.specs.Standins.{nearlyEqual}
-use Rattle.ranges.specs.Ranges.{isTemperature}
+use Rattle.card.specs.Ranges.{isTemperature}
 use Rattle.card.specs.Card.{countsInRange, timesInRange, temperaturesInRange, capacitiesInRange, exchangerInRange, powersInRange, cardInRange, cardVerdict, verdictNumber, cardRefusal}
 use Rattle.card.specs.declared.Card.{Card}
 use Rattle.card.specs.declared.CardVerdict.the-variants.{Accepted, OutOfRange, LowerAboveUpper, MaxTooLow, NothingToStore}

@@ -5,3 +5,4 @@ pub mod OneTest
 pub mod Versions
 pub mod Refusals
 pub mod Figures
+pub mod RangeConstants

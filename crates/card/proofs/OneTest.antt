@@ -10,7 +10,7 @@ use Rattle.floats.specs.Standins.{nearlyEqual}
 use Rattle.floats.proofs.Order.{lt-is-not-le, finite-number}
 use Rattle.floats.proofs.Standins.{finite64-finite}
 use Rattle.floats.proofs.Clearly.{clearly-above-is}
-use Rattle.ranges.specs.Ranges.{hottest}
+use Rattle.card.specs.Ranges.{hottest}
 use Rattle.card.specs.declared.Card.{Card}
 use Rattle.card.specs.declared.CardVerdict.the-variants.{Accepted, OutOfRange, LowerAboveUpper, MaxTooLow, NothingToStore}
 use Rattle.card.specs.Card.{cardInRange, cardVerdict, verdictNumber, cardRefusal}

@@ -18,7 +18,7 @@ use Rattle.floats.proofs.Quotient.{div-number}
 use Rattle.floats.proofs.QuotientOrder.{div-mono-l, div-anti-r}
 use Rattle.zone.specs.Good.{GoodSalt}
 use Rattle.zone.specs.Layer.{saltAt}
-use Rattle.ranges.specs.Ranges.{thousandth, million, isCapacity}
+use Rattle.card.specs.Ranges.{thousandth, million, isCapacity}
 use Rattle.card.specs.Card.{capacitiesInRange, cardRefusal}
 use Rattle.card.specs.Derived.{saltOf, saltsOf}
 use Rattle.card.specs.Fits.{CardFits}

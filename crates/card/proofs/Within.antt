@@ -11,7 +11,7 @@ use Rattle.logic.proofs.Branch.{by-test}
 use Rattle.floats.proofs.Finite.{between-finite}
 use Rattle.floats.proofs.Order.{le-trans}
 use Rattle.floats.proofs.Sign.{neg-anti}
-use Rattle.ranges.specs.Ranges.{within, coldest, hottest, isTemperature, isPower}
+use Rattle.card.specs.Ranges.{within, coldest, hottest, isTemperature, isPower}
 use Rattle.logic.proofs.Tests.{and-true, holds}
 
 module _ (low high x : Float) (h : within low high x ≡ true) where

@@ -9,55 +9,55 @@ use lib.Ieee.{lt, le}
 use Rattle.refusals.specs.Refusals.{answered, cardOutOfRange, lowerAboveUpper, maxTooLow, nothingToStore}
 use Rattle.floats.specs.Constants.{maxRelative, tolerance, ratedAmbient}
 use Rattle.floats.specs.Standins.{nearlyEqual}
-use Rattle.ranges.specs.Ranges.{isSubstep, isTimestep, isTemperature, isCapacity, isVelocity, isDiameter, isCoefficient, isFlow, isPower}
+use Rattle.card.specs.Ranges.{isSubstep, isTimestep, isTemperature, isCapacity, isVelocity, isDiameter, isCoefficient, isFlow, isPower}
 use Rattle.card.specs.declared.Card.{Card}
 use Rattle.card.specs.declared.CardVerdict.{CardVerdict}
 use Rattle.card.specs.declared.CardVerdict.the-variants.{Accepted, OutOfRange, LowerAboveUpper, MaxTooLow, NothingToStore}
 
 -- 'layers (u8, 1..64), units (u16, 1..1000), simultaneous (u8, 0 or 1), budget (u16, 1..65535)'
 unfoldable pub countsInRange : Card → Bool
-countsInRange c =
-    leb 1 (c .layers) && (leb (c .layers) 64 && (leb 1 (c .units) && (leb (c .units) 1000 && (leb (c .simultaneous) 1
-    && (leb 1 (c .budget) && leb (c .budget) 65535)))))
+countsInRange card =
+    leb 1 (card .layers) && (leb (card .layers) 64 && (leb 1 (card .units) && (leb (card .units) 1000 && (leb (card .simultaneous) 1
+    && (leb 1 (card .budget) && leb (card .budget) 65535)))))
 
 -- substep and timestep
 unfoldable pub timesInRange : Card → Bool
-timesInRange c = isSubstep (c .substep) && isTimestep (c .timestep)
+timesInRange card = isSubstep (card .substep) && isTimestep (card .timestep)
 
 -- 'initial inlet, estimated outlet, max, ref, lower, upper', and the start temperature
 unfoldable pub temperaturesInRange : Card → Bool
-temperaturesInRange c =
-    isTemperature (c .inlet) && (isTemperature (c .outlet) && (isTemperature (c .max) && (isTemperature (c .reference)
-    && (isTemperature (c .lower) && (isTemperature (c .upper) && isTemperature (c .start))))))
+temperaturesInRange card =
+    isTemperature (card .inlet) && (isTemperature (card .outlet) && (isTemperature (card .max) && (isTemperature (card .reference)
+    && (isTemperature (card .lower) && (isTemperature (card .upper) && isTemperature (card .start))))))
 
 -- totals below, during, above
 unfoldable pub capacitiesInRange : Card → Bool
-capacitiesInRange c = isCapacity (c .below) && (isCapacity (c .during) && isCapacity (c .above))
+capacitiesInRange card = isCapacity (card .below) && (isCapacity (card .during) && isCapacity (card .above))
 
 -- velocity, diameter, a, b, flow
 unfoldable pub exchangerInRange : Card → Bool
-exchangerInRange c =
-    isVelocity (c .velocity) && (isDiameter (c .diameter) && (isCoefficient (c .a) && (isCoefficient (c .b) && isFlow (c .flow))))
+exchangerInRange card =
+    isVelocity (card .velocity) && (isDiameter (card .diameter) && (isCoefficient (card .a) && (isCoefficient (card .b) && isFlow (card .flow))))
 
 -- losses, power
 unfoldable pub powersInRange : Card → Bool
-powersInRange c = isPower (c .losses) && isPower (c .power)
+powersInRange card = isPower (card .losses) && isPower (card .power)
 
 -- every field finite and in range, both ends in
 unfoldable pub cardInRange : Card → Bool
-cardInRange c =
-    countsInRange c && (timesInRange c && (temperaturesInRange c && (capacitiesInRange c && (exchangerInRange c && powersInRange c))))
+cardInRange card =
+    countsInRange card && (timesInRange card && (temperaturesInRange card && (capacitiesInRange card && (exchangerInRange card && powersInRange card))))
 
 -- '1 a field not finite or out of range; 2 lower above upper; 3 max at most 20; 4 max below ref or nearly equal to it (epsilon 1e-10). Tested in this order.'
 unfoldable pub cardVerdict : ℕ → Card → CardVerdict
-cardVerdict version c =
-    cond (cardInRange c)
-    (cond (le (c .lower) (c .upper))
-    (cond (le (c .max) ratedAmbient)
+cardVerdict version card =
+    cond (cardInRange card)
+    (cond (le (card .lower) (card .upper))
+    (cond (le (card .max) ratedAmbient)
     MaxTooLow
-    (cond (lt (c .max) (c .reference))
+    (cond (lt (card .max) (card .reference))
     NothingToStore
-    (cond (nearlyEqual (c .max) (c .reference) tolerance maxRelative)
+    (cond (nearlyEqual (card .max) (card .reference) tolerance maxRelative)
     NothingToStore
     Accepted)))
     LowerAboveUpper)
@@ -72,7 +72,7 @@ verdictNumber MaxTooLow = maxTooLow
 verdictNumber NothingToStore = nothingToStore
 
 unfoldable pub cardRefusal : ℕ → Card → ℕ
-cardRefusal version c = verdictNumber (cardVerdict version c)
+cardRefusal version card = verdictNumber (cardVerdict version card)
 
 -- one of these numbers
 abbrev pub OneOf : List ℕ → ℕ → Type 0

@@ -12,24 +12,24 @@ use Rattle.card.specs.declared.Card.{Card}
 use Rattle.card.specs.declared.HeatBatteryPcm.{HeatBatteryPcm}
 
 abbrev pub layersOf : Card → Float
-layersOf c = ofInt binary64 (pos (c .layers))
+layersOf card = ofInt binary64 (pos (card .layers))
 
 unfoldable pub saltOf : Card → Salt
-saltOf c =
-    record { lower = c .lower; upper = c .upper; below = c .below ⊘ layersOf c; during = c .during ⊘ layersOf c; above = c .above ⊘ layersOf c }
+saltOf card =
+    record { lower = card .lower; upper = card .upper; below = card .below ⊘ layersOf card; during = card .during ⊘ layersOf card; above = card .above ⊘ layersOf card }
 
 -- the zones' salts: one for all
 unfoldable pub saltsOf : Card → Salts
-saltsOf c = One (saltOf c)
+saltsOf card = One (saltOf card)
 
 -- the energy of the whole battery at one temperature: of one salt a layer's times the layers, of a salt for each zone the plain sum
 unfoldable pub energyAt : Salts → Card → Float → Kilojoules
-energyAt (One s) c t = kj (layerEnergyStored t (c .reference) s .0 ⊗ layersOf c)
-energyAt (Each s) c t = storedEnergy s (c .reference) (replicate 64 t) (c .layers)
+energyAt (One s) card t = kj (layerEnergyStored t (card .reference) s .0 ⊗ layersOf card)
+energyAt (Each s) card t = storedEnergy s (card .reference) (replicate 64 t) (card .layers)
 
 abbrev pub storedMaximum : Salts → Card → Kilojoules
-storedMaximum s c = energyAt s c (c .max)
+storedMaximum s card = energyAt s card (card .max)
 
 -- the temperature difference of the rated losses, the diameter in metres
 unfoldable pub derived : Card → HeatBatteryPcm
-derived c = record { rated = c .max ⊖ ratedAmbient; diameter = c .diameter ⊘ thousand }
+derived card = record { rated = card .max ⊖ ratedAmbient; diameter = card .diameter ⊘ thousand }

@@ -9,10 +9,10 @@ use Rattle.card.specs.declared.Card.{Card}
 
 -- the card's salt as figures
 unfoldable pub figuresOf : Card → List Float
-figuresOf c =
-    let s = saltOf c in
+figuresOf card =
+    let s = saltOf card in
     s .lower ∷ s .upper ∷ s .below ∷ s .during ∷ s .above ∷ []
 
 -- figures lent with a step that are the card's salts, enough for its layers
 abbrev pub SaltsLent : Card → List Float → ℕ → Type 0
-SaltsLent c figures step = Salted figures step (c .layers) × (saltsIn figures step ≡ saltsOf c)
+SaltsLent card figures step = Salted figures step (card .layers) × (saltsIn figures step ≡ saltsOf card)

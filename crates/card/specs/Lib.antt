@@ -3,3 +3,4 @@ pub mod Card
 pub mod Derived
 pub mod Fits
 pub mod Lent
+pub mod Ranges

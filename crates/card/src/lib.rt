@@ -1,4 +1,7 @@
 // The card: document 01's fields and their ranges, and whether 1 to 4 accept it.
+pub mod pcm;
+pub mod ranges;
+pub mod verdict;
 pub mod version;
 
 ghost use mathlib.Core.Path.{_≡_};
@@ -79,8 +82,8 @@ fn times_in_range(card: Card) -> bool
     ensures { λ r. ⌜ r ≡ timesInRange card ⌝ }
 {
     logic::both(
-        ranges::is_substep(card.substep),
-        ranges::is_timestep(card.timestep),
+        crate::ranges::is_substep(card.substep),
+        crate::ranges::is_timestep(card.timestep),
     )
 }
 
@@ -88,15 +91,15 @@ fn temperatures_in_range(card: Card) -> bool
     ensures { λ r. ⌜ r ≡ temperaturesInRange card ⌝ }
 {
     let salt = logic::all_three(
-        ranges::is_temperature(card.lower),
-        ranges::is_temperature(card.upper),
-        ranges::is_temperature(card.start),
+        crate::ranges::is_temperature(card.lower),
+        crate::ranges::is_temperature(card.upper),
+        crate::ranges::is_temperature(card.start),
     );
     logic::all_five(
-        ranges::is_temperature(card.inlet),
-        ranges::is_temperature(card.outlet),
-        ranges::is_temperature(card.max),
-        ranges::is_temperature(card.reference),
+        crate::ranges::is_temperature(card.inlet),
+        crate::ranges::is_temperature(card.outlet),
+        crate::ranges::is_temperature(card.max),
+        crate::ranges::is_temperature(card.reference),
         salt,
     )
 }
@@ -105,9 +108,9 @@ fn capacities_in_range(card: Card) -> bool
     ensures { λ r. ⌜ r ≡ capacitiesInRange card ⌝ }
 {
     logic::all_three(
-        ranges::is_capacity(card.below),
-        ranges::is_capacity(card.during),
-        ranges::is_capacity(card.above),
+        crate::ranges::is_capacity(card.below),
+        crate::ranges::is_capacity(card.during),
+        crate::ranges::is_capacity(card.above),
     )
 }
 
@@ -115,18 +118,21 @@ fn exchanger_in_range(card: Card) -> bool
     ensures { λ r. ⌜ r ≡ exchangerInRange card ⌝ }
 {
     logic::all_five(
-        ranges::is_velocity(card.velocity),
-        ranges::is_diameter(card.diameter),
-        ranges::is_coefficient(card.a),
-        ranges::is_coefficient(card.b),
-        ranges::is_flow(card.flow),
+        crate::ranges::is_velocity(card.velocity),
+        crate::ranges::is_diameter(card.diameter),
+        crate::ranges::is_coefficient(card.a),
+        crate::ranges::is_coefficient(card.b),
+        crate::ranges::is_flow(card.flow),
     )
 }
 
 fn powers_in_range(card: Card) -> bool
     ensures { λ r. ⌜ r ≡ powersInRange card ⌝ }
 {
-    logic::both(ranges::is_power(card.losses), ranges::is_power(card.power))
+    logic::both(
+        crate::ranges::is_power(card.losses),
+        crate::ranges::is_power(card.power),
+    )
 }
 
 pub fn card_in_range(card: Card) -> bool

@@ -28,7 +28,7 @@ be-beBytes (suc w) x h =
     ∙ ap (λ (n : ℕ). n * 256 + x % 256) (be-beBytes w (x / 256) (div-lt-iff-lt-mul {k = 256} {x = x} {y = 256 ^ w} (omega arith) .1 (rw pow-suc at h)))
     ∙ div-add-mod' x 256
 
--- a store behind a run of stores is one more of the run
+-- a store after a run of stores is one more of the run
 pub sets-snoc : (l : List ℕ) (i : ℕ) (vs : List ℕ) (b : ℕ) → sets l i (vs ++ (b ∷ [])) ≡ sets (set l (i + length vs) b) i vs
 sets-snoc l i [] b = ap (λ (n : ℕ). set l n b) (sym (add-zero i))
 sets-snoc l i (v ∷ vs) b =
@@ -36,7 +36,7 @@ sets-snoc l i (v ∷ vs) b =
     ∙ ap (λ (n : ℕ). sets (set (set l i v) n b) (suc i) vs) (omega arith)
     ∙ ap (λ (m : List ℕ). sets m (suc i) vs) (set-comm l i (i + suc (length vs)) v b (omega arith))
 
--- one run behind another
+-- one run after another
 pub sets-sets : (l : List ℕ) (i : ℕ) (vs ws : List ℕ) → sets (sets l i vs) (i + length vs) ws ≡ sets l i (vs ++ ws)
 sets-sets l i [] ws = ap (λ (n : ℕ). sets l n ws) (add-zero i)
 sets-sets l i (v ∷ vs) ws =

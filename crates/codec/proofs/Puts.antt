@@ -1,4 +1,4 @@
--- Bytes written one behind the other from a place on, and what a memory holds afterwards.
+-- Bytes written one after the other from a place on, and what a memory holds afterwards.
 use mathlib.Core.Path.{_≡_, refl, sym, ap, _∙_}
 use mathlib.Core.List.{List, [], _∷_, _++_, append-nil}
 use Prim.Native.Nat.{ℕ, _+_, _≤_, _<_}
@@ -11,7 +11,7 @@ use lib.Ieee.{Float}
 use Rattle.codec.specs.Bytes.{beBytes, f64Bytes, over}
 use Rattle.codec.proofs.Laws.{sets-sets, length-beBytes, length-f64Bytes}
 
--- the memory l, once bs were written from place i on; p is the place behind them
+-- the memory l, once bs were written from place i on; p is the place after them
 pub record Written (l : List ℕ) (i : ℕ) (bs : List ℕ) (p : ℕ) (s : List ℕ) : Type 0 where
   pub place : p ≡ i + length bs
   pub memory : s ≡ sets l i bs
@@ -22,7 +22,7 @@ nothing-written l i = record { place = sym (add-zero i); memory = refl }
 pub written-length : {l bs s : List ℕ} {i p : ℕ} → Written l i bs p s → length s ≡ length l
 written-length {l} {bs} {s} {i} {p} w = ap length (w .memory) ∙ length-sets l i bs
 
--- more bytes behind those written
+-- more bytes after those written
 pub then : {l bs s : List ℕ} {i p : ℕ} (q : ℕ) (t more : List ℕ) → Written l i bs p s → q ≡ p + length more → t ≡ sets s p more → Written l i (bs ++ more) q t
 then {l} {bs} {s} {i} {p} q t more w e f =
     record {

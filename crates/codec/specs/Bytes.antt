@@ -4,7 +4,7 @@ use mathlib.Core.List.{List, [], _∷_, _++_}
 use lib.ListN.{length, take, drop}
 use lib.Ieee.{Float, binary64, ofBits, toBits}
 
--- the number that bytes stand for, behind the digits read so far
+-- the number that bytes stand for, after the digits read so far
 abbrev pub beFrom : ℕ → List ℕ → ℕ
 beFrom a [] = a
 beFrom a (b ∷ bs) = beFrom (a * 256 + b) bs
@@ -27,13 +27,13 @@ f64Of bs = ofBits binary64 (be bs)
 abbrev pub f64At : List ℕ → ℕ → Float
 f64At bs at = f64Of (take 8 (drop at bs))
 
--- the k-th of the f64 that stand one behind the other from a place on
+-- the k-th of the f64 that stand one after the other from a place on
 abbrev pub nthF64 : List ℕ → ℕ → ℕ → Float
 nthF64 bs from k = f64At bs (from + 8 * k)
 
 unfoldable pub f64Bytes : Float → List ℕ
 f64Bytes x = beBytes 8 (toBits binary64 x)
 
--- bytes over the front of a memory: what lies behind them stays
+-- bytes over the front of a memory: what lies after them stays
 unfoldable pub over : List ℕ → List ℕ → List ℕ
 over bs memory = bs ++ drop (length bs) memory

@@ -34,7 +34,7 @@ pub fn read_be(s: &[u8], at: usize, w: usize) -> u64
     read_digits(s, at, w)
 }
 
-// The byte at a place, 0 behind the end.
+// The byte at a place, 0 after the end.
 pub fn byte_or_zero(s: &[u8], at: usize) -> u8
     ensures { λ r. ⌜ r ≡ getD (now (s .entry)) at 0 ⌝ }
 {
@@ -55,7 +55,7 @@ pub fn read_u32(s: &[u8], at: usize) -> u32
     read_digits(s, at, 4) as u32
 }
 
-// Writes the w lowest bytes of x from at on, and returns the place behind them.
+// Writes the w lowest bytes of x from at on, and returns the place after them.
 pub fn put_be(s: &mut [u8], at: usize, w: usize, x: u64) -> usize
     requires { ⌜ at + w ≤ length (now s) ⌝ }
     ensures { λ r. ⌜ (r ≡ at + w) × (now (s .exit) ≡ sets (now (s .entry)) at (beBytes w x)) ⌝ }
@@ -106,7 +106,7 @@ pub fn put_f64(s: &mut [u8], at: usize, x: f64) -> usize
     put_be(s, at, 8, bits_of(x))
 }
 
-// The k-th of the f64 that stand one behind the other from a place on.
+// The k-th of the f64 that stand one after the other from a place on.
 pub fn nth_f64(s: &[u8], from: usize, k: usize) -> f64
     requires { ⌜ from + 8 * k + 8 ≤ length (now s) ⌝ }
     ensures { λ r. ⌜ r ≡ nthF64 (now (s .entry)) from k ⌝ }
@@ -128,7 +128,7 @@ pub fn put_u32(s: &mut [u8], at: usize, x: u32) -> usize
     put_be(s, at, 4, x as u64)
 }
 
-// Copies bytes to a place, and returns the place behind them.
+// Copies bytes to a place, and returns the place after them.
 pub fn put_bytes(s: &mut [u8], at: usize, src: &[u8]) -> usize
     requires { ⌜ at + length (now src) ≤ length (now s) ⌝ }
     ensures { λ r. ⌜ (r ≡ at + length (now (src .entry))) × (now (s .exit) ≡ sets (now (s .entry)) at (now (src .entry))) ⌝ }

@@ -5,7 +5,7 @@ use mathlib.Core.Bool.{true, false}
 use lib.Ieee.{lt}
 use Rattle.floats.specs.Constants.{zero}
 use Rattle.substep.specs.Substep.{chargerHeat}
-use Rattle.runs.specs.Charge.{lossDrive}
+use Rattle.runs.specs.Charge.{lossInput}
 use Rattle.engine.proofs.Losses.{no-charger}
 use Rattle.card.specs.Card.{cardRefusal}
 use Rattle.card.proofs.Accepted.{accepted-layers}
@@ -23,5 +23,5 @@ module _ (version : ℕ) (b : Battery) (h : batteryAccepted version b ≡ true) 
   pub accepted-finite : zonesFinite (b .zones) (b .card .layers) ≡ true
   accepted-finite = accepted-battery version b h .zones
 
-  pub accepted-losses : lt (chargerHeat (lossDrive (b .card)) .0) zero ≡ false
+  pub accepted-losses : lt (chargerHeat (lossInput (b .card)) .0) zero ≡ false
   accepted-losses = no-charger version b accepted-card

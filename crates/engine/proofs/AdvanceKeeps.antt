@@ -11,7 +11,7 @@ use Rattle.logic.proofs.Branch.{by-test}
 use Rattle.logic.proofs.Tests.{and-true, true-and}
 use Rattle.battery.specs.Answer.{refusedWith, answerFinite}
 use Rattle.battery.specs.Battery.{batteryAccepted, GoodBattery}
-use Rattle.call_ranges.specs.Call.{callInRange}
+use Rattle.battery.specs.Call.{callInRange}
 use Rattle.battery.specs.Kinds.{isCharge, onlyAsks}
 use Rattle.battery.specs.Places.{SameAbove}
 use Rattle.battery.specs.Shape.{RefusalLine}
@@ -20,7 +20,7 @@ use Rattle.battery.specs.declared.Answer.{Answer}
 use Rattle.battery.specs.declared.Call.{Call}
 use Rattle.battery.proofs.Accepted.{accepted-battery}
 use Rattle.battery.proofs.GoodParts.{shape-fits}
-use Rattle.battery.proofs.Answers.{refused-finite}
+use Rattle.battery.proofs.AnswerLaws.{refused-finite}
 use Rattle.battery.proofs.Zones.{same-above}
 use Rattle.engine.specs.Steps.{stepOf, advanceOf}
 use Rattle.engine.proofs.Promises.{refusal-line, refused-number}

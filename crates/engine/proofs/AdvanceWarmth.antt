@@ -12,7 +12,7 @@ use Rattle.card.specs.Fits.{CardFits}
 use Rattle.logic.proofs.Tests.{and-true}
 use Rattle.battery.specs.Answer.{refusedWith}
 use Rattle.battery.specs.Battery.{batteryAccepted, GoodBattery}
-use Rattle.call_ranges.specs.Call.{callInRange}
+use Rattle.battery.specs.Call.{callInRange}
 use Rattle.battery.specs.declared.Answer.{Answer}
 use Rattle.battery.specs.declared.Battery.{Battery}
 use Rattle.battery.specs.declared.Call.{Call}

@@ -9,7 +9,7 @@ use Rattle.battery.specs.declared.Ledger.{Ledger}
 use Rattle.battery.specs.declared.Reply.{Reply}
 use Rattle.battery.specs.Answer.{refusedWith, answerWith, settled}
 use Rattle.battery.specs.Ledger.{whole, ledgerOf}
-use Rattle.replies.proofs.Settled.{settled-answer, settled-other}
+use Rattle.engine_replies.proofs.Settled.{settled-answer, settled-other}
 use Rattle.engine.specs.Steps.{advanceOf}
 
 module _ (version : ℕ) (b : Battery) (call : Call) (l : Ledger) (zones : List Float) (r : Reply) (e : l ≡ ledgerOf b)

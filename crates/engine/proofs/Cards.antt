@@ -4,8 +4,8 @@ use mathlib.Core.Bool.{Bool, true, false, cond}
 use Rattle.battery.specs.declared.Battery.{Battery}
 use Rattle.battery.specs.declared.Demand.{Demand}
 use Rattle.runs.specs.declared.Stopped.{Stopped}
-use Rattle.totals.specs.Classes.{serviceClass}
-use Rattle.replies.specs.Replies.{served, demandKept, demandAnswer}
+use Rattle.engine_replies.specs.Classes.{serviceClass}
+use Rattle.engine_replies.specs.Replies.{served, demandKept, demandAnswer}
 use Rattle.runs.specs.Zoned.{Zoned}
 
 pub kept-card : (b : Battery) (d : Demand) (r : Zoned Stopped) → demandKept b d r .card ≡ b .card

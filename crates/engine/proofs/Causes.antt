@@ -20,20 +20,20 @@ use Rattle.battery.specs.declared.Hydronic.{Hydronic}
 use Rattle.battery.specs.declared.Answer.{Answer}
 use Rattle.battery.specs.declared.Call.{Call}
 use Rattle.battery.specs.declared.Call.the-variants.{DemandEnergy, ChargeElectric, ChargeHydronic, HeatLoss, CloseTimestep, ReadStateOfCharge, ChargeEnergyDemand}
-use Rattle.call_ranges.specs.Call.{demandInRange, callInRange}
+use Rattle.battery.specs.Call.{demandInRange, callInRange}
 use Rattle.substep.specs.Substep.{outcomeOf, processHeatBatteryZones}
 use Rattle.substep.specs.declared.Fault.{Fault}
 use Rattle.substep.specs.declared.Fault.the-variants.{Logarithm, NotFinite}
 use Rattle.runs.specs.Runs.{faultEnd, endRefusal}
 use Rattle.runs.specs.Hydronic.{hydronicEnded}
-use Rattle.runs.specs.Charge.{electricDrive, electricEnded, chargeElectric, chargeHydronic, chargeBattery, lossDrive, lossEnded, batteryHeatLoss, chargeEnergyDemand}
+use Rattle.runs.specs.Charge.{electricInput, electricEnded, chargeElectric, chargeHydronic, chargeBattery, lossInput, lossEnded, batteryHeatLoss, chargeEnergyDemand}
 use Rattle.runs.specs.declared.End.{End}
 use Rattle.runs.specs.declared.End.the-variants.{OverBudget}
 use Rattle.runs.specs.declared.Source.{Source}
 use Rattle.runs.specs.declared.Source.the-variants.{Electric}
-use Rattle.delivery.specs.Demand.{demandEnded}
-use Rattle.totals.specs.Classes.{serviceClass, unserved}
-use Rattle.replies.specs.Replies.{checked, unlessRefused, demandAnswer, chargedAnswer, cooledAnswer, closedBattery}
+use Rattle.run_demand.specs.Demand.{demandEnded}
+use Rattle.engine_replies.specs.Classes.{serviceClass, unserved}
+use Rattle.engine_replies.specs.Replies.{checked, unlessRefused, demandAnswer, chargedAnswer, cooledAnswer, closedBattery}
 use Rattle.engine.specs.Steps.{demandRunOf, demandRan, demandFrom, demandGiven, demandEnergy, charge, heatLoss, level, readLevel, demandToLevel, wetSource, stepOf}
 use Rattle.engine.specs.Budget.{hydronicRunOf, BudgetUsed}
 use Rattle.engine.specs.Faults.{DemandFaulted, AnswerNotFinite, NotFiniteFound, NoLogarithmTaken, OverFull}
@@ -143,11 +143,11 @@ module _ (b : Battery) where
   unfolding chargeBattery wetSource chargeHydronic hydronicEnded
   hydronic-end h = refl
 
-  electric-end : (power target : Float) → chargeBattery b (Electric power) target .part .end ≡ faultEnd (processHeatBatteryZones (b .card) (derived (b .card)) (saltAt (saltsOf (b .card))) (electricDrive (ledgerOf b) power target) (b .zones) .fault)
+  electric-end : (power target : Float) → chargeBattery b (Electric power) target .part .end ≡ faultEnd (processHeatBatteryZones (b .card) (derived (b .card)) (saltAt (saltsOf (b .card))) (electricInput (ledgerOf b) power target) (b .zones) .fault)
   unfolding chargeBattery chargeElectric electricEnded outcomeOf
   electric-end power target = refl
 
-  loss-end : batteryHeatLoss b .part .end ≡ faultEnd (processHeatBatteryZones (b .card) (derived (b .card)) (saltAt (saltsOf (b .card))) (lossDrive (b .card)) (b .zones) .fault)
+  loss-end : batteryHeatLoss b .part .end ≡ faultEnd (processHeatBatteryZones (b .card) (derived (b .card)) (saltAt (saltsOf (b .card))) (lossInput (b .card)) (b .zones) .fault)
   unfolding batteryHeatLoss lossEnded outcomeOf
   loss-end = refl
 

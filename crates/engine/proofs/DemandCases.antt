@@ -12,11 +12,11 @@ use Rattle.floats.specs.Constants.{zero, tolerance}
 use Rattle.floats.proofs.Parts.{number}
 use Rattle.floats.proofs.Compare.{le-number-r}
 use Rattle.floats.proofs.Order.{le-is-not-lt, lt-is-not-le}
-use Rattle.ranges.specs.Ranges.{within, million}
+use Rattle.card.specs.Ranges.{within, million}
 use Rattle.card.specs.declared.Card.{Card}
 use Rattle.logic.proofs.Tests.{and-true, true-and}
 use Rattle.battery.specs.Answer.{refusedWith, plainAnswer, answerFinite}
-use Rattle.call_ranges.specs.Call.{demandInRange}
+use Rattle.battery.specs.Call.{demandInRange}
 use Rattle.battery.specs.declared.Battery.{Battery}
 use Rattle.battery.specs.declared.Answer.{Answer}
 use Rattle.battery.specs.declared.Call.{Call}
@@ -26,8 +26,8 @@ use Rattle.battery.specs.declared.Given.{Given}
 use Rattle.battery.specs.declared.Given.the-variants.{Absent, Value}
 use Rattle.runs.specs.Runs.{endRefusal}
 use Rattle.runs.specs.Charge.{chargeBattery, batteryHeatLoss, chargeEnergyDemand}
-use Rattle.totals.specs.Classes.{serviceClass, unserved}
-use Rattle.replies.specs.Replies.{checked, unlessRefused, demandAnswer, closedBattery, runAnswer, chargedAnswer, cooledAnswer}
+use Rattle.engine_replies.specs.Classes.{serviceClass, unserved}
+use Rattle.engine_replies.specs.Replies.{checked, unlessRefused, demandAnswer, closedBattery, runAnswer, chargedAnswer, cooledAnswer}
 use Rattle.engine.specs.Steps.{demandRan, demandFrom, demandGiven, demandEnergy, charge, heatLoss, level, readLevel, demandToLevel, wetSource, stepOf}
 use Rattle.runs.specs.declared.End.{End}
 use Rattle.runs.specs.declared.End.the-variants.{Done, Negative, Met, NoStep, Level, Limit, Time, OverBudget, NoLogarithm, NotFiniteRun}

@@ -8,22 +8,22 @@ use Rattle.zone.specs.declared.Salt.{Salt}
 use Rattle.battery.specs.Places.{SameAbove}
 use Rattle.battery.proofs.Zones.{same-above, then-above}
 use Rattle.engine.specs.Budget.{wholeFrom, FractionDue, DemandOver, HydronicOver}
-use Rattle.delivery.specs.declared.DemandTask.{DemandTask}
-use Rattle.delivery.specs.declared.Pace.{Pace}
+use Rattle.run_demand.specs.declared.DemandTask.{DemandTask}
+use Rattle.run_demand.specs.declared.DemandState.{DemandState}
 use Rattle.runs.specs.declared.HydronicTask.{HydronicTask}
-use Rattle.runs.specs.declared.WetPace.{WetPace}
+use Rattle.runs.specs.declared.HydronicState.{HydronicState}
 use Rattle.runs.specs.declared.End.{End}
 use Rattle.runs.specs.declared.End.the-variants.{OverBudget}
 use Rattle.runs.specs.declared.Next.the-variants.{Stop}
-use Rattle.delivery.specs.Demand.{demandRun}
-use Rattle.runs.specs.Hydronic.{wetPace, hydronicEnd, hydronicRun, hydronicStep}
+use Rattle.run_demand.specs.Demand.{demandRun}
+use Rattle.runs.specs.Hydronic.{hydronicState, hydronicEnd, hydronicRun, hydronicStep}
 use Rattle.runs.proofs.Runs.{on-counts}
 use Rattle.runs.specs.Zoned.{Zoned, onPart}
 use Rattle.engine.proofs.Inductions.{demand-induction, hydronic-induction}
 use Rattle.engine.proofs.Turns.{never, demand-keeps, hydronic-keeps}
 
 module _ (x : DemandTask) (salts : ℕ → Salt) where
-  pub demand-run-above : (k n : ℕ) (s : Zoned Pace) → SameAbove (x .card .layers) (s .zones) (demandRun x salts k n s .zones)
+  pub demand-run-above : (k n : ℕ) (s : Zoned DemandState) → SameAbove (x .card .layers) (s .zones) (demandRun x salts k n s .zones)
   demand-run-above =
       demand-induction x salts (λ k n s d. SameAbove (x .card .layers) (s .zones) (d .zones))
       (λ k n s. same-above (x .card .layers) (s .zones))
@@ -31,7 +31,7 @@ module _ (x : DemandTask) (salts : ℕ → Salt) where
       (λ k n s e h. demand-keeps x salts s .above)
       (λ k n s d h r. then-above (demand-keeps x salts s .above) r)
 
-  pub demand-run-count : (k n : ℕ) (s : Zoned Pace) → demandRun x salts k n s .part .substeps ≤ n + k
+  pub demand-run-count : (k n : ℕ) (s : Zoned DemandState) → demandRun x salts k n s .part .substeps ≤ n + k
   demand-run-count =
       demand-induction x salts (λ k n s d. d .part .substeps ≤ n + k)
       (λ k n s. omega arith)
@@ -39,7 +39,7 @@ module _ (x : DemandTask) (salts : ℕ → Salt) where
       (λ k n s e h. omega arith)
       (λ k n s d h r. omega arith)
 
-  pub demand-run-over : (k n : ℕ) (s : Zoned Pace) → demandRun x salts k n s .part .end ≡ OverBudget → DemandOver (n + k) (demandRun x salts k n s .part)
+  pub demand-run-over : (k n : ℕ) (s : Zoned DemandState) → demandRun x salts k n s .part .end ≡ OverBudget → DemandOver (n + k) (demandRun x salts k n s .part)
   demand-run-over =
       demand-induction x salts (λ k n s d. d .part .end ≡ OverBudget → DemandOver (n + k) (d .part))
       (λ k n s h. never (cc))
@@ -48,7 +48,7 @@ module _ (x : DemandTask) (salts : ℕ → Salt) where
       (λ k n s d p r h. let q = r h in let u = q .used in record { ended = h; used = omega arith; due = q .due })
 
 module _ (x : HydronicTask) (salts : ℕ → Salt) where
-  pub hydronic-run-above : (k n : ℕ) (s : Zoned WetPace) → SameAbove (x .card .layers) (s .zones) (hydronicRun x salts k n s .zones)
+  pub hydronic-run-above : (k n : ℕ) (s : Zoned HydronicState) → SameAbove (x .card .layers) (s .zones) (hydronicRun x salts k n s .zones)
   hydronic-run-above =
       hydronic-induction x salts (λ k n s d. SameAbove (x .card .layers) (s .zones) (d .zones))
       (λ n s. same-above (x .card .layers) (s .zones))
@@ -56,7 +56,7 @@ module _ (x : HydronicTask) (salts : ℕ → Salt) where
       (λ k n s e q h. hydronic-keeps x salts n s .above)
       (λ k n s d q h r. then-above (hydronic-keeps x salts n s .above) r)
 
-  pub hydronic-run-count : (k n : ℕ) (s : Zoned WetPace) → n ≤ x .card .budget → hydronicRun x salts k n s .part .substeps ≤ x .card .budget
+  pub hydronic-run-count : (k n : ℕ) (s : Zoned HydronicState) → n ≤ x .card .budget → hydronicRun x salts k n s .part .substeps ≤ x .card .budget
   hydronic-run-count =
       hydronic-induction x salts (λ k n s d. n ≤ x .card .budget → d .part .substeps ≤ x .card .budget)
       (λ n s l. l)
@@ -65,13 +65,13 @@ module _ (x : HydronicTask) (salts : ℕ → Salt) where
       (λ k n s d q h r l. r (hydronic-keeps x salts n s .count (omega arith)))
 
   last-turn :
-      (steps n : ℕ) (s : Zoned WetPace) (e : End) → hydronicStep x salts n s .part .next ≡ Stop OverBudget → e ≡ OverBudget →
-      HydronicOver x salts steps (hydronicEnd (onPart wetPace (hydronicStep x salts n s)) e (hydronicStep x salts n s .part .substeps))
+      (steps n : ℕ) (s : Zoned HydronicState) (e : End) → hydronicStep x salts n s .part .next ≡ Stop OverBudget → e ≡ OverBudget →
+      HydronicOver x salts steps (hydronicEnd (onPart hydronicState (hydronicStep x salts n s)) e (hydronicStep x salts n s .part .substeps))
   last-turn steps n s e p h =
       let k = hydronic-keeps x salts n s in
-      record { ended = h; used = k .used p; due = inr (subst (λ (v : Zoned WetPace). FractionDue x (v .part) (wholeFrom x salts v)) (sym (k .same p)) (k .due p)) }
+      record { ended = h; used = k .used p; due = inr (subst (λ (v : Zoned HydronicState). FractionDue x (v .part) (wholeFrom x salts v)) (sym (k .same p)) (k .due p)) }
 
-  pub hydronic-run-over : (k n : ℕ) (s : Zoned WetPace) → hydronicRun x salts k n s .part .end ≡ OverBudget → HydronicOver x salts (n + k) (hydronicRun x salts k n s)
+  pub hydronic-run-over : (k n : ℕ) (s : Zoned HydronicState) → hydronicRun x salts k n s .part .end ≡ OverBudget → HydronicOver x salts (n + k) (hydronicRun x salts k n s)
   hydronic-run-over =
       hydronic-induction x salts (λ k n s d. d .part .end ≡ OverBudget → HydronicOver x salts (n + k) d)
       (λ n s h. never (cc))

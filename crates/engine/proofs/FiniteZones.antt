@@ -24,28 +24,28 @@ use Rattle.battery.specs.Battery.{zonesFinite}
 use Rattle.battery.specs.Ledger.{ledgerOf}
 use Rattle.battery.specs.declared.Battery.{Battery}
 use Rattle.battery.specs.declared.Demand.{Demand}
-use Rattle.substep.specs.Substep.{outcomeOf, zoneTransfer, passFinite, passFault, withoutLogarithm, substepFrom, withTransfer, processHeatBatteryZones}
-use Rattle.substep.specs.declared.Drive.{Drive}
-use Rattle.substep.specs.Pass.{Pass}
+use Rattle.substep.specs.Substep.{outcomeOf, zoneTransfer, progressFinite, progressFault, withoutLogarithm, substepFrom, withTransfer, processHeatBatteryZones}
+use Rattle.substep.specs.declared.SubstepInput.{SubstepInput}
+use Rattle.substep.specs.Progress.{Progress}
 use Rattle.substep.specs.declared.Substep.{Substep}
 use Rattle.substep.specs.declared.Fault.{Fault}
 use Rattle.substep.specs.declared.Fault.the-variants.{Nothing, Logarithm, NotFinite}
-use Rattle.delivery.specs.declared.DemandTask.{DemandTask}
-use Rattle.delivery.specs.declared.PaceTurn.{PaceTurn}
-use Rattle.delivery.specs.declared.Pace.{Pace}
-use Rattle.delivery.specs.Demand.{demandDrive, demandBy, demandSubstep, demandRun, demandEnded}
+use Rattle.run_demand.specs.declared.DemandTask.{DemandTask}
+use Rattle.run_demand.specs.declared.DemandTurn.{DemandTurn}
+use Rattle.run_demand.specs.declared.DemandState.{DemandState}
+use Rattle.run_demand.specs.Demand.{demandInput, demandBy, demandSubstep, demandRun, demandEnded}
 use Rattle.runs.specs.declared.Stopped.{Stopped}
 use Rattle.runs.specs.declared.Exchanger.{Exchanger}
 use Rattle.runs.specs.declared.Source.{Source}
 use Rattle.runs.specs.declared.Source.the-variants.{Electric, Wet}
 use Rattle.runs.specs.declared.HydronicTask.{HydronicTask}
-use Rattle.runs.specs.declared.WetPace.{WetPace}
-use Rattle.runs.specs.declared.WetTurn.{WetTurn}
+use Rattle.runs.specs.declared.HydronicState.{HydronicState}
+use Rattle.runs.specs.declared.HydronicTurn.{HydronicTurn}
 use Rattle.runs.specs.Runs.{outcome, faultEnd, endRefusal, reynoldBetween}
-use Rattle.runs.specs.Hydronic.{wetDrive, clearlyBelow, limitReached, replayBy, replayed, fractionSeconds, hydronicWhole, hydronicBy, hydronicStep, hydronicRun, hydronicEnded, wholeSubsteps}
-use Rattle.runs.specs.Charge.{electricDrive, electricEnded, chargeElectric, hydronicTask, hydronicStart, chargeHydronic, chargeBattery, lossDrive, lossEnded, batteryHeatLoss}
-use Rattle.replies.specs.Replies.{demandStart}
-use Rattle.replies.proofs.Settled.{run-end}
+use Rattle.runs.specs.Hydronic.{wetInput, clearlyBelow, limitReached, replayBy, replayed, fractionSeconds, hydronicWhole, hydronicBy, hydronicStep, hydronicRun, hydronicEnded, wholeSubsteps}
+use Rattle.runs.specs.Charge.{electricInput, electricEnded, chargeElectric, hydronicTask, hydronicStart, chargeHydronic, chargeBattery, lossInput, lossEnded, batteryHeatLoss}
+use Rattle.engine_replies.specs.Replies.{demandStart}
+use Rattle.engine_replies.proofs.Settled.{run-end}
 use Rattle.runs.specs.Zoned.{Zoned, zoned, AsDefined}
 use Rattle.engine.specs.Steps.{demandTask, demandRan}
 use Rattle.engine.specs.Budget.{wholeFrom}
@@ -59,18 +59,18 @@ Finite n zones = zonesFinite zones n ≡ true
 
 -- one substep without a fault
 
-pass-tested : (c : Card) (p : Pass) (sum : Kilojoules) → passFault c p sum ≡ Nothing → Finite (c .layers) (p .zones)
-unfolding passFault passFinite
-pass-tested c p sum =
-    by-test (λ (f : Fault). f ≡ Nothing → Finite (c .layers) (p .zones)) (passFinite c p sum) Nothing NotFinite
-    (λ t h. and-true (zonesFinite (p .zones) (c .layers)) _ (is-true (passFinite c p sum) t) .0)
+progress-tested : (c : Card) (p : Progress) (sum : Kilojoules) → progressFault c p sum ≡ Nothing → Finite (c .layers) (p .zones)
+unfolding progressFault progressFinite
+progress-tested c p sum =
+    by-test (λ (f : Fault). f ≡ Nothing → Finite (c .layers) (p .zones)) (progressFinite c p sum) Nothing NotFinite
+    (λ t h. and-true (zonesFinite (p .zones) (c .layers)) _ (is-true (progressFinite c p sum) t) .0)
     (λ t h. never (cc))
 
-module _ (c : Card) (pcm : HeatBatteryPcm) (salts : ℕ → Salt) (d : Drive) (zones : List Float) where
+module _ (c : Card) (pcm : HeatBatteryPcm) (salts : ℕ → Salt) (d : SubstepInput) (zones : List Float) where
   transfer-tested : (l : Log) → withTransfer c pcm salts d zones l .fault ≡ Nothing → Finite (c .layers) (withTransfer c pcm salts d zones l .zones)
   unfolding withTransfer withoutLogarithm substepFrom
   transfer-tested Refused h = never (cc)
-  transfer-tested (Value u) h = pass-tested c _ _ h
+  transfer-tested (Value u) h = progress-tested c _ _ h
 
   pub substep-finite : processHeatBatteryZones c pcm salts d zones .fault ≡ Nothing → Finite (c .layers) (processHeatBatteryZones c pcm salts d zones .zones)
   unfolding processHeatBatteryZones
@@ -85,8 +85,8 @@ answers-faultless NotFinite h = absurd (omega arith)
 
 -- one turn of a demand: its zones are the substep's, or those before it
 
-module _ (x : DemandTask) (salts : ℕ → Salt) (s : Zoned Pace) (h : Finite (x .card .layers) (s .zones)) where
-  abbrev DemandFinite : Zoned PaceTurn → Type 0
+module _ (x : DemandTask) (salts : ℕ → Salt) (s : Zoned DemandState) (h : Finite (x .card .layers) (s .zones)) where
+  abbrev DemandFinite : Zoned DemandTurn → Type 0
   DemandFinite t = Finite (x .card .layers) (t .zones)
 
   demand-by-finite : (u : Substep) → (u .fault ≡ Nothing → Finite (x .card .layers) (u .zones)) → (f : Fault) → u .fault ≡ f → DemandFinite (demandBy x s (outcome u) f)
@@ -98,9 +98,9 @@ module _ (x : DemandTask) (salts : ℕ → Salt) (s : Zoned Pace) (h : Finite (x
   demand-turn-finite : DemandFinite (demandSubstep x salts s)
   unfolding demandSubstep outcomeOf
   demand-turn-finite =
-      demand-by-finite (demandFromRun x salts s) (substep-finite (x .card) (x .pcm) salts (demandDrive x (s .part)) (s .zones)) (demandFromRun x salts s .fault) refl
+      demand-by-finite (demandFromRun x salts s) (substep-finite (x .card) (x .pcm) salts (demandInput x (s .part)) (s .zones)) (demandFromRun x salts s .fault) refl
 
-pub demand-run-finite : (x : DemandTask) (salts : ℕ → Salt) (k n : ℕ) (s : Zoned Pace) → Finite (x .card .layers) (s .zones) → Finite (x .card .layers) (demandRun x salts k n s .zones)
+pub demand-run-finite : (x : DemandTask) (salts : ℕ → Salt) (k n : ℕ) (s : Zoned DemandState) → Finite (x .card .layers) (s .zones) → Finite (x .card .layers) (demandRun x salts k n s .zones)
 demand-run-finite x salts =
     demand-induction x salts (λ k n s d. Finite (x .card .layers) (s .zones) → Finite (x .card .layers) (d .zones))
     (λ k n s h. h)
@@ -110,8 +110,8 @@ demand-run-finite x salts =
 
 -- one turn of a hydronic charge: its zones are the whole substep's, the fractional one's, or those before them
 
-module _ (x : HydronicTask) (salts : ℕ → Salt) (n : ℕ) (s : Zoned WetPace) (h : Finite (x .card .layers) (s .zones)) where
-  abbrev WetFinite : Zoned WetTurn → Type 0
+module _ (x : HydronicTask) (salts : ℕ → Salt) (n : ℕ) (s : Zoned HydronicState) (h : Finite (x .card .layers) (s .zones)) where
+  abbrev WetFinite : Zoned HydronicTurn → Type 0
   WetFinite t = Finite (x .card .layers) (t .zones)
 
   replay-by-finite :
@@ -125,10 +125,10 @@ module _ (x : HydronicTask) (salts : ℕ → Salt) (n : ℕ) (s : Zoned WetPace)
   replay-finite : (seconds reynold : Float) → WetFinite (replayed x salts n s seconds reynold)
   unfolding replayed outcomeOf
   replay-finite seconds reynold =
-      let u = processHeatBatteryZones (x .card) (x .pcm) salts (wetDrive x seconds reynold) (s .zones) in
+      let u = processHeatBatteryZones (x .card) (x .pcm) salts (wetInput x seconds reynold) (s .zones) in
       by-test WetFinite (eqb n (x .card .budget)) _ _
       (λ b. h)
-      (λ b. replay-by-finite (n + 1) seconds reynold u (substep-finite (x .card) (x .pcm) salts (wetDrive x seconds reynold) (s .zones)) (u .fault) refl)
+      (λ b. replay-by-finite (n + 1) seconds reynold u (substep-finite (x .card) (x .pcm) salts (wetInput x seconds reynold) (s .zones)) (u .fault) refl)
 
   whole-finite : (u : Substep) → Finite (x .card .layers) (u .zones) → WetFinite (hydronicWhole x salts n s (outcome u))
   unfolding hydronicWhole outcomeOf
@@ -149,14 +149,14 @@ module _ (x : HydronicTask) (salts : ℕ → Salt) (n : ℕ) (s : Zoned WetPace)
   hydronic-by-finite u g NotFinite e = h
 
 hydronic-turn-finite :
-    (x : HydronicTask) (salts : ℕ → Salt) (n : ℕ) (s : Zoned WetPace) → Finite (x .card .layers) (s .zones) → Finite (x .card .layers) (hydronicStep x salts n s .zones)
+    (x : HydronicTask) (salts : ℕ → Salt) (n : ℕ) (s : Zoned HydronicState) → Finite (x .card .layers) (s .zones) → Finite (x .card .layers) (hydronicStep x salts n s .zones)
 unfolding hydronicStep outcomeOf
 hydronic-turn-finite x salts n s h =
     hydronic-by-finite x salts (n + 1) s h (wholeFrom x salts s)
-    (substep-finite (x .card) (x .pcm) salts (wetDrive x (x .card .substep) (s .part .reynold)) (s .zones)) (wholeFrom x salts s .fault) refl
+    (substep-finite (x .card) (x .pcm) salts (wetInput x (x .card .substep) (s .part .reynold)) (s .zones)) (wholeFrom x salts s .fault) refl
 
 pub hydronic-run-finite :
-    (x : HydronicTask) (salts : ℕ → Salt) (k n : ℕ) (s : Zoned WetPace) → Finite (x .card .layers) (s .zones) → Finite (x .card .layers) (hydronicRun x salts k n s .zones)
+    (x : HydronicTask) (salts : ℕ → Salt) (k n : ℕ) (s : Zoned HydronicState) → Finite (x .card .layers) (s .zones) → Finite (x .card .layers) (hydronicRun x salts k n s .zones)
 hydronic-run-finite x salts =
     hydronic-induction x salts (λ k n s d. Finite (x .card .layers) (s .zones) → Finite (x .card .layers) (d .zones))
     (λ n s h. h)
@@ -169,11 +169,11 @@ hydronic-run-finite x salts =
 module _ (b : Battery) where
   electric-finite : (power target : Float) → endRefusal (chargeElectric b power target .part .end) ≡ 0 → Finite (b .card .layers) (chargeElectric b power target .zones)
   unfolding chargeElectric electricEnded outcomeOf
-  electric-finite power target e = substep-finite (b .card) (derived (b .card)) (saltAt (saltsOf (b .card))) (electricDrive (ledgerOf b) power target) (b .zones) (answers-faultless _ e)
+  electric-finite power target e = substep-finite (b .card) (derived (b .card)) (saltAt (saltsOf (b .card))) (electricInput (ledgerOf b) power target) (b .zones) (answers-faultless _ e)
 
   pub loss-leaves-finite : endRefusal (batteryHeatLoss b .part .end) ≡ 0 → zonesFinite (batteryHeatLoss b .zones) (b .card .layers) ≡ true
   unfolding batteryHeatLoss lossEnded outcomeOf
-  loss-leaves-finite e = substep-finite (b .card) (derived (b .card)) (saltAt (saltsOf (b .card))) (lossDrive (b .card)) (b .zones) (answers-faultless _ e)
+  loss-leaves-finite e = substep-finite (b .card) (derived (b .card)) (saltAt (saltsOf (b .card))) (lossInput (b .card)) (b .zones) (answers-faultless _ e)
 
   module _ (h : zonesFinite (b .zones) (b .card .layers) ≡ true) where
     hydronic-finite : (wet : Exchanger) (target : Float) → Finite (b .card .layers) (chargeHydronic b wet target .zones)

@@ -11,7 +11,7 @@ use Rattle.floats.proofs.Compare.{le-number-r}
 use Rattle.floats.proofs.Difference.{neg-nonpos}
 use Rattle.floats.proofs.Order.{le-trans}
 use Rattle.floats.proofs.ProductLaws.{mul-nonneg}
-use Rattle.ranges.specs.Ranges.{hundredth, day, isSubstep, isTimestep, isPower}
+use Rattle.card.specs.Ranges.{hundredth, day, isSubstep, isTimestep, isPower}
 use Rattle.card.specs.Card.{timesInRange, powersInRange, cardRefusal}
 use Rattle.card.specs.declared.Card.{Card}
 use Rattle.card.proofs.Accepted.{accepted}
@@ -20,7 +20,7 @@ use Rattle.card.proofs.Within.{within-low, power-nonneg}
 use Rattle.battery.specs.declared.Battery.{Battery}
 use Rattle.substep.specs.Substep.{chargerHeat}
 use Rattle.substep.proofs.Charger.{charger-not-negative}
-use Rattle.runs.specs.Charge.{lossDrive}
+use Rattle.runs.specs.Charge.{lossInput}
 
 -- seconds of hours that are not negative
 pub seconds-nonneg : (hours : Float) → T (le zero hours) → T (le zero (hours ⊗ hour))
@@ -36,8 +36,8 @@ unfolding timesInRange isTimestep ofBits le
 timestep-nonneg c h =
     le-trans zero hundredth (c .timestep) tt (within-low hundredth day (c .timestep) (and-true (isSubstep (c .substep)) (isTimestep (c .timestep)) h .1))
 
-pub no-charger : (version : ℕ) (b : Battery) → cardRefusal version (b .card) ≡ 0 → lt (chargerHeat (lossDrive (b .card)) .0) zero ≡ false
-unfolding lossDrive ofBits
+pub no-charger : (version : ℕ) (b : Battery) → cardRefusal version (b .card) ≡ 0 → lt (chargerHeat (lossInput (b .card)) .0) zero ≡ false
+unfolding lossInput ofBits
 no-charger version b h =
     let c = accepted version (b .card) h in
-    charger-not-negative (lossDrive (b .card)) (neg-nonpos (b .card .losses) (losses-nonneg (b .card) (c .powers))) (seconds-nonneg (b .card .timestep) (timestep-nonneg (b .card) (c .times)))
+    charger-not-negative (lossInput (b .card)) (neg-nonpos (b .card .losses) (losses-nonneg (b .card) (c .powers))) (seconds-nonneg (b .card .timestep) (timestep-nonneg (b .card) (c .times)))

@@ -6,7 +6,7 @@ use Prim.Native.Nat.{ℕ}
 use native.Mathlib.Omega.{arith}
 use lib.Ieee.{Float, le}
 use Rattle.floats.specs.Constants.{tolerance}
-use Rattle.water.specs.declared.Mode.the-variants.{OnlyCharging, Losses, Normal}
+use Rattle.zone_water.specs.declared.Mode.the-variants.{OnlyCharging, Losses, Normal}
 use Rattle.zone.specs.Layer.{saltAt}
 use Rattle.card.specs.Derived.{saltsOf, derived}
 use Rattle.battery.specs.Ledger.{ledgerOf}
@@ -21,13 +21,13 @@ use Rattle.substep.specs.Substep.{outcomeOf}
 use Rattle.substep.specs.declared.Fault.{Fault}
 use Rattle.substep.specs.declared.Fault.the-variants.{Nothing, Logarithm, NotFinite}
 use Rattle.runs.specs.Runs.{faultEnd, endRefusal}
-use Rattle.delivery.specs.Demand.{endPace, demandDrive, demandEnded}
+use Rattle.run_demand.specs.Demand.{endState, demandInput, demandEnded}
 use Rattle.runs.specs.Hydronic.{hydronicEnded, wholeSubsteps}
-use Rattle.runs.specs.Charge.{electricDrive, electricEnded, chargeElectric, hydronicStart, chargeHydronic, chargeBattery, lossDrive, lossEnded, batteryHeatLoss}
+use Rattle.runs.specs.Charge.{electricInput, electricEnded, chargeElectric, hydronicStart, chargeHydronic, chargeBattery, lossInput, lossEnded, batteryHeatLoss}
 use Rattle.runs.specs.declared.End.{End}
 use Rattle.runs.specs.declared.End.the-variants.{Done, Negative, Met, NoStep, Level, Limit, Time, OverBudget, NoLogarithm, NotFiniteRun}
 use Rattle.runs.specs.declared.Source.the-variants.{Electric}
-use Rattle.replies.specs.Replies.{demandStart}
+use Rattle.engine_replies.specs.Replies.{demandStart}
 use Rattle.runs.specs.Zoned.{zoned, onPart}
 use Rattle.engine.specs.Steps.{demandRunOf, demandRan, demandTask, wetSource, stepOf, wetOf}
 use Rattle.engine.specs.Budget.{hydronicTaskOf, hydronicRunOf}
@@ -86,7 +86,7 @@ module _ (f : Fault) (some : f ≡ Nothing → ⊥) where
 
   demand-faulty :
       (b : Battery) (d : Demand) (feed : Float) → endFault (demandRan b d feed .part .end) ≡ f →
-      demandFromRun (demandTask (ledgerOf b) d feed) (saltAt (saltsOf (b .card))) (onPart endPace (demandRunOf b d feed)) .fault ≡ f
+      demandFromRun (demandTask (ledgerOf b) d feed) (saltAt (saltsOf (b .card))) (onPart endState (demandRunOf b d feed)) .fault ≡ f
   unfolding demandEnded
   demand-faulty b d feed h =
       demand-run-faults (demandTask (ledgerOf b) d feed) (saltAt (saltsOf (b .card))) (b .card .budget) 0 (zoned (demandStart (ledgerOf b)) (b .zones)) (λ z. some (sym h ∙ z)) ∙ h
@@ -106,7 +106,7 @@ module _ (f : Fault) (some : f ≡ Nothing → ⊥) where
         feed = feed;
         given = given;
         ended = demand-ended b d feed h;
-        fault = substep-fault (b .card) (derived (b .card)) (saltAt (saltsOf (b .card))) (demandDrive (demandTask (ledgerOf b) d feed) (e .part .pace)) (e .zones) f some (demand-faulty b d feed h);
+        fault = substep-fault (b .card) (derived (b .card)) (saltAt (saltsOf (b .card))) (demandInput (demandTask (ledgerOf b) d feed) (e .part .state)) (e .zones) f some (demand-faulty b d feed h);
       }
 
   pub hydronic-faults : (b : Battery) (h : Hydronic) → endFault (chargeBattery b (wetSource h) (h .target) .part .end) ≡ f → HydronicFaulted f b h
@@ -143,15 +143,15 @@ level-24 b energy (inr w) = let n = w .0 in omega arith
 
 module _ (b : Battery) where
   electric-24 : (power target : Float) → endFault (chargeBattery b (Electric power) target .part .end) ≡ Logarithm → ⊥
-  unfolding chargeBattery chargeElectric electricEnded electricDrive outcomeOf
+  unfolding chargeBattery chargeElectric electricEnded electricInput outcomeOf
   electric-24 power target h =
-      let m = logarithm-only (b .card) (derived (b .card)) (saltAt (saltsOf (b .card))) (electricDrive (ledgerOf b) power target) (b .zones) (sym (fault-of-end _) ∙ h) .normal in
+      let m = logarithm-only (b .card) (derived (b .card)) (saltAt (saltsOf (b .card))) (electricInput (ledgerOf b) power target) (b .zones) (sym (fault-of-end _) ∙ h) .normal in
       modes-apart m
 
   loss-24 : endFault (batteryHeatLoss b .part .end) ≡ Logarithm → ⊥
-  unfolding batteryHeatLoss lossEnded lossDrive outcomeOf
+  unfolding batteryHeatLoss lossEnded lossInput outcomeOf
   loss-24 h =
-      let m = logarithm-only (b .card) (derived (b .card)) (saltAt (saltsOf (b .card))) (lossDrive (b .card)) (b .zones) (sym (fault-of-end _) ∙ h) .normal in
+      let m = logarithm-only (b .card) (derived (b .card)) (saltAt (saltsOf (b .card))) (lossInput (b .card)) (b .zones) (sym (fault-of-end _) ∙ h) .normal in
       losses-apart m
 
 why-24 : (b : Battery) (call : Call) → Why 24 b call → NoLogarithmTaken b call

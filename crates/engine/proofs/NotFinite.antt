@@ -1,4 +1,4 @@
--- 23 only where a number behind a substep, or a reported number or total, is not finite.
+-- 23 only where a number after a substep, or a reported number or total, is not finite.
 use mathlib.Core.Path.{_≡_, sym, _∙_}
 use mathlib.Core.Logic.{_⊎_, inl, inr}
 use Prim.Native.Nat.{ℕ}
@@ -15,9 +15,9 @@ use Rattle.battery.specs.declared.Call.the-variants.{DemandEnergy, ChargeElectr
 use Rattle.substep.specs.Substep.{outcomeOf}
 use Rattle.substep.specs.declared.Fault.the-variants.{Nothing, NotFinite}
 use Rattle.runs.specs.declared.End.{End}
-use Rattle.runs.specs.Charge.{electricDrive, electricEnded, chargeElectric, chargeBattery, lossDrive, lossEnded, batteryHeatLoss}
+use Rattle.runs.specs.Charge.{electricInput, electricEnded, chargeElectric, chargeBattery, lossInput, lossEnded, batteryHeatLoss}
 use Rattle.runs.specs.declared.Source.the-variants.{Electric}
-use Rattle.replies.specs.Replies.{demandAnswer}
+use Rattle.engine_replies.specs.Replies.{demandAnswer}
 use Rattle.engine.specs.Steps.{demandRan, stepOf}
 use Rattle.engine.specs.Faults.{SubstepFault, AnswerNotFinite, LevelNotFinite, NotFiniteFound}
 use Rattle.engine.proofs.Turns.{never}
@@ -52,14 +52,14 @@ module _ (b : Battery) where
 
   electric-23 :
       (power target : Float) → endFault (chargeBattery b (Electric power) target .part .end) ≡ NotFinite →
-      SubstepFault NotFinite (b .card) (derived (b .card)) (saltAt (saltsOf (b .card))) (electricDrive (ledgerOf b) power target) (b .zones)
+      SubstepFault NotFinite (b .card) (derived (b .card)) (saltAt (saltsOf (b .card))) (electricInput (ledgerOf b) power target) (b .zones)
   unfolding chargeBattery chargeElectric electricEnded outcomeOf
   electric-23 power target h =
-      substep-fault (b .card) (derived (b .card)) (saltAt (saltsOf (b .card))) (electricDrive (ledgerOf b) power target) (b .zones) NotFinite some-not-finite (sym (fault-of-end _) ∙ h)
+      substep-fault (b .card) (derived (b .card)) (saltAt (saltsOf (b .card))) (electricInput (ledgerOf b) power target) (b .zones) NotFinite some-not-finite (sym (fault-of-end _) ∙ h)
 
-  loss-23 : endFault (batteryHeatLoss b .part .end) ≡ NotFinite → SubstepFault NotFinite (b .card) (derived (b .card)) (saltAt (saltsOf (b .card))) (lossDrive (b .card)) (b .zones)
+  loss-23 : endFault (batteryHeatLoss b .part .end) ≡ NotFinite → SubstepFault NotFinite (b .card) (derived (b .card)) (saltAt (saltsOf (b .card))) (lossInput (b .card)) (b .zones)
   unfolding batteryHeatLoss lossEnded outcomeOf
-  loss-23 h = substep-fault (b .card) (derived (b .card)) (saltAt (saltsOf (b .card))) (lossDrive (b .card)) (b .zones) NotFinite some-not-finite (sym (fault-of-end _) ∙ h)
+  loss-23 h = substep-fault (b .card) (derived (b .card)) (saltAt (saltsOf (b .card))) (lossInput (b .card)) (b .zones) NotFinite some-not-finite (sym (fault-of-end _) ∙ h)
 
 why-23 : (b : Battery) (call : Call) → Why 23 b call → NotFiniteFound b call
 why-23 b (DemandEnergy d) w = demand-23 b d w

@@ -18,13 +18,13 @@ use Rattle.battery.specs.declared.Answer.{Answer}
 use Rattle.battery.specs.Places.{SameAbove}
 use Rattle.battery.proofs.Zones.{same-above}
 use Rattle.runs.specs.Runs.{endRefusal}
-use Rattle.replies.specs.Replies.{checked, unlessRefused, runAnswer, chargedBattery, cooledBattery, closedBattery, chargedAnswer, cooledAnswer}
+use Rattle.engine_replies.specs.Replies.{checked, unlessRefused, runAnswer, chargedBattery, cooledBattery, closedBattery, chargedAnswer, cooledAnswer}
 use Rattle.runs.specs.declared.End.{End}
 use Rattle.runs.specs.declared.End.the-variants.{Done, Negative, Met, NoStep, Level, Limit, Time, OverBudget, NoLogarithm, NotFiniteRun}
 use Rattle.runs.specs.declared.Stopped.{Stopped}
 use Rattle.runs.specs.Zoned.{Zoned}
 
--- the battery c behind b: its card, its count and the places above the count
+-- the battery c after b: its card, its count and the places above the count
 pub record StateKept (b c : Battery) : Type 0 where
   pub card : c .card ≡ b .card
   pub count : c .count ≡ b .count

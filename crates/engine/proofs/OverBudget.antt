@@ -25,15 +25,15 @@ use Rattle.battery.specs.declared.Hydronic.{Hydronic}
 use Rattle.battery.specs.declared.Answer.{Answer}
 use Rattle.battery.specs.declared.Call.{Call}
 use Rattle.battery.specs.declared.Call.the-variants.{DemandEnergy, ChargeElectric, ChargeHydronic, HeatLoss, CloseTimestep, ReadStateOfCharge, ChargeEnergyDemand}
-use Rattle.battery.proofs.Answers.{plain-answers}
+use Rattle.battery.proofs.AnswerLaws.{plain-answers}
 use Rattle.runs.specs.declared.End.{End}
 use Rattle.runs.specs.Runs.{faultEnd, endRefusal}
-use Rattle.delivery.specs.Demand.{demandEnded}
+use Rattle.run_demand.specs.Demand.{demandEnded}
 use Rattle.runs.specs.Hydronic.{hydronicEnded, wholeSubsteps}
 use Rattle.runs.specs.Charge.{electricEnded, chargeElectric, hydronicTask, hydronicStart, chargeHydronic, chargeBattery, lossEnded, batteryHeatLoss, chargeEnergyDemand}
-use Rattle.totals.specs.Classes.{serviceClass, unserved}
-use Rattle.replies.specs.Replies.{checked, unlessRefused, demandStart, demandAnswer, chargedBattery, cooledBattery, closedBattery, chargedAnswer, cooledAnswer}
-use Rattle.replies.proofs.Settled.{run-answers, demand-answers}
+use Rattle.engine_replies.specs.Classes.{serviceClass, unserved}
+use Rattle.engine_replies.specs.Replies.{checked, unlessRefused, demandStart, demandAnswer, chargedBattery, cooledBattery, closedBattery, chargedAnswer, cooledAnswer}
+use Rattle.engine_replies.proofs.Settled.{run-answers, demand-answers}
 use Rattle.engine.specs.Steps.{demandRan, demandTask, demandFrom, demandGiven, demandEnergy, charge, heatLoss, level, readLevel, demandToLevel, wetSource, stepOf, wetOf}
 use Rattle.runs.specs.declared.Source.the-variants.{Electric}
 use Rattle.runs.specs.declared.End.the-variants.{OverBudget}

@@ -13,7 +13,7 @@ use Rattle.battery.specs.Places.{SameAbove}
 use Rattle.battery.specs.declared.Battery.{Battery}
 use Rattle.battery.specs.declared.Answer.{Answer}
 use Rattle.battery.proofs.Accepted.{accepted-battery, stays-good}
-use Rattle.battery.proofs.Answers.{finite-answer, refused-finite}
+use Rattle.battery.proofs.AnswerLaws.{finite-answer, refused-finite}
 use Rattle.battery.proofs.Zones.{same-above}
 use Rattle.engine.proofs.Outcomes.{Outcome, refused, answered}
 
@@ -49,9 +49,9 @@ module _ (b : Battery) (charges asks : Bool) (a : Answer) where
   outcome-finite (refused r low high e) h = let n = number r b a e in absurd (omega arith)
   outcome-finite (answered f k) h = f
 
-  pub outcome-asked : Outcome b charges asks a → asks ≡ true → a .battery ≡ b
-  outcome-asked (refused r low high e) h = refusal-line r b a e .battery
-  outcome-asked (answered f k) h = k .same h
+  pub outcome-operation : Outcome b charges asks a → asks ≡ true → a .battery ≡ b
+  outcome-operation (refused r low high e) h = refusal-line r b a e .battery
+  outcome-operation (answered f k) h = k .same h
 
   pub outcome-charged : Outcome b charges asks a → charges ≡ true → a .refusal ≡ 0 → a .battery .charged ≡ b .charged ⊕ a .energy
   outcome-charged (refused r low high e) h z = let n = number r b a e in absurd (omega arith)

@@ -19,15 +19,15 @@ use Rattle.battery.specs.declared.Demand.{Demand}
 use Rattle.battery.specs.declared.Answer.{Answer}
 use Rattle.battery.specs.declared.Call.{Call}
 use Rattle.battery.specs.declared.Call.the-variants.{DemandEnergy, ChargeElectric, ChargeHydronic, HeatLoss, CloseTimestep, ReadStateOfCharge, ChargeEnergyDemand}
-use Rattle.battery.proofs.Answers.{plain-answers}
+use Rattle.battery.proofs.AnswerLaws.{plain-answers}
 use Rattle.runs.specs.declared.End.{End}
 use Rattle.runs.specs.Runs.{endRefusal}
 use Rattle.runs.specs.Charge.{chargeBattery, batteryHeatLoss, chargeEnergyDemand}
 use Rattle.runs.specs.declared.Source.{Source}
 use Rattle.runs.specs.declared.Source.the-variants.{Electric}
-use Rattle.totals.specs.Classes.{serviceClass, unserved}
-use Rattle.replies.specs.Replies.{checked, unlessRefused, demandAnswer, chargedBattery, cooledBattery, closedBattery, chargedAnswer, cooledAnswer}
-use Rattle.replies.proofs.Settled.{run-answers, demand-answers}
+use Rattle.engine_replies.specs.Classes.{serviceClass, unserved}
+use Rattle.engine_replies.specs.Replies.{checked, unlessRefused, demandAnswer, chargedBattery, cooledBattery, closedBattery, chargedAnswer, cooledAnswer}
+use Rattle.engine_replies.proofs.Settled.{run-answers, demand-answers}
 use Rattle.engine.specs.Steps.{demandRan, demandFrom, demandGiven, demandEnergy, charge, heatLoss, level, readLevel, demandToLevel, wetSource, stepOf}
 use Rattle.engine.specs.Faults.{AnswerNotFinite, NoDemandNotFinite, LevelNotFinite}
 use Rattle.engine.proofs.Promises.{refused-number}

@@ -8,10 +8,10 @@ use Rattle.battery.specs.declared.Battery.{Battery}
 use Rattle.battery.specs.declared.Demand.{Demand}
 use Rattle.battery.specs.declared.Call.{Call}
 use Rattle.battery.specs.declared.Call.the-variants.{DemandEnergy, ChargeElectric, ChargeHydronic, HeatLoss, CloseTimestep, ReadStateOfCharge, ChargeEnergyDemand}
-use Rattle.call_ranges.specs.Call.{demandInRange, callInRange}
+use Rattle.battery.specs.Call.{demandInRange, callInRange}
 use Rattle.floats.specs.Constants.{zero}
 use Rattle.runs.specs.declared.Source.the-variants.{Electric}
-use Rattle.replies.specs.Replies.{closedBattery}
+use Rattle.engine_replies.specs.Replies.{closedBattery}
 use Rattle.engine.specs.Steps.{demandEnergy, level, wetSource, stepOf}
 use Rattle.engine.specs.Cases.{NoReturn, NoService, Case20, Case21, Runs, Case22, Case23, Case24, Case25}
 use Rattle.engine.proofs.DemandCases.{Late, DemandWay, late, twenty, twenty-one, demand-way, demand-20, demand-21, late-not, charge-late, loss-late, plain-late, level-late, to-level-late, required-above, above-required, class-zero, zero-class}

@@ -18,11 +18,11 @@ use Rattle.battery.specs.declared.Call.the-variants.{DemandEnergy, ReadStateOfC
 use Rattle.battery.specs.declared.Demand.{Demand}
 use Rattle.battery.specs.declared.Given.{Given}
 use Rattle.battery.proofs.Accepted.{accepted-battery}
-use Rattle.battery.proofs.Answers.{finite-answer}
+use Rattle.battery.proofs.AnswerLaws.{finite-answer}
 use Rattle.engine.specs.Steps.{stepOf}
 use Rattle.engine.proofs.Outcomes.{Outcome}
 use Rattle.engine.proofs.StepOutcomes.{step-outcome}
-use Rattle.engine.proofs.Promises.{outcome-refusals, outcome-refused, outcome-finite, outcome-asked, outcome-charged, outcome-uncharged, outcome-card, outcome-above, outcome-mark, outcome-count, outcome-good, outcome-all-finite}
+use Rattle.engine.proofs.Promises.{outcome-refusals, outcome-refused, outcome-finite, outcome-operation, outcome-charged, outcome-uncharged, outcome-card, outcome-above, outcome-mark, outcome-count, outcome-good, outcome-all-finite}
 
 module _ (version : ℕ) (b : Battery) (call : Call) where
   outcome : Outcome b (isCharge call) (onlyAsks call) (stepOf version b call)
@@ -52,7 +52,7 @@ module _ (version : ℕ) (b : Battery) (call : Call) where
 
   -- a trial, kind 6 and kind 7 keep the state
   pub asking-keeps-state : onlyAsks call ≡ true → stepOf version b call .battery ≡ b
-  asking-keeps-state = outcome-asked b (isCharge call) (onlyAsks call) (stepOf version b call) outcome
+  asking-keeps-state = outcome-operation b (isCharge call) (onlyAsks call) (stepOf version b call) outcome
 
   pub answered-finite : stepOf version b call .refusal ≡ 0 → answerFinite (stepOf version b call) ≡ true
   answered-finite = outcome-finite b (isCharge call) (onlyAsks call) (stepOf version b call) outcome

@@ -27,11 +27,11 @@ use Rattle.runs.specs.declared.Stopped.{Stopped}
 use Rattle.runs.specs.declared.Exchanger.{Exchanger}
 use Rattle.runs.specs.declared.Source.{Source}
 use Rattle.runs.specs.declared.Source.the-variants.{Electric, Wet}
-use Rattle.delivery.specs.Demand.{demandEnded}
+use Rattle.run_demand.specs.Demand.{demandEnded}
 use Rattle.runs.specs.Hydronic.{hydronicEnded, wholeSubsteps}
-use Rattle.runs.specs.Charge.{electricDrive, electricEnded, chargeElectric, hydronicTask, hydronicStart, chargeHydronic, chargeBattery, lossDrive, lossEnded, batteryHeatLoss, chargeEnergyDemand}
-use Rattle.totals.specs.Classes.{serviceClass, unserved}
-use Rattle.replies.specs.Replies.{demandStart, served, demandKept, demandAnswer, closedBattery, chargedAnswer, cooledAnswer}
+use Rattle.runs.specs.Charge.{electricInput, electricEnded, chargeElectric, hydronicTask, hydronicStart, chargeHydronic, chargeBattery, lossInput, lossEnded, batteryHeatLoss, chargeEnergyDemand}
+use Rattle.engine_replies.specs.Classes.{serviceClass, unserved}
+use Rattle.engine_replies.specs.Replies.{demandStart, served, demandKept, demandAnswer, closedBattery, chargedAnswer, cooledAnswer}
 use Rattle.runs.specs.Zoned.{Zoned, zoned}
 use Rattle.engine.specs.Steps.{demandRan, demandTask, demandFrom, demandGiven, demandEnergy, charge, heatLoss, level, readLevel, demandToLevel, wetSource, stepOf}
 use Rattle.engine.proofs.Ends.{demand-run-above, demand-run-count, hydronic-run-above, hydronic-run-count}
@@ -52,7 +52,7 @@ module _ (b : Battery) where
   electric-ended : (power target : Float) → EndedKept b (chargeElectric b power target)
   unfolding chargeElectric electricEnded
   electric-ended power target =
-      record { above = substep-above (b .card) (derived (b .card)) (saltAt (saltsOf (b .card))) (electricDrive (ledgerOf b) power target) (b .zones); substeps = λ h. h }
+      record { above = substep-above (b .card) (derived (b .card)) (saltAt (saltsOf (b .card))) (electricInput (ledgerOf b) power target) (b .zones); substeps = λ h. h }
 
   hydronic-ended : (wet : Exchanger) (target : Float) → EndedKept b (chargeHydronic b wet target)
   unfolding chargeHydronic hydronicEnded hydronicTask hydronicStart
@@ -70,7 +70,7 @@ module _ (b : Battery) where
 
   loss-ended : EndedKept b (batteryHeatLoss b)
   unfolding batteryHeatLoss lossEnded
-  loss-ended = record { above = substep-above (b .card) (derived (b .card)) (saltAt (saltsOf (b .card))) (lossDrive (b .card)) (b .zones); substeps = λ h. h }
+  loss-ended = record { above = substep-above (b .card) (derived (b .card)) (saltAt (saltsOf (b .card))) (lossInput (b .card)) (b .zones); substeps = λ h. h }
 
 module _ (b : Battery) (d : Demand) where
   demand-kept : (r : Zoned Stopped) → EndedKept b r → Kept b false (not (d .commit)) (demandAnswer b d r)

@@ -16,14 +16,14 @@ use Rattle.zone.specs.Good.{GoodSalt}
 use Rattle.zone.specs.Layer.{saltAt}
 use Rattle.card.specs.Derived.{saltsOf, derived}
 use Rattle.card.specs.Fits.{CardFits}
-use Rattle.ranges.specs.Ranges.{isPower}
+use Rattle.card.specs.Ranges.{isPower}
 use Rattle.card.proofs.Accepted.{accepted, accepted-layers}
 use Rattle.card.proofs.Salt.{salts-good}
 use Rattle.logic.proofs.Tests.{and-true, holds}
 use Rattle.card.proofs.Within.{power-nonneg}
 use Rattle.battery.specs.Answer.{refusedWith, answerFinite}
 use Rattle.battery.specs.Battery.{GoodBattery}
-use Rattle.call_ranges.specs.Call.{isLevel, callInRange}
+use Rattle.battery.specs.Call.{isLevel, callInRange}
 use Rattle.battery.specs.declared.Answer.{Answer}
 use Rattle.battery.specs.Ledger.{ledgerOf}
 use Rattle.battery.specs.declared.Battery.{Battery}
@@ -33,8 +33,8 @@ use Rattle.battery.proofs.Zones.{zones-finite-at}
 use Rattle.substep.proofs.Warmth.{losses-warm-none, charging-cools-none}
 use Rattle.runs.specs.declared.End.{End}
 use Rattle.runs.specs.Runs.{endRefusal, timeAvailable}
-use Rattle.runs.specs.Charge.{electricDrive, electricEnded, chargeElectric, chargeBattery, lossDrive, lossEnded, batteryHeatLoss}
-use Rattle.replies.specs.Replies.{checked, unlessRefused, runAnswer, chargedBattery, cooledBattery}
+use Rattle.runs.specs.Charge.{electricInput, electricEnded, chargeElectric, chargeBattery, lossInput, lossEnded, batteryHeatLoss}
+use Rattle.engine_replies.specs.Replies.{checked, unlessRefused, runAnswer, chargedBattery, cooledBattery}
 use Rattle.engine.specs.Steps.{charge, heatLoss, stepOf}
 use Rattle.engine.proofs.Losses.{seconds-nonneg, losses-nonneg, timestep-nonneg}
 use Rattle.runs.specs.declared.Source.the-variants.{Electric}
@@ -67,21 +67,21 @@ module _ (version : ℕ) (b : Battery) (g : GoodBattery version b) (f : CardFits
       le-refl t (finite-number t (finite64-finite t (finite i l)))
 
   pub loss-warms-none : (i : ℕ) → i < b .card .layers → T (le (getD (stepOf version b HeatLoss .battery .zones) i nan) (getD (b .zones) i nan))
-  unfolding stepOf heatLoss batteryHeatLoss lossEnded runAnswer cooledBattery refusedWith lossDrive ofBits
+  unfolding stepOf heatLoss batteryHeatLoss lossEnded runAnswer cooledBattery refusedWith lossInput ofBits
   loss-warms-none i l =
       let c = accepted version (b .card) (battery-accepted .card) in
       by-refusal (λ (a : Answer). T (le (getD (a .battery .zones) i nan) (getD (b .zones) i nan))) b (batteryHeatLoss b .part .end) _
-      (losses-warm-none (b .card) (derived (b .card)) (saltAt (saltsOf (b .card))) (lossDrive (b .card)) (b .zones) salts
+      (losses-warm-none (b .card) (derived (b .card)) (saltAt (saltsOf (b .card))) (lossInput (b .card)) (b .zones) salts
       (seconds-nonneg (b .card .timestep) (timestep-nonneg (b .card) (c .times))) places finite refl (neg-nonpos (b .card .losses) (losses-nonneg (b .card) (c .powers))) i l)
       (λ n. as-before i l)
 
   pub electric-cools-none :
       (power target : Float) → callInRange version (b .card) (ChargeElectric power target) ≡ true → (i : ℕ) → i < b .card .layers →
       T (le (getD (b .zones) i nan) (getD (stepOf version b (ChargeElectric power target) .battery .zones) i nan))
-  unfolding stepOf charge chargeBattery chargeElectric electricEnded runAnswer chargedBattery refusedWith electricDrive callInRange ofBits
+  unfolding stepOf charge chargeBattery chargeElectric electricEnded runAnswer chargedBattery refusedWith electricInput callInRange ofBits
   electric-cools-none power target h i l =
       by-refusal (λ (a : Answer). T (le (getD (b .zones) i nan) (getD (a .battery .zones) i nan))) b (chargeBattery b (Electric power) target .part .end) _
-      (charging-cools-none (b .card) (derived (b .card)) (saltAt (saltsOf (b .card))) (electricDrive (ledgerOf b) power target) (b .zones) salts
+      (charging-cools-none (b .card) (derived (b .card)) (saltAt (saltsOf (b .card))) (electricInput (ledgerOf b) power target) (b .zones) salts
       (seconds-nonneg (maxZero (timeAvailable (ledgerOf b) zero)) (max-zero-nonneg (timeAvailable (ledgerOf b) zero))) places finite refl
       (power-nonneg power (and-true (isPower power) (isLevel target) h .0)) i l)
       (λ n. as-before i l)

@@ -26,36 +26,36 @@ pub record NoService (d : Demand) : Type 0 where
   pub combi : d .service ≡ 0
 
 abbrev pub Case20 : Battery → Call → Type 0
-Case20 b (DemandEnergy d) = NoReturn d
-Case20 b (ChargeElectric power target) = ⊥
-Case20 b (ChargeHydronic h) = ⊥
-Case20 b HeatLoss = ⊥
-Case20 b CloseTimestep = ⊥
-Case20 b ReadStateOfCharge = ⊥
-Case20 b (ChargeEnergyDemand most target) = ⊥
+Case20 battery (DemandEnergy d) = NoReturn d
+Case20 battery (ChargeElectric power target) = ⊥
+Case20 battery (ChargeHydronic h) = ⊥
+Case20 battery HeatLoss = ⊥
+Case20 battery CloseTimestep = ⊥
+Case20 battery ReadStateOfCharge = ⊥
+Case20 battery (ChargeEnergyDemand most target) = ⊥
 
 abbrev pub Case21 : Battery → Call → Type 0
-Case21 b (DemandEnergy d) = NoService d
-Case21 b (ChargeElectric power target) = ⊥
-Case21 b (ChargeHydronic h) = ⊥
-Case21 b HeatLoss = ⊥
-Case21 b CloseTimestep = ⊥
-Case21 b ReadStateOfCharge = ⊥
-Case21 b (ChargeEnergyDemand most target) = ⊥
+Case21 battery (DemandEnergy d) = NoService d
+Case21 battery (ChargeElectric power target) = ⊥
+Case21 battery (ChargeHydronic h) = ⊥
+Case21 battery HeatLoss = ⊥
+Case21 battery CloseTimestep = ⊥
+Case21 battery ReadStateOfCharge = ⊥
+Case21 battery (ChargeEnergyDemand most target) = ⊥
 
 -- neither 20 nor 21, which stand 'before the first substep'
 abbrev pub Runs : Battery → Call → Type 0
-Runs b call = (Case20 b call → ⊥) × (Case21 b call → ⊥)
+Runs battery call = (Case20 battery call → ⊥) × (Case21 battery call → ⊥)
 
--- 'The first to occur is given': each of these names the place of the run at which it occurs, or an answer behind a run to its end
+-- 'The first to occur is given': each of these names the place of the run at which it occurs, or an answer after a run to its end
 abbrev pub Case22 : Battery → Call → Type 0
-Case22 b call = Runs b call × BudgetUsed b call
+Case22 battery call = Runs battery call × BudgetUsed battery call
 
 abbrev pub Case23 : Battery → Call → Type 0
-Case23 b call = Runs b call × NotFiniteFound b call
+Case23 battery call = Runs battery call × NotFiniteFound battery call
 
 abbrev pub Case24 : Battery → Call → Type 0
-Case24 b call = Runs b call × NoLogarithmTaken b call
+Case24 battery call = Runs battery call × NoLogarithmTaken battery call
 
 abbrev pub Case25 : Battery → Call → Type 0
-Case25 b call = Runs b call × OverFull b call
+Case25 battery call = Runs battery call × OverFull battery call

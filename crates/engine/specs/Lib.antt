@@ -1,5 +1,5 @@
 pub mod Steps
-pub mod Asked
+pub mod Operations
 pub mod Budget
 pub mod Faults
 pub mod Cases

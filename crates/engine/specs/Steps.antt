@@ -13,7 +13,7 @@ use Rattle.zone.specs.declared.StateOfCharge.the-variants.{Level, Above}
 use Rattle.card.specs.Derived.{saltsOf, storedMaximum, derived}
 use Rattle.card.specs.declared.Card.{Card}
 use Rattle.battery.specs.Battery.{batteryAccepted}
-use Rattle.call_ranges.specs.Call.{callInRange}
+use Rattle.battery.specs.Call.{callInRange}
 use Rattle.battery.specs.Answer.{refusedWith, plainAnswer}
 use Rattle.battery.specs.Ledger.{ledgerOf}
 use Rattle.battery.specs.declared.Battery.{Battery}
@@ -28,100 +28,100 @@ use Rattle.battery.specs.declared.Answer.{Answer}
 use Rattle.runs.specs.declared.Exchanger.{Exchanger}
 use Rattle.runs.specs.declared.Source.{Source}
 use Rattle.runs.specs.declared.Source.the-variants.{Electric, Wet}
-use Rattle.delivery.specs.declared.DemandTask.{DemandTask}
-use Rattle.delivery.specs.declared.PaceEnd.{PaceEnd}
+use Rattle.run_demand.specs.declared.DemandTask.{DemandTask}
+use Rattle.run_demand.specs.declared.DemandEnd.{DemandEnd}
 use Rattle.runs.specs.declared.Stopped.{Stopped}
 use Rattle.runs.specs.Runs.{timeAvailable}
-use Rattle.delivery.specs.Demand.{demandRun, demandEnded}
+use Rattle.run_demand.specs.Demand.{demandRun, demandEnded}
 use Rattle.runs.specs.Charge.{chargeBattery, batteryHeatLoss, chargeEnergyDemand}
-use Rattle.totals.specs.Classes.{serviceClass, unserved}
-use Rattle.replies.specs.Replies.{checked, unlessRefused, unitsOf, demandStart, demandAnswer, chargedAnswer, cooledAnswer, closedBattery}
+use Rattle.engine_replies.specs.Classes.{serviceClass, unserved}
+use Rattle.engine_replies.specs.Replies.{checked, unlessRefused, unitsOf, demandStart, demandAnswer, chargedAnswer, cooledAnswer, closedBattery}
 use Rattle.runs.specs.Zoned.{Zoned, zoned, onPart}
 
 -- '`electric_charge`: the card's power where the call's control flag is 1, else 0', where the card charges during a demand
 unfoldable pub demandPower : Card → Bool → Float
-demandPower c control = cond (eqb (c .simultaneous) 1 && control) (c .power) zero
+demandPower card control = cond (eqb (card .simultaneous) 1 && control) (card .power) zero
 
 unfoldable pub demandTask : Ledger → Demand → Float → DemandTask
-demandTask l d feed =
+demandTask ledger d feed =
     record {
-      card = l .card;
-      pcm = derived (l .card);
+      card = ledger .card;
+      pcm = derived (ledger .card);
       feed = feed;
-      power = demandPower (l .card) (d .control);
-      demand = kwh (d .required ⊘ unitsOf (l .card));
-      seconds = timeAvailable l (d .start) ⊗ hour;
+      power = demandPower (ledger .card) (d .control);
+      demand = kwh (d .required ⊘ unitsOf (ledger .card));
+      seconds = timeAvailable ledger (d .start) ⊗ hour;
     }
 
 -- a demand's substeps, what they hand out, and the answer
-abbrev pub demandRunOf : Battery → Demand → Float → Zoned PaceEnd
-demandRunOf b d feed = demandRun (demandTask (ledgerOf b) d feed) (saltAt (saltsOf (b .card))) (b .card .budget) 0 (zoned (demandStart (ledgerOf b)) (b .zones))
+abbrev pub demandRunOf : Battery → Demand → Float → Zoned DemandEnd
+demandRunOf battery demand feed = demandRun (demandTask (ledgerOf battery) demand feed) (saltAt (saltsOf (battery .card))) (battery .card .budget) 0 (zoned (demandStart (ledgerOf battery)) (battery .zones))
 
 abbrev pub demandRan : Battery → Demand → Float → Zoned Stopped
-demandRan b d feed = onPart demandEnded (demandRunOf b d feed)
+demandRan battery demand feed = onPart demandEnded (demandRunOf battery demand feed)
 
 abbrev pub demandAnswered : Battery → Demand → Float → Answer
-demandAnswered b d feed = unlessRefused b (demandRan b d feed .part .end) (demandAnswer b d (demandRan b d feed))
+demandAnswered battery demand feed = unlessRefused battery (demandRan battery demand feed .part .end) (demandAnswer battery demand (demandRan battery demand feed))
 
 -- '21 committed, required above 1e-10, service type 0', before the first substep
 unfoldable pub demandFrom : Battery → Demand → Float → Answer
-demandFrom b d feed = cond (d .commit && unserved (serviceClass (b .card) (d .service))) (refusedWith noService b) (demandAnswered b d feed)
+demandFrom battery demand feed = cond (demand .commit && unserved (serviceClass (battery .card) (demand .service))) (refusedWith noService battery) (demandAnswered battery demand feed)
 
 -- '20 required above 1e-10 without return temperature'
 unfoldable pub demandGiven : Battery → Demand → Given → Answer
-demandGiven b d Absent = refusedWith noReturn b
-demandGiven b d (Value feed) = demandFrom b d feed
+demandGiven battery demand Absent = refusedWith noReturn battery
+demandGiven battery demand (Value feed) = demandFrom battery demand feed
 
 -- `demand_energy`: 'Required at most 1e-10 answers 0 with no substep'
 unfoldable pub demandEnergy : Battery → Demand → Answer
-demandEnergy b d = cond (le (d .required) tolerance) (checked b (plainAnswer zero b)) (demandGiven b d (d .feed))
+demandEnergy battery demand = cond (le (demand .required) tolerance) (checked battery (plainAnswer zero battery)) (demandGiven battery demand (demand .feed))
 
 unfoldable pub charge : Battery → Source → Float → Answer
-charge b source target =
-    let r = chargeBattery b source target in
-    unlessRefused b (r .part .end) (chargedAnswer b r)
+charge battery source target =
+    let r = chargeBattery battery source target in
+    unlessRefused battery (r .part .end) (chargedAnswer battery r)
 
 unfoldable pub heatLoss : Battery → Answer
-heatLoss b =
-    let r = batteryHeatLoss b in
-    unlessRefused b (r .part .end) (cooledAnswer b r)
+heatLoss battery =
+    let r = batteryHeatLoss battery in
+    unlessRefused battery (r .part .end) (cooledAnswer battery r)
 
 -- kind 5: 'the three running times become 0'
 abbrev pub closed : Battery → Answer
-closed b = checked b (plainAnswer zero (closedBattery b))
+closed battery = checked battery (plainAnswer zero (closedBattery battery))
 
 unfoldable pub level : Battery → StateOfCharge
-level b = stateOfCharge (saltAt (saltsOf (b .card))) (b .card .reference) (storedMaximum (saltsOf (b .card)) (b .card)) (b .zones) (b .card .layers)
+level battery = stateOfCharge (saltAt (saltsOf (battery .card))) (battery .card .reference) (storedMaximum (saltsOf (battery .card)) (battery .card)) (battery .zones) (battery .card .layers)
 
 -- kind 6: '25 state of charge above 1.0 + 1e-10'
 unfoldable pub readLevel : Battery → StateOfCharge → Answer
-readLevel b Above = refusedWith overFull b
-readLevel b (Level soc) = checked b (plainAnswer soc b)
+readLevel battery Above = refusedWith overFull battery
+readLevel battery (Level soc) = checked battery (plainAnswer soc battery)
 
 -- kind 7
 unfoldable pub demandToLevel : Battery → Given → Float → StateOfCharge → Answer
-demandToLevel b most target Above = refusedWith overFull b
-demandToLevel b most target (Level soc) = checked b (plainAnswer (chargeEnergyDemand (b .card) most target soc .0) b)
+demandToLevel battery most target Above = refusedWith overFull battery
+demandToLevel battery most target (Level soc) = checked battery (plainAnswer (chargeEnergyDemand (battery .card) most target soc .0) battery)
 
 -- a hydronic call as a wet source
 abbrev pub wetOf : Hydronic → Exchanger
-wetOf h = record { inlet = h .inlet; hours = h .hours; flow = h .flow; limit = h .limit; a = h .a; b = h .b; velocity = h .velocity; diameter = h .diameter }
+wetOf call = record { inlet = call .inlet; hours = call .hours; flow = call .flow; limit = call .limit; a = call .a; b = call .b; velocity = call .velocity; diameter = call .diameter }
 
 unfoldable pub wetSource : Hydronic → Source
-wetSource h = Wet (wetOf h)
+wetSource call = Wet (wetOf call)
 
 -- 'Kind 1 is `demand_energy`, 2 `charge_battery_electric`, 3 `charge_battery_hydronic`, 4 `battery_heat_loss`, 6 `calc_state_of_charge`,
 -- 7 `calculate_charge_energy_demand` ..; 5 sets the running times to 0'
 unfoldable pub stepOf : ℕ → Battery → Call → Answer
-stepOf version b (DemandEnergy d) = demandEnergy b d
-stepOf version b (ChargeElectric power target) = charge b (Electric power) target
-stepOf version b (ChargeHydronic h) = charge b (wetSource h) (h .target)
-stepOf version b HeatLoss = heatLoss b
-stepOf version b CloseTimestep = closed b
-stepOf version b ReadStateOfCharge = readLevel b (level b)
-stepOf version b (ChargeEnergyDemand most target) = demandToLevel b most target (level b)
+stepOf version battery (DemandEnergy d) = demandEnergy battery d
+stepOf version battery (ChargeElectric power target) = charge battery (Electric power) target
+stepOf version battery (ChargeHydronic h) = charge battery (wetSource h) (h .target)
+stepOf version battery HeatLoss = heatLoss battery
+stepOf version battery CloseTimestep = closed battery
+stepOf version battery ReadStateOfCharge = readLevel battery (level battery)
+stepOf version battery (ChargeEnergyDemand most target) = demandToLevel battery most target (level battery)
 
 -- a call on any battery whatsoever: 10, or the steps
 unfoldable pub advanceOf : ℕ → Battery → Call → Answer
-advanceOf version b call =
-    cond (batteryAccepted version b && callInRange version (b .card) call) (stepOf version b call) (refusedWith badCall b)
+advanceOf version battery call =
+    cond (batteryAccepted version battery && callInRange version (battery .card) call) (stepOf version battery call) (refusedWith badCall battery)

@@ -4,7 +4,7 @@ use battery::Given;
 use battery::Ledger;
 use battery::Reply;
 use card::Card;
-use delivery::DemandTask;
+use run_demand::DemandTask;
 use runs::Stopped;
 use zone::KilowattHours;
 ghost use mathlib.Core.Path.{_≡_};
@@ -32,7 +32,7 @@ fn demand_task(l: Ledger, d: Demand, feed: f64) -> DemandTask
     ensures { λ r. ⌜ r ≡ demandTask l d feed ⌝ }
 {
     let card = l.card;
-    let pcm = pcm::derived(card);
+    let pcm = card::pcm::derived(card);
     let power = demand_power(card, d.control);
     let units = card.units as f64;
     let hours = runs::time_available(l, d.start);
@@ -60,9 +60,9 @@ fn demand_stopped(
 {
     let card = l.card;
     let task = demand_task(l, d, feed);
-    let start = replies::demand_start(l);
-    let e = delivery::demand_run(task, salts, step, card.budget, start, zones);
-    delivery::demand_ended(e)
+    let start = engine_replies::demand_start(l);
+    let e = run_demand::demand_run(task, salts, step, card.budget, start, zones);
+    run_demand::demand_ended(e)
 }
 
 // On the battery's own zones.
@@ -79,11 +79,11 @@ fn committed(
 {
     let s = demand_stopped(l, salts, step, d, feed, zones);
     let card = l.card;
-    let class = totals::service_class(card, d.service);
-    let totals = totals::served_totals(l, class, s);
-    let a = replies::demand_reply(l, s, totals);
+    let class = engine_replies::totals::service_class(card, d.service);
+    let totals = engine_replies::totals::served_totals(l, class, s);
+    let a = engine_replies::demand_reply(l, s, totals);
     let end = s.end;
-    replies::unless_refused(end, a)
+    engine_replies::unless_refused(end, a)
 }
 
 // On a copy of the zones.
@@ -94,9 +94,9 @@ fn trial(l: Ledger, salts: &[f64], step: usize, d: Demand, feed: f64, zones: &[f
     let mut own = *zones;
     let s = demand_stopped(l, salts, step, d, feed, &mut own);
     let totals = l.totals;
-    let a = replies::demand_reply(l, s, totals);
+    let a = engine_replies::demand_reply(l, s, totals);
     let end = s.end;
-    replies::unless_refused(end, a)
+    engine_replies::unless_refused(end, a)
 }
 
 fn demand_from(
@@ -111,9 +111,9 @@ fn demand_from(
     ensures { λ r. ⌜ settled l (now (zones .entry)) r (now (zones .exit)) ≡ demandFrom (whole l (now (zones .entry))) d feed ⌝ }
 {
     let card = l.card;
-    let class = totals::service_class(card, d.service);
-    if logic::both(d.commit, totals::unserved(class)) {
-        return answers::refused_reply(refusals::NO_SERVICE);
+    let class = engine_replies::totals::service_class(card, d.service);
+    if logic::both(d.commit, engine_replies::totals::unserved(class)) {
+        return battery::answers::refused_reply(refusals::NO_SERVICE);
     }
     if d.commit {
         return committed(l, salts, step, d, feed, zones);
@@ -133,7 +133,7 @@ fn demand_given(
     ensures { λ r. ⌜ settled l (now (zones .entry)) r (now (zones .exit)) ≡ demandGiven (whole l (now (zones .entry))) d given ⌝ }
 {
     match given {
-        Given::Absent => answers::refused_reply(refusals::NO_RETURN),
+        Given::Absent => battery::answers::refused_reply(refusals::NO_RETURN),
         Given::Value(feed) => demand_from(l, salts, step, d, feed, zones),
     }
 }
@@ -150,8 +150,8 @@ pub fn demand_energy(
 {
     if d.required <= floats::TOLERANCE {
         let totals = l.totals;
-        let a = answers::plain_reply(0.0, totals);
-        return replies::checked(l, a, zones);
+        let a = battery::answers::plain_reply(0.0, totals);
+        return engine_replies::checked(l, a, zones);
     }
     let given = d.feed;
     demand_given(l, salts, step, d, given, zones)

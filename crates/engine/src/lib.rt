@@ -7,7 +7,7 @@ use battery::Given;
 use runs::Source;
 
 // What a call asks: its kind, the charges by their source.
-pub enum Asked {
+pub enum Operation {
     DemandEnergy(Demand),
     // source, target
     Charge(Source, f64),

@@ -1,6 +1,6 @@
 // Document 01's steps: what each kind of call answers, and the battery that it leaves. The zones stay where they lie; a refused call may leave
 // any there, and its answer shows the battery as it was.
-use crate::Asked;
+use crate::Operation;
 use crate::demand;
 use battery::Answer;
 use battery::Battery;
@@ -22,8 +22,8 @@ ghost use Rattle.battery.specs.Battery.{zonesFinite, batteryAccepted};
 ghost use Rattle.battery.specs.Answer.{settled};
 ghost use Rattle.battery.specs.Ledger.{whole};
 ghost use Rattle.substep.specs.Substep.{chargerHeat};
-ghost use Rattle.runs.specs.Charge.{lossDrive};
-ghost use Rattle.engine.specs.Asked.{askedOf, askedStep};
+ghost use Rattle.runs.specs.Charge.{lossInput};
+ghost use Rattle.engine.specs.Operations.{operationOf, operationStep};
 ghost use Rattle.engine.specs.Steps.{charge as chargeOf, heatLoss, closed, level as levelOf, readLevel, demandToLevel, wetSource, advanceOf};
 
 fn charge(
@@ -37,22 +37,22 @@ fn charge(
     requires { ⌜ (l .card .layers ≤ 64) × SaltsLent (l .card) (now salts) step × (zonesFinite (now zones) (l .card .layers) ≡ true) ⌝ }
     ensures { λ r. ⌜ settled l (now (zones .entry)) r (now (zones .exit)) ≡ chargeOf (whole l (now (zones .entry))) source target ⌝ }
 {
-    let s = charges::charge_battery(l, salts, step, source, target, zones);
-    let totals = totals::charged_totals(l, s);
-    let a = replies::run_reply(s, totals);
+    let s = run_charges::charge_battery(l, salts, step, source, target, zones);
+    let totals = engine_replies::totals::charged_totals(l, s);
+    let a = engine_replies::run_reply(s, totals);
     let end = s.end;
-    replies::unless_refused(end, a)
+    engine_replies::unless_refused(end, a)
 }
 
 fn heat_loss(l: Ledger, salts: &[f64], step: usize, zones: &mut [f64; 64]) -> Reply
-    requires { ⌜ (l .card .layers ≤ 64) × SaltsLent (l .card) (now salts) step × (lt (chargerHeat (lossDrive (l .card)) .0) zero ≡ false) ⌝ }
+    requires { ⌜ (l .card .layers ≤ 64) × SaltsLent (l .card) (now salts) step × (lt (chargerHeat (lossInput (l .card)) .0) zero ≡ false) ⌝ }
     ensures { λ r. ⌜ settled l (now (zones .entry)) r (now (zones .exit)) ≡ heatLoss (whole l (now (zones .entry))) ⌝ }
 {
-    let s = charges::battery_heat_loss(l, salts, step, zones);
+    let s = run_charges::battery_heat_loss(l, salts, step, zones);
     let totals = l.totals;
-    let a = replies::run_reply(s, totals);
+    let a = engine_replies::run_reply(s, totals);
     let end = s.end;
-    replies::unless_refused(end, a)
+    engine_replies::unless_refused(end, a)
 }
 
 fn level(l: Ledger, salts: &[f64], step: usize, zones: &[f64; 64]) -> StateOfCharge
@@ -60,7 +60,7 @@ fn level(l: Ledger, salts: &[f64], step: usize, zones: &[f64; 64]) -> StateOfCha
     ensures { λ r. ⌜ r ≡ levelOf (whole l (now (zones .entry))) ⌝ }
 {
     let card = l.card;
-    let stored = pcm::energy_at(card, salts, step, card.max);
+    let stored = card::pcm::energy_at(card, salts, step, card.max);
     let n = card.layers as usize;
     let own = *zones;
     zone::layer::calc_state_of_charge(salts, step, card.reference, stored, own, n)
@@ -71,11 +71,11 @@ fn read_level(l: Ledger, level: StateOfCharge, zones: &[f64; 64]) -> Reply
     ensures { λ r. ⌜ settled l (now (zones .entry)) r (now (zones .entry)) ≡ readLevel (whole l (now (zones .entry))) level ⌝ }
 {
     match level {
-        StateOfCharge::Above => answers::refused_reply(refusals::OVER_FULL),
+        StateOfCharge::Above => battery::answers::refused_reply(refusals::OVER_FULL),
         StateOfCharge::Level(soc) => {
             let totals = l.totals;
-            let a = answers::plain_reply(soc, totals);
-            replies::checked(l, a, zones)
+            let a = battery::answers::plain_reply(soc, totals);
+            engine_replies::checked(l, a, zones)
         }
     }
 }
@@ -93,12 +93,19 @@ fn demand_to_level(
     ensures { λ r. ⌜ settled l (now (zones .entry)) r (now (zones .entry)) ≡ demandToLevel (whole l (now (zones .entry))) most target level ⌝ }
 {
     match level {
-        StateOfCharge::Above => answers::refused_reply(refusals::OVER_FULL),
+        StateOfCharge::Above => battery::answers::refused_reply(refusals::OVER_FULL),
         StateOfCharge::Level(soc) => {
-            let energy = charges::calculate_charge_energy_demand(l, salts, step, most, target, soc);
+            let energy = run_charges::calculate_charge_energy_demand(
+                l,
+                salts,
+                step,
+                most,
+                target,
+                soc,
+            );
             let totals = l.totals;
-            let a = answers::plain_reply(energy.0, totals);
-            replies::checked(l, a, zones)
+            let a = battery::answers::plain_reply(energy.0, totals);
+            engine_replies::checked(l, a, zones)
         }
     }
 }
@@ -120,20 +127,20 @@ fn wet_source(h: Hydronic) -> Source
 }
 
 // What the call asks.
-fn asked(call: Call) -> Asked
-    ensures { λ r. ⌜ r ≡ askedOf call ⌝ }
+fn operation(call: Call) -> Operation
+    ensures { λ r. ⌜ r ≡ operationOf call ⌝ }
 {
     match call {
-        Call::DemandEnergy(d) => Asked::DemandEnergy(d),
-        Call::ChargeElectric(power, target) => Asked::Charge(Source::Electric(power), target),
+        Call::DemandEnergy(d) => Operation::DemandEnergy(d),
+        Call::ChargeElectric(power, target) => Operation::Charge(Source::Electric(power), target),
         Call::ChargeHydronic(h) => {
             let source = wet_source(h);
-            Asked::Charge(source, h.target)
+            Operation::Charge(source, h.target)
         }
-        Call::HeatLoss => Asked::HeatLoss,
-        Call::CloseTimestep => Asked::CloseTimestep,
-        Call::ReadStateOfCharge => Asked::ReadStateOfCharge,
-        Call::ChargeEnergyDemand(most, target) => Asked::ChargeEnergyDemand(most, target),
+        Call::HeatLoss => Operation::HeatLoss,
+        Call::CloseTimestep => Operation::CloseTimestep,
+        Call::ReadStateOfCharge => Operation::ReadStateOfCharge,
+        Call::ChargeEnergyDemand(most, target) => Operation::ChargeEnergyDemand(most, target),
     }
 }
 
@@ -141,9 +148,9 @@ fn close_timestep(l: Ledger, zones: &[f64; 64]) -> Reply
     requires { ⌜ l .card .layers ≤ 64 ⌝ }
     ensures { λ r. ⌜ settled l (now (zones .entry)) r (now (zones .entry)) ≡ closed (whole l (now (zones .entry))) ⌝ }
 {
-    let totals = totals::closed_totals(l);
-    let a = answers::plain_reply(0.0, totals);
-    replies::checked(l, a, zones)
+    let totals = engine_replies::totals::closed_totals(l);
+    let a = battery::answers::plain_reply(0.0, totals);
+    engine_replies::checked(l, a, zones)
 }
 
 fn state_of_charge(l: Ledger, salts: &[f64], step: usize, zones: &[f64; 64]) -> Reply
@@ -170,17 +177,23 @@ fn charge_energy_demand(
 }
 
 // The electric and the wet charge are one call of `charge`, so that one copy of it is compiled, in place.
-fn asked_step(l: Ledger, salts: &[f64], step: usize, what: Asked, zones: &mut [f64; 64]) -> Reply
-    requires { ⌜ (l .card .layers ≤ 64) × SaltsLent (l .card) (now salts) step × (zonesFinite (now zones) (l .card .layers) ≡ true) × (lt (chargerHeat (lossDrive (l .card)) .0) zero ≡ false) ⌝ }
-    ensures { λ r. ⌜ settled l (now (zones .entry)) r (now (zones .exit)) ≡ askedStep (whole l (now (zones .entry))) what ⌝ }
+fn operation_step(
+    l: Ledger,
+    salts: &[f64],
+    step: usize,
+    what: Operation,
+    zones: &mut [f64; 64],
+) -> Reply
+    requires { ⌜ (l .card .layers ≤ 64) × SaltsLent (l .card) (now salts) step × (zonesFinite (now zones) (l .card .layers) ≡ true) × (lt (chargerHeat (lossInput (l .card)) .0) zero ≡ false) ⌝ }
+    ensures { λ r. ⌜ settled l (now (zones .entry)) r (now (zones .exit)) ≡ operationStep (whole l (now (zones .entry))) what ⌝ }
 {
     match what {
-        Asked::DemandEnergy(d) => demand::demand_energy(l, salts, step, d, zones),
-        Asked::Charge(source, target) => charge(l, salts, step, source, target, zones),
-        Asked::HeatLoss => heat_loss(l, salts, step, zones),
-        Asked::CloseTimestep => close_timestep(l, zones),
-        Asked::ReadStateOfCharge => state_of_charge(l, salts, step, zones),
-        Asked::ChargeEnergyDemand(most, target) => {
+        Operation::DemandEnergy(d) => demand::demand_energy(l, salts, step, d, zones),
+        Operation::Charge(source, target) => charge(l, salts, step, source, target, zones),
+        Operation::HeatLoss => heat_loss(l, salts, step, zones),
+        Operation::CloseTimestep => close_timestep(l, zones),
+        Operation::ReadStateOfCharge => state_of_charge(l, salts, step, zones),
+        Operation::ChargeEnergyDemand(most, target) => {
             charge_energy_demand(l, salts, step, most, target, zones)
         }
     }
@@ -199,11 +212,11 @@ pub fn advance_accepted(
     ensures { λ r. ⌜ settled l (now (zones .entry)) r (now (zones .exit)) ≡ advanceOf version (whole l (now (zones .entry))) call ⌝ }
 {
     let card = l.card;
-    if call_ranges::call_in_range(version, card, call) {
-        let what = asked(call);
-        return asked_step(l, salts, step, what, zones);
+    if battery::call_ranges::call_in_range(version, card, call) {
+        let what = operation(call);
+        return operation_step(l, salts, step, what, zones);
     }
-    answers::refused_reply(refusals::BAD_CALL)
+    battery::answers::refused_reply(refusals::BAD_CALL)
 }
 
 // A call on any battery whatsoever: 10 where it is not accepted.
@@ -221,7 +234,7 @@ pub fn advance_in_place(
     if battery::is_accepted(version, l, zones) {
         return advance_accepted(version, l, salts, step, call, zones);
     }
-    answers::refused_reply(refusals::BAD_CALL)
+    battery::answers::refused_reply(refusals::BAD_CALL)
 }
 
 // A call on an accepted battery by value.
@@ -230,7 +243,7 @@ pub fn advance(version: u8, b: Battery, call: Call) -> Answer
     ensures { λ r. ⌜ r ≡ advanceOf version b call ⌝ }
 {
     let l = battery::ledger_of(b);
-    let salts = pcm::figures_of(b.card);
+    let salts = card::pcm::figures_of(b.card);
     let mut zones = b.zones;
     let a = advance_accepted(version, l, &salts, 0, call, &mut zones);
     if a.refusal == 0 {
@@ -255,5 +268,5 @@ pub fn advance(version: u8, b: Battery, call: Call) -> Answer
             battery,
         };
     }
-    answers::refused(a.refusal, b)
+    battery::answers::refused(a.refusal, b)
 }

@@ -1,4 +1,6 @@
 // Document 01's stand-ins on f64. The definitions are in specs/, the laws of rounding in proofs/.
+pub mod bits;
+
 ghost use mathlib.Core.Path.{_≡_};
 ghost use mathlib.Core.Bool.{_&&_};
 ghost use Prim.Native.Nat.{_≤_};

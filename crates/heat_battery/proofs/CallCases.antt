@@ -13,23 +13,23 @@ use Rattle.battery.specs.declared.Battery.{Battery}
 use Rattle.battery.specs.declared.Call.{Call}
 use Rattle.battery.specs.declared.Answer.{Answer}
 use Rattle.battery.specs.Battery.{batteryAccepted}
-use Rattle.call_ranges.specs.Call.{callInRange}
+use Rattle.battery.specs.Call.{callInRange}
 use Rattle.battery.specs.Answer.{refusedWith}
 use Rattle.engine.specs.Steps.{stepOf, advanceOf}
-use Rattle.records.specs.Cards.{cardAt}
-use Rattle.records.specs.Records.{recordOf}
-use Rattle.calls.specs.Calls.{callOf}
-use Rattle.sheet.specs.Lines.{lineSize, lineBytes}
+use Rattle.sheet_records.specs.Cards.{cardAt}
+use Rattle.sheet_records.specs.Records.{recordOf}
+use Rattle.sheet_calls.specs.Calls.{callOf}
+use Rattle.sheet_lines.specs.Lines.{lineSize, lineBytes}
 use Rattle.codec.specs.Bytes.{over}
 use borrow.Author.Tests.{ne-eqb}
-use Rattle.calls.specs.declared.ReadCall.{ReadCall}
-use Rattle.calls.specs.declared.ReadCall.the-variants.{Good, Bad}
-use Rattle.calls.proofs.CallLaws.{same-call, no-call}
-use Rattle.calls.proofs.CallExact.{call-laid, laid-call}
-use Rattle.entry.specs.Entry.{After, unchanged, renewed, entered, lineAfter, recordLaid}
+use Rattle.sheet_calls.specs.declared.ReadCall.{ReadCall}
+use Rattle.sheet_calls.specs.declared.ReadCall.the-variants.{Good, Bad}
+use Rattle.sheet_calls.proofs.CallLaws.{same-call, no-call}
+use Rattle.sheet_calls.proofs.CallExact.{call-laid, laid-call}
+use Rattle.entries.specs.Entry.{After, unchanged, renewed, entered, lineAfter, recordLaid}
 use Rattle.heat_battery.specs.Entries.{entryOf}
 use Rattle.heat_battery.specs.Cases.{GoodRecord, GoodCall, CallCase10, bad-record, bad-call, CallCase11, GetsLine}
-use Rattle.entry.proofs.Entering.{LaidRecord, record-laid, laid-record, line-ten, line-room, line-entered, code-of, unchanged-by}
+use Rattle.entries.proofs.Entering.{LaidRecord, record-laid, laid-record, line-ten, line-room, line-entered, code-of, unchanged-by}
 use Rattle.heat_battery.proofs.Calling.{entry-unlaid, entry-bad, entry-read}
 use Rattle.heat_battery.proofs.Finite.{record-card, accepted-good, good-accepted}
 use Rattle.engine.proofs.StepKeeps.{step-refusals, step-keeps-card, refused-line}

@@ -6,17 +6,17 @@ use mathlib.Core.Bool.{true}
 use Prim.Native.Nat.{ℕ, _≤_}
 use native.Mathlib.Omega.{arith}
 use Rattle.card.specs.declared.Card.{Card}
-use Rattle.call_ranges.specs.Call.{callInRange}
+use Rattle.battery.specs.Call.{callInRange}
 use Rattle.battery.specs.declared.Battery.{Battery}
 use Rattle.battery.specs.declared.Call.{Call}
 use Rattle.engine.specs.Steps.{stepOf}
 use Rattle.engine.specs.Cases.{Case20, Case21, Case22, Case23, Case24, Case25}
 use Rattle.engine.proofs.StepCases.{step-20, step-21, step-22, step-23, step-24, step-25}
-use Rattle.records.specs.Records.{recordOf}
-use Rattle.calls.specs.Calls.{callOf}
-use Rattle.calls.specs.declared.ReadCall.the-variants.{Good}
-use Rattle.entry.specs.Entry.{After, unchanged, entered}
-use Rattle.entry.proofs.Entering.{code-of}
+use Rattle.sheet_records.specs.Records.{recordOf}
+use Rattle.sheet_calls.specs.Calls.{callOf}
+use Rattle.sheet_calls.specs.declared.ReadCall.the-variants.{Good}
+use Rattle.entries.specs.Entry.{After, unchanged, entered}
+use Rattle.entries.proofs.Entering.{code-of}
 use Rattle.heat_battery.specs.Entries.{entryOf}
 use Rattle.heat_battery.specs.Cases.{GetsLine, LineCase}
 use Rattle.heat_battery.proofs.Finite.{record-card}

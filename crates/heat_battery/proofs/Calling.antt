@@ -8,12 +8,12 @@ use Rattle.battery.specs.Answer.{refusedWith}
 use Rattle.battery.specs.Battery.{batteryAccepted}
 use Rattle.engine.specs.Steps.{advanceOf}
 use Rattle.engine.proofs.AdvanceKeeps.{not-accepted-ten}
-use Rattle.records.specs.Records.{recordOf}
-use Rattle.calls.specs.Calls.{callOf}
-use Rattle.calls.specs.declared.ReadCall.{ReadCall}
-use Rattle.calls.specs.declared.ReadCall.the-variants.{Good, Bad}
-use Rattle.entry.specs.Entry.{unchanged, lineAfter, recordLaid}
-use Rattle.entry.proofs.Entering.{line-ten}
+use Rattle.sheet_records.specs.Records.{recordOf}
+use Rattle.sheet_calls.specs.Calls.{callOf}
+use Rattle.sheet_calls.specs.declared.ReadCall.{ReadCall}
+use Rattle.sheet_calls.specs.declared.ReadCall.the-variants.{Good, Bad}
+use Rattle.entries.specs.Entry.{unchanged, lineAfter, recordLaid}
+use Rattle.entries.proofs.Entering.{line-ten}
 use Rattle.heat_battery.specs.Entries.{entryRead, entryOf}
 
 module _ (version : ℕ) (rec call free : List ℕ) where

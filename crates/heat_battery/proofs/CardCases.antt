@@ -10,7 +10,7 @@ use Rattle.floats.specs.Standins.{nearlyEqual}
 use Rattle.floats.proofs.Parts.{number}
 use Rattle.floats.proofs.Compare.{le-number-r}
 use Rattle.floats.proofs.Order.{le-is-not-lt, lt-is-not-le}
-use Rattle.ranges.specs.Ranges.{within, coldest, hottest, isTemperature}
+use Rattle.card.specs.Ranges.{within, coldest, hottest, isTemperature}
 use Rattle.card.specs.Card.{countsInRange, timesInRange, temperaturesInRange, cardInRange, cardVerdict, verdictNumber, cardRefusal}
 use Rattle.card.specs.declared.Card.{Card}
 use Rattle.card.specs.declared.CardVerdict.the-variants.{Accepted, OutOfRange, LowerAboveUpper, MaxTooLow, NothingToStore}

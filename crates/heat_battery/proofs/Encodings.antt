@@ -14,24 +14,24 @@ use Rattle.card.specs.declared.Card.{Card}
 use Rattle.battery.specs.declared.Battery.{Battery}
 use Rattle.battery.specs.declared.Call.{Call}
 use Rattle.battery.specs.declared.Answer.{Answer}
-use Rattle.call_ranges.specs.Call.{callInRange}
+use Rattle.battery.specs.Call.{callInRange}
 use Rattle.engine.specs.Steps.{stepOf}
-use Rattle.records.specs.Cards.{cardLength, cardAt}
-use Rattle.records.specs.Records.{recordOf, stateBytes, recordBytes}
-use Rattle.calls.specs.Calls.{callOf}
-use Rattle.sheet.specs.Lines.{lineLength, lineSize, lineBytes}
-use Rattle.calls.specs.declared.ReadCall.the-variants.{Good}
-use Rattle.sheet.proofs.Lengths.{length-lineBytes}
+use Rattle.sheet_records.specs.Cards.{cardLength, cardAt}
+use Rattle.sheet_records.specs.Records.{recordOf, stateBytes, recordBytes}
+use Rattle.sheet_calls.specs.Calls.{callOf}
+use Rattle.sheet_lines.specs.Lines.{lineLength, lineSize, lineBytes}
+use Rattle.sheet_calls.specs.declared.ReadCall.the-variants.{Good}
+use Rattle.sheet_lines.proofs.Lengths.{length-lineBytes}
 use Rattle.battery.proofs.GoodParts.{good-layers}
-use Rattle.sheet.proofs.AnswerBack.{record-back}
-use Rattle.records.proofs.CardLaws.{card-length-front}
-use Rattle.sheet.proofs.CardFront.{card-at-front}
-use Rattle.calls.proofs.CallLaws.{call-length}
-use Rattle.calls.proofs.Places.{call-short}
-use Rattle.sheet.proofs.LineLaws.{line-fits, line-says, line-behind}
-use Rattle.entry.specs.Entry.{After, unchanged, renewed, entered}
+use Rattle.sheet_lines.proofs.AnswerBack.{record-back}
+use Rattle.sheet_records.proofs.CardLaws.{card-length-front}
+use Rattle.sheet_lines.proofs.CardFront.{card-at-front}
+use Rattle.sheet_calls.proofs.CallLaws.{call-length}
+use Rattle.sheet_calls.proofs.Places.{call-short}
+use Rattle.sheet_lines.proofs.LineLaws.{line-fits, line-says, line-following}
+use Rattle.entries.specs.Entry.{After, unchanged, renewed, entered}
 use Rattle.heat_battery.specs.Entries.{entryOf}
-use Rattle.heat_battery.specs.Lists.{noLine, lineTaken, freeBehind, answerRead, answerTo, Encoded}
+use Rattle.heat_battery.specs.Lists.{noLine, lineTaken, freeRest, answerRead, answerTo, Encoded}
 use Rattle.heat_battery.proofs.CallCases.{CallWay, ten, eleven, line, call-way}
 use Rattle.engine.proofs.StepKeeps.{step-refusals, step-keeps-card, refused-keeps-state, step-keeps-good}
 
@@ -118,11 +118,11 @@ module _ (version : ℕ) (card : List ℕ) (b : Battery) (rec : List ℕ) (e : E
         ap (λ (n : ℕ). take n (over (lineBytes version call s) free)) takes-line
         ∙ (unfold over in take-at (lineBytes version call s) (drop (length (lineBytes version call s)) free) (lineSize version (s .battery .card) (length call)) (length-lineBytes version call s))
 
-    pub free-behind : freeBehind (lined version card call free s) ≡ drop (length (lineBytes version call s)) free
-    unfolding freeBehind
-    free-behind =
+    pub free-rest : freeRest (lined version card call free s) ≡ drop (length (lineBytes version call s)) free
+    unfolding freeRest
+    free-rest =
         ap (λ (n : ℕ). drop n (over (lineBytes version call s) free)) takes-line
-        ∙ (unfold over in line-behind version call s (drop (length (lineBytes version call s)) free))
+        ∙ (unfold over in line-following version call s (drop (length (lineBytes version call s)) free))
 
     pub gets-line : noLine (lined version card call free s) ≡ false
     gets-line = has-line

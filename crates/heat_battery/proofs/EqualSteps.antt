@@ -13,36 +13,36 @@ use Rattle.battery.specs.declared.Battery.{Battery}
 use Rattle.battery.specs.declared.Answer.{Answer}
 use Rattle.battery.specs.Battery.{fresh}
 use Rattle.engine.specs.Steps.{stepOf}
-use Rattle.records.specs.Cards.{cardAt}
-use Rattle.records.specs.Records.{recordBytes}
-use Rattle.sheet.specs.Lines.{lineBytes, openingLength, openingBytes}
-use Rattle.entry.specs.Entry.{After, unchanged, openedWith, openOf}
+use Rattle.sheet_records.specs.Cards.{cardAt}
+use Rattle.sheet_records.specs.Records.{recordBytes}
+use Rattle.sheet_lines.specs.Lines.{lineBytes, openingLength, openingBytes}
+use Rattle.entries.specs.Entry.{After, unchanged, openedWith, openOf}
 use Rattle.heat_battery.specs.Entries.{entryOf}
 use Rattle.heat_battery.specs.Cases.{AcceptedBytes, Opens}
-use Rattle.heat_battery.specs.Lists.{noLine, lineTaken, freeBehind, recordAfter, freeAfter, written, spared, sheetOf, behindSheet, sparedOf, lastRecord, answerTo, stateAfter, stepLines, Encoded, SameAsSteps, SheetOfSteps}
-use Rattle.sheet.proofs.Lengths.{length-openingBytes}
-use Rattle.sheet.proofs.LineLaws.{opening-behind}
-use Rattle.entry.proofs.Opening.{opened}
-use Rattle.heat_battery.proofs.Encodings.{lined, Entered, kept-10, kept-11, stepped, entry-on-encoding, step-encoded, gets-line, line-taken, free-behind, answer-is}
+use Rattle.heat_battery.specs.Lists.{noLine, lineTaken, freeRest, recordAfter, freeAfter, written, spared, sheetOf, freeAfterSheet, sparedOf, lastRecord, answerTo, stateAfter, stepLines, Encoded, SameAsSteps, SheetOfSteps}
+use Rattle.sheet_lines.proofs.Lengths.{length-openingBytes}
+use Rattle.sheet_lines.proofs.LineLaws.{opening-following}
+use Rattle.entries.proofs.Opening.{opened}
+use Rattle.heat_battery.proofs.Encodings.{lined, Entered, kept-10, kept-11, stepped, entry-on-encoding, step-encoded, gets-line, line-taken, free-rest, answer-is}
 use Rattle.battery.proofs.FreshGood.{fresh-good}
 
 -- the folds over one call more, by what its entry left
 module _ (version : ℕ) (rec call free : List ℕ) (calls : List (List ℕ)) (a : After) (e : entryOf version rec call free ≡ a) where
-  record-more : recordAfter version rec free (call ∷ calls) ≡ recordAfter version (a .record') (freeBehind a) calls
+  record-more : recordAfter version rec free (call ∷ calls) ≡ recordAfter version (a .record') (freeRest a) calls
   unfolding recordAfter
-  record-more = ap (λ (x : After). recordAfter version (x .record') (freeBehind x) calls) e
+  record-more = ap (λ (x : After). recordAfter version (x .record') (freeRest x) calls) e
 
-  free-more : freeAfter version rec free (call ∷ calls) ≡ freeAfter version (a .record') (freeBehind a) calls
+  free-more : freeAfter version rec free (call ∷ calls) ≡ freeAfter version (a .record') (freeRest a) calls
   unfolding freeAfter
-  free-more = ap (λ (x : After). freeAfter version (x .record') (freeBehind x) calls) e
+  free-more = ap (λ (x : After). freeAfter version (x .record') (freeRest x) calls) e
 
-  written-more : written version rec free (call ∷ calls) ≡ take (lineTaken a) (a .sheet) ++ written version (a .record') (freeBehind a) calls
+  written-more : written version rec free (call ∷ calls) ≡ take (lineTaken a) (a .sheet) ++ written version (a .record') (freeRest a) calls
   unfolding written
-  written-more = ap (λ (x : After). take (lineTaken x) (x .sheet) ++ written version (x .record') (freeBehind x) calls) e
+  written-more = ap (λ (x : After). take (lineTaken x) (x .sheet) ++ written version (x .record') (freeRest x) calls) e
 
-  pub spared-more : spared version rec free (call ∷ calls) ≡ cond (noLine a) (spared version (a .record') (freeBehind a) calls) (call ∷ spared version (a .record') (freeBehind a) calls)
+  pub spared-more : spared version rec free (call ∷ calls) ≡ cond (noLine a) (spared version (a .record') (freeRest a) calls) (call ∷ spared version (a .record') (freeRest a) calls)
   unfolding spared
-  spared-more = ap (λ (x : After). cond (noLine x) (spared version (x .record') (freeBehind x) calls) (call ∷ spared version (x .record') (freeBehind x) calls)) e
+  spared-more = ap (λ (x : After). cond (noLine x) (spared version (x .record') (freeRest x) calls) (call ∷ spared version (x .record') (freeRest x) calls)) e
 
 -- ---- a list of calls
 
@@ -50,8 +50,8 @@ nothing-taken : (rec free : List ℕ) (n : ℕ) → noLine (unchanged n rec free
 unfolding lineTaken
 nothing-taken rec free n t = rw t
 
-pub nothing-used : (rec free : List ℕ) (n : ℕ) → noLine (unchanged n rec free) ≡ true → freeBehind (unchanged n rec free) ≡ free
-unfolding freeBehind
+pub nothing-used : (rec free : List ℕ) (n : ℕ) → noLine (unchanged n rec free) ≡ true → freeRest (unchanged n rec free) ≡ free
+unfolding freeRest
 nothing-used rec free n t = rw (nothing-taken rec free n t)
 
 module _ (version : ℕ) (card : List ℕ) (b : Battery) (rec call free : List ℕ) (calls : List (List ℕ)) where
@@ -70,13 +70,13 @@ module _ (version : ℕ) (card : List ℕ) (b : Battery) (rec call free : List �
         lines = w ∙ h .lines ∙ ap (stepLines version b) (sym s);
         encoded = rw (s, r) (h .encoded);
         fits = rw w (h .fits);
-        behind = k ∙ h .behind ∙ ap (λ (x : List ℕ). drop (length x) free) (sym w);
+        following = k ∙ h .following ∙ ap (λ (x : List ℕ). drop (length x) free) (sym w);
       }
 
   -- a call that gets its line, before the others
   module _ (s : Answer) (answered : answerTo version b call ≡ s) (e : entryOf version rec call free ≡ lined version card call free s)
       (has : noLine (lined version card call free s) ≡ false) (taken : take (lineTaken (lined version card call free s)) (lined version card call free s .sheet) ≡ lineBytes version call s)
-      (behind : freeBehind (lined version card call free s) ≡ drop (length (lineBytes version call s)) free) (room : length (lineBytes version call s) ≤ length free) where
+      (following : freeRest (lined version card call free s) ≡ drop (length (lineBytes version call s)) free) (room : length (lineBytes version call s) ≤ length free) where
     abbrev a : After
     a = lined version card call free s
 
@@ -99,23 +99,23 @@ module _ (version : ℕ) (card : List ℕ) (b : Battery) (rec call free : List �
 
     lined-first : SameAsSteps version card (s .battery) rec′ free′ calls → SameAsSteps version card b rec free (call ∷ calls)
     lined-first h =
-        let w : written version rec free (call ∷ calls) ≡ l ++ written version rec′ free′ calls = written-more version rec call free calls a e ∙ rw (taken, behind) in
-        let p : spared version rec free (call ∷ calls) ≡ call ∷ spared version rec′ free′ calls = spared-more version rec call free calls a e ∙ rw (has, behind) in
-        let r : recordAfter version rec free (call ∷ calls) ≡ recordAfter version rec′ free′ calls = record-more version rec call free calls a e ∙ rw behind in
-        let k : freeAfter version rec free (call ∷ calls) ≡ freeAfter version rec′ free′ calls = free-more version rec call free calls a e ∙ rw behind in
+        let w : written version rec free (call ∷ calls) ≡ l ++ written version rec′ free′ calls = written-more version rec call free calls a e ∙ rw (taken, following) in
+        let p : spared version rec free (call ∷ calls) ≡ call ∷ spared version rec′ free′ calls = spared-more version rec call free calls a e ∙ rw (has, following) in
+        let r : recordAfter version rec free (call ∷ calls) ≡ recordAfter version rec′ free′ calls = record-more version rec call free calls a e ∙ rw following in
+        let k : freeAfter version rec free (call ∷ calls) ≡ freeAfter version rec′ free′ calls = free-more version rec call free calls a e ∙ rw following in
         let n : length l + length (written version rec′ free′ calls) ≡ length (written version rec free (call ∷ calls)) = sym (ap length w ∙ simp length-append) in
         let f : length (written version rec′ free′ calls) ≤ length free - length l = simp length-drop at (h .fits) in
         record {
           lines = w ∙ ap (λ (x : List ℕ). l ++ x) (h .lines) ∙ sym (ap (stepLines version b) p ∙ lines-more (spared version rec′ free′ calls));
           encoded = rw (p, r, state-more (spared version rec′ free′ calls)) (h .encoded);
           fits = omega (arith, n, f, room);
-          behind = k ∙ h .behind ∙ drop-drop (length (written version rec′ free′ calls)) (length l) free ∙ ap (λ (x : ℕ). drop x free) n;
+          following = k ∙ h .following ∙ drop-drop (length (written version rec′ free′ calls)) (length l) free ∙ ap (λ (x : ℕ). drop x free) n;
         }
 
 pub equal-to-steps : (version : ℕ) (card : List ℕ) (calls : List (List ℕ)) (b : Battery) (rec free : List ℕ) → Encoded version card b rec
     → SameAsSteps version card b rec free calls
 unfolding written spared recordAfter freeAfter stepLines stateAfter noLine
-equal-to-steps version card [] b rec free e = record { lines = refl; encoded = e; fits = omega arith; behind = refl }
+equal-to-steps version card [] b rec free e = record { lines = refl; encoded = e; fits = omega arith; following = refl }
 equal-to-steps version card (call ∷ calls) b rec free e = on (λ b′ rec′ free′ h. equal-to-steps version card calls b′ rec′ free′ h) (entry-on-encoding version card b rec e call free)
   where
     on : ((b′ : Battery) (rec′ free′ : List ℕ) → Encoded version card b′ rec′ → SameAsSteps version card b′ rec′ free′ calls) → Entered version card b rec call free
@@ -125,7 +125,7 @@ equal-to-steps version card (call ∷ calls) b rec free e = on (λ b′ rec′ f
     on ih (stepped c k i h room) =
         let s = stepOf version b c in
         lined-first version card b rec call free calls s (answer-is version card b rec e call free c k) h (gets-line version card b rec e call free c k) (line-taken version card b rec e call free c k)
-        (free-behind version card b rec e call free c k) room
+        (free-rest version card b rec e call free c k) room
         (ih (s .battery) (recordBytes version card (s .battery)) (drop (length (lineBytes version call s)) free) (step-encoded version card b rec e c))
 
 -- ---- from opening on
@@ -149,7 +149,7 @@ module _ (version : ℕ) (card rec free : List ℕ) (h : Opens version card rec 
 
   opening-left : drop (openingLength version card) (over first free) ≡ drop (length first) free
   unfolding over
-  opening-left = opening-behind version card (drop (length first) free) (h .card-good .long)
+  opening-left = opening-following version card (drop (length first) free) (h .card-good .long)
 
   module _ (calls : List (List ℕ)) where
     abbrev b : Battery
@@ -173,9 +173,9 @@ module _ (version : ℕ) (card rec free : List ℕ) (h : Opens version card rec 
     unfolding lastRecord
     record-is = rw (is-opened, opening-left)
 
-    behind-is : behindSheet version card rec free calls ≡ freeAfter version r left calls
-    unfolding behindSheet
-    behind-is = rw (is-opened, opening-left)
+    following-is : freeAfterSheet version card rec free calls ≡ freeAfter version r left calls
+    unfolding freeAfterSheet
+    following-is = rw (is-opened, opening-left)
 
     pub sheet-equal-to-steps : SheetOfSteps version card rec free calls
     sheet-equal-to-steps =
@@ -186,5 +186,5 @@ module _ (version : ℕ) (card rec free : List ℕ) (h : Opens version card rec 
           sheet = sheet-is ∙ ap (λ (x : List ℕ). first ++ x) (s .lines ∙ ap (stepLines version b) (sym spared-is));
           encoded = rw (spared-is, record-is) (s .encoded);
           fits = omega (arith, n, f, length-openingBytes version card (h .card-good .long), h .room);
-          behind = behind-is ∙ s .behind ∙ drop-drop (length (written version r left calls)) (length first) free ∙ ap (λ (x : ℕ). drop x free) n;
+          following = following-is ∙ s .following ∙ drop-drop (length (written version r left calls)) (length first) free ∙ ap (λ (x : ℕ). drop x free) n;
         }

@@ -14,12 +14,12 @@ use Rattle.battery.specs.Battery.{zonesFinite, batteryAccepted}
 use Rattle.battery.specs.Ledger.{totalsFinite}
 use Rattle.battery.proofs.Zones.{zones-finite-of, zones-finite-at}
 use Rattle.battery.proofs.Accepted.{accepted-battery}
-use Rattle.battery.proofs.Answers.{finite-totals}
-use Rattle.records.specs.Cards.{cardLength, cardAt}
-use Rattle.records.specs.Records.{zonesAt, stateAt, recordOf}
-use Rattle.sheet.proofs.Back.{zonesAt-below}
+use Rattle.battery.proofs.AnswerLaws.{finite-totals}
+use Rattle.sheet_records.specs.Cards.{cardLength, cardAt}
+use Rattle.sheet_records.specs.Records.{zonesAt, stateAt, recordOf}
+use Rattle.sheet_lines.proofs.Back.{zonesAt-below}
 use Rattle.heat_battery.specs.Cases.{GoodRecord}
-use Rattle.entry.proofs.Entering.{LaidRecord}
+use Rattle.entries.proofs.Entering.{LaidRecord}
 
 -- what holds of 0 to 4
 five : (P : ℕ → Type 0) → P 0 → P 1 → P 2 → P 3 → P 4 → (i : ℕ) → i < 5 → P i

@@ -7,7 +7,7 @@ use Rattle.battery.specs.Battery.{GoodBattery}
 use Rattle.battery.proofs.GoodParts.{shape-fits}
 use Rattle.engine.specs.Steps.{stepOf}
 use Rattle.engine.proofs.StepKeeps.{answer-shape}
-use Rattle.sheet.specs.Answers.{GoodAnswer}
+use Rattle.sheet_lines.specs.Answers.{GoodAnswer}
 
 pub answer-good : (version : ℕ) (b : Battery) (c : Call) → GoodBattery version b → GoodAnswer version (stepOf version b c)
 answer-good version b c g =

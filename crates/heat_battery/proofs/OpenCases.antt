@@ -10,13 +10,13 @@ use lib.ListN.{length}
 use Rattle.card.specs.Card.{cardInRange, cardRefusal, CardRefusal}
 use Rattle.card.proofs.Refusals.{card-refusal, card-refusal-own}
 use Rattle.card.specs.declared.Card.{Card}
-use Rattle.records.specs.Cards.{cardLength, cardAt}
-use Rattle.records.specs.Records.{recordLength}
-use Rattle.sheet.specs.Lines.{openingLength}
-use Rattle.entry.specs.Entry.{After, unchanged, openedWith, openOf}
-use Rattle.entry.proofs.Entering.{code-of, unchanged-by}
+use Rattle.sheet_records.specs.Cards.{cardLength, cardAt}
+use Rattle.sheet_records.specs.Records.{recordLength}
+use Rattle.sheet_lines.specs.Lines.{openingLength}
+use Rattle.entries.specs.Entry.{After, unchanged, openedWith, openOf}
+use Rattle.entries.proofs.Entering.{code-of, unchanged-by}
 use Rattle.heat_battery.specs.Cases.{OpenCase1, OpenCase2, OpenCase3, OpenCase4, OpenCase10, OpenCase11, Opens}
-use Rattle.entry.proofs.Opening.{open-length, open-card, open-record, open-room, opened}
+use Rattle.entries.proofs.Opening.{open-length, open-card, open-record, open-room, opened}
 use Rattle.heat_battery.proofs.CardCases.{CardWay, out-of-range, lower-above, max-low, nothing, accepted, card-way, card-1, card-2, card-3, card-4, lower-above-is, max-above-is}
 
 -- which way opening goes

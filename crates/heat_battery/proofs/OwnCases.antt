@@ -13,20 +13,20 @@ use Rattle.battery.specs.Answer.{refusedWith}
 use Rattle.battery.specs.Battery.{batteryAccepted}
 use Rattle.battery.specs.Ledger.{totalsFinite}
 use Rattle.battery.proofs.Accepted.{accepted-battery, battery-accepted}
-use Rattle.battery.proofs.Answers.{finite-totals}
+use Rattle.battery.proofs.AnswerLaws.{finite-totals}
 use Rattle.battery.proofs.Zones.{zones-finite-at, zones-finite-of}
-use Rattle.call_ranges.specs.Call.{callInRange}
+use Rattle.battery.specs.Call.{callInRange}
 use Rattle.engine.specs.Steps.{stepOf, advanceOf}
 use Rattle.engine.specs.Cases.{Case20, Case21, Case22, Case23, Case24, Case25}
 use Rattle.engine.proofs.StepKeeps.{step-refusals}
 use Rattle.engine.proofs.AdvanceKeeps.{advance-is-step}
 use Rattle.engine.proofs.StepCases.{step-20, step-21, step-22, step-23, step-24, step-25}
-use Rattle.calls.specs.Calls.{callOf}
-use Rattle.calls.specs.declared.ReadCall.{ReadCall}
-use Rattle.calls.specs.declared.ReadCall.the-variants.{Good, Bad}
-use Rattle.calls.proofs.CallLaws.{same-call, no-call}
-use Rattle.calls.proofs.CallExact.{call-laid, laid-call}
-use Rattle.own_record.specs.Record.{shownOf, advancedBy, advancedRead, advancedOf}
+use Rattle.sheet_calls.specs.Calls.{callOf}
+use Rattle.sheet_calls.specs.declared.ReadCall.{ReadCall}
+use Rattle.sheet_calls.specs.declared.ReadCall.the-variants.{Good, Bad}
+use Rattle.sheet_calls.proofs.CallLaws.{same-call, no-call}
+use Rattle.sheet_calls.proofs.CallExact.{call-laid, laid-call}
+use Rattle.entries.specs.Record.{shownOf, advancedBy, advancedRead, advancedOf}
 use Rattle.heat_battery.specs.Cases.{GoodCall, GoodOwn, OwnCase10, bad-own, bad-own-call, OwnCase}
 use Rattle.heat_battery.proofs.CallCases.{not-ten}
 

@@ -11,15 +11,15 @@ use Rattle.floats.specs.Standins.{finite64, nearlyEqual}
 use Rattle.codec.specs.Bytes.{nthF64}
 use Rattle.card.specs.Card.{cardInRange, cardRefusal}
 use Rattle.card.specs.declared.Card.{Card}
-use Rattle.call_ranges.specs.Call.{callInRange}
+use Rattle.battery.specs.Call.{callInRange}
 use Rattle.battery.specs.declared.Call.{Call}
 use Rattle.battery.specs.declared.Battery.{Battery}
-use Rattle.records.specs.Cards.{cardLength, cardAt}
-use Rattle.records.specs.Records.{recordLength, recordOf}
-use Rattle.calls.specs.Calls.{callOf}
-use Rattle.sheet.specs.Lines.{openingLength, lineSize}
-use Rattle.calls.specs.Laid.{LaidCall}
-use Rattle.calls.specs.declared.ReadCall.the-variants.{Good}
+use Rattle.sheet_records.specs.Cards.{cardLength, cardAt}
+use Rattle.sheet_records.specs.Records.{recordLength, recordOf}
+use Rattle.sheet_calls.specs.Calls.{callOf}
+use Rattle.sheet_lines.specs.Lines.{openingLength, lineSize}
+use Rattle.sheet_calls.specs.Laid.{LaidCall}
+use Rattle.sheet_calls.specs.declared.ReadCall.the-variants.{Good}
 
 -- ---- opening: 'There a card is its bytes as in line 0 (another length is 1)'
 

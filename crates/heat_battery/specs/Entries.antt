@@ -4,11 +4,11 @@ use mathlib.Core.Bool.{cond}
 use mathlib.Core.List.{List}
 use Rattle.refusals.specs.Refusals.{badCall}
 use Rattle.engine.specs.Steps.{advanceOf}
-use Rattle.records.specs.Records.{recordOf}
-use Rattle.calls.specs.Calls.{callOf}
-use Rattle.calls.specs.declared.ReadCall.{ReadCall}
-use Rattle.calls.specs.declared.ReadCall.the-variants.{Good, Bad}
-use Rattle.entry.specs.Entry.{After, unchanged, lineAfter, recordLaid}
+use Rattle.sheet_records.specs.Records.{recordOf}
+use Rattle.sheet_calls.specs.Calls.{callOf}
+use Rattle.sheet_calls.specs.declared.ReadCall.{ReadCall}
+use Rattle.sheet_calls.specs.declared.ReadCall.the-variants.{Good, Bad}
+use Rattle.entries.specs.Entry.{After, unchanged, lineAfter, recordLaid}
 
 unfoldable pub entryRead : ℕ → List ℕ → List ℕ → List ℕ → ReadCall → After
 entryRead version rec call free Bad = unchanged badCall rec free

@@ -12,13 +12,13 @@ use Rattle.battery.specs.Battery.{fresh, GoodBattery}
 use Rattle.battery.specs.declared.Battery.{Battery}
 use Rattle.battery.specs.declared.Answer.{Answer}
 use Rattle.engine.specs.Steps.{stepOf}
-use Rattle.records.specs.Cards.{cardLength, cardAt}
-use Rattle.records.specs.Records.{recordBytes}
-use Rattle.calls.specs.Calls.{callOf}
-use Rattle.sheet.specs.Lines.{lineBytes, openingLength, openingBytes}
-use Rattle.calls.specs.declared.ReadCall.{ReadCall}
-use Rattle.calls.specs.declared.ReadCall.the-variants.{Good, Bad}
-use Rattle.entry.specs.Entry.{After, openOf}
+use Rattle.sheet_records.specs.Cards.{cardLength, cardAt}
+use Rattle.sheet_records.specs.Records.{recordBytes}
+use Rattle.sheet_calls.specs.Calls.{callOf}
+use Rattle.sheet_lines.specs.Lines.{lineBytes, openingLength, openingBytes}
+use Rattle.sheet_calls.specs.declared.ReadCall.{ReadCall}
+use Rattle.sheet_calls.specs.declared.ReadCall.the-variants.{Good, Bad}
+use Rattle.entries.specs.Entry.{After, openOf}
 use Rattle.heat_battery.specs.Entries.{entryOf}
 
 -- ---- the entries
@@ -31,46 +31,46 @@ noLine a = eqb (a .code) badCall || eqb (a .code) noRoom
 unfoldable pub lineTaken : After → ℕ
 lineTaken a = cond (noLine a) 0 (2 + beAt (a .sheet) 0 2)
 
--- the free bytes behind the call's line
-unfoldable pub freeBehind : After → List ℕ
-freeBehind a = drop (lineTaken a) (a .sheet)
+-- the free bytes after the call's line
+unfoldable pub freeRest : After → List ℕ
+freeRest a = drop (lineTaken a) (a .sheet)
 
--- 'Each gets the battery that the last one left and the free bytes behind the last line': the record, and the free bytes, after the calls
+-- 'Each gets the battery that the last one left and the free bytes after the last line': the record, and the free bytes, after the calls
 unfoldable pub recordAfter : ℕ → List ℕ → List ℕ → List (List ℕ) → List ℕ
 recordAfter version rec free [] = rec
 recordAfter version rec free (call ∷ calls) =
     let a = entryOf version rec call free in
-    recordAfter version (a .record') (freeBehind a) calls
+    recordAfter version (a .record') (freeRest a) calls
 
 unfoldable pub freeAfter : ℕ → List ℕ → List ℕ → List (List ℕ) → List ℕ
 freeAfter version rec free [] = free
 freeAfter version rec free (call ∷ calls) =
     let a = entryOf version rec call free in
-    freeAfter version (a .record') (freeBehind a) calls
+    freeAfter version (a .record') (freeRest a) calls
 
 -- the lines that the calls left, in order
 unfoldable pub written : ℕ → List ℕ → List ℕ → List (List ℕ) → List ℕ
 written version rec free [] = []
 written version rec free (call ∷ calls) =
     let a = entryOf version rec call free in
-    take (lineTaken a) (a .sheet) ++ written version (a .record') (freeBehind a) calls
+    take (lineTaken a) (a .sheet) ++ written version (a .record') (freeRest a) calls
 
 -- the calls to which neither 10 nor 11 applied, in order
 unfoldable pub spared : ℕ → List ℕ → List ℕ → List (List ℕ) → List (List ℕ)
 spared version rec free [] = []
 spared version rec free (call ∷ calls) =
     let a = entryOf version rec call free in
-    let others = spared version (a .record') (freeBehind a) calls in
+    let others = spared version (a .record') (freeRest a) calls in
     cond (noLine a) others (call ∷ others)
 
--- A's sheet: 'the version, line 0 and one call line .. for each call to which neither 10 nor 11 applies'; and the free bytes behind it
+-- A's sheet: 'the version, line 0 and one call line .. for each call to which neither 10 nor 11 applies'; and the free bytes after it
 unfoldable pub sheetOf : ℕ → List ℕ → List ℕ → List ℕ → List (List ℕ) → List ℕ
 sheetOf version card rec free calls =
     let o = openOf version card rec free in
     take (openingLength version card) (o .sheet) ++ written version (o .record') (drop (openingLength version card) (o .sheet)) calls
 
-unfoldable pub behindSheet : ℕ → List ℕ → List ℕ → List ℕ → List (List ℕ) → List ℕ
-behindSheet version card rec free calls =
+unfoldable pub freeAfterSheet : ℕ → List ℕ → List ℕ → List ℕ → List (List ℕ) → List ℕ
+freeAfterSheet version card rec free calls =
     let o = openOf version card rec free in
     freeAfter version (o .record') (drop (openingLength version card) (o .sheet)) calls
 
@@ -89,20 +89,20 @@ sparedOf version card rec free calls =
 -- ---- the steps, fed a call's kind and fields, never an answer
 
 unfoldable pub answerRead : ℕ → Battery → ReadCall → Answer
-answerRead version b (Good c) = stepOf version b c
-answerRead version b Bad = refusedWith badCall b
+answerRead version battery (Good c) = stepOf version battery c
+answerRead version battery Bad = refusedWith badCall battery
 
 unfoldable pub answerTo : ℕ → Battery → List ℕ → Answer
-answerTo version b call = answerRead version b (callOf version call)
+answerTo version battery call = answerRead version battery (callOf version call)
 
 -- their state after a list of calls, and the lines with their answers
 unfoldable pub stateAfter : ℕ → Battery → List (List ℕ) → Battery
-stateAfter version b [] = b
-stateAfter version b (call ∷ calls) = stateAfter version (answerTo version b call .battery) calls
+stateAfter version battery [] = battery
+stateAfter version battery (call ∷ calls) = stateAfter version (answerTo version battery call .battery) calls
 
 unfoldable pub stepLines : ℕ → Battery → List (List ℕ) → List ℕ
-stepLines version b [] = []
-stepLines version b (call ∷ calls) = lineBytes version call (answerTo version b call) ++ stepLines version (answerTo version b call .battery) calls
+stepLines version battery [] = []
+stepLines version battery (call ∷ calls) = lineBytes version call (answerTo version battery call) ++ stepLines version (answerTo version battery call .battery) calls
 
 -- ---- the two agree
 
@@ -113,16 +113,16 @@ pub record Encoded (version : ℕ) (card : List ℕ) (b : Battery) (rec : List �
   pub good : GoodBattery version b
   pub bytes : rec ≡ recordBytes version card b
 
--- after the calls: each line and the record are the encodings of the steps' answer and state, the lines lie within the lent part, and the bytes behind are as before
+-- after the calls: each line and the record are the encodings of the steps' answer and state, the lines lie within the lent part, and the bytes after are as before
 pub record SameAsSteps (version : ℕ) (card : List ℕ) (b : Battery) (rec free : List ℕ) (calls : List (List ℕ)) : Type 0 where
   pub lines : written version rec free calls ≡ stepLines version b (spared version rec free calls)
   pub encoded : Encoded version card (stateAfter version b (spared version rec free calls)) (recordAfter version rec free calls)
   pub fits : length (written version rec free calls) ≤ length free
-  pub behind : freeAfter version rec free calls ≡ drop (length (written version rec free calls)) free
+  pub following : freeAfter version rec free calls ≡ drop (length (written version rec free calls)) free
 
 -- the same of A's sheet, from the fresh battery on
 pub record SheetOfSteps (version : ℕ) (card rec free : List ℕ) (calls : List (List ℕ)) : Type 0 where
   pub sheet : sheetOf version card rec free calls ≡ openingBytes version card ++ stepLines version (fresh (cardAt version card)) (sparedOf version card rec free calls)
   pub encoded : Encoded version card (stateAfter version (fresh (cardAt version card)) (sparedOf version card rec free calls)) (lastRecord version card rec free calls)
   pub fits : length (sheetOf version card rec free calls) ≤ length free
-  pub behind : behindSheet version card rec free calls ≡ drop (length (sheetOf version card rec free calls)) free
+  pub following : freeAfterSheet version card rec free calls ≡ drop (length (sheetOf version card rec free calls)) free

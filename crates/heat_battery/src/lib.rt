@@ -3,22 +3,22 @@
 // include/heat_battery.h says what a caller must know.
 use auditor::AuditVerdict;
 use battery::Battery;
-use calls::ReadCall;
 use card::Card;
 use card::version::ONLY_VERSION;
-use entry::RecordCard;
-use own_record::Shown;
+use entries::RecordCard;
+use entries::own_record::Shown;
+use sheet_calls::ReadCall;
 ghost use mathlib.Core.Path.{_≡_};
 ghost use mathlib.Core.Bool.{true};
 ghost use Rattle.battery.specs.Battery.{batteryAccepted};
-ghost use Rattle.records.specs.Cards.{cardAt};
-ghost use Rattle.records.specs.Records.{recordOf};
-ghost use Rattle.calls.specs.Calls.{callOf};
+ghost use Rattle.sheet_records.specs.Cards.{cardAt};
+ghost use Rattle.sheet_records.specs.Records.{recordOf};
+ghost use Rattle.sheet_calls.specs.Calls.{callOf};
 ghost use Rattle.card.specs.Version.{onlyVersion};
 ghost use Rattle.auditor.specs.Rules.{plain};
 ghost use Rattle.auditor.specs.Audit.{verdictWord, verdictFields, auditOf, limitedAuditOf};
-ghost use Rattle.own_record.specs.Record.{advancedOf};
-ghost use Rattle.entry.specs.Entry.{WasAfter, openOf, recordLaid};
+ghost use Rattle.entries.specs.Record.{advancedOf};
+ghost use Rattle.entries.specs.Entry.{WasAfter, openOf, recordLaid};
 ghost use Rattle.heat_battery.specs.Entries.{entryRead, entryOf};
 
 // Opens a sheet: its version and card line, and a fresh battery.
@@ -26,7 +26,7 @@ ghost use Rattle.heat_battery.specs.Entries.{entryRead, entryOf};
 pub extern "C" fn heat_battery_open(card: &[u8], record: &mut [u8], sheet: &mut [u8]) -> u8
     ensures { λ r. ⌜ WasAfter (openOf onlyVersion (now (card .entry)) (now («record» .entry)) (now (sheet .entry))) r (now («record» .exit)) (now (sheet .exit)) ⌝ }
 {
-    entry::open(ONLY_VERSION, card, record, sheet)
+    entries::open(ONLY_VERSION, card, record, sheet)
 }
 
 // A call on a record's accepted battery: read, advanced, entered.
@@ -34,12 +34,12 @@ fn advance(version: u8, b: Battery, record: &mut [u8], call: &[u8], sheet: &mut 
     requires { ⌜ (recordLaid version (now «record») ≡ true) × (b ≡ recordOf version (now «record»)) × (batteryAccepted version b ≡ true) ⌝ }
     ensures { λ r. ⌜ WasAfter (entryRead version (now («record» .entry)) (now (call .entry)) (now (sheet .entry)) (callOf version (now (call .entry)))) r (now («record» .exit)) (now (sheet .exit)) ⌝ }
 {
-    let read = calls::read_call(version, call);
+    let read = sheet_calls::read_call(version, call);
     match read {
         ReadCall::Bad => refusals::BAD_CALL,
         ReadCall::Good(c) => {
             let a = engine::steps::advance(version, b, c);
-            entry::enter(version, record, call, sheet, a)
+            entries::enter(version, record, call, sheet, a)
         }
     }
 }
@@ -49,8 +49,8 @@ fn with_card(version: u8, card: Card, record: &mut [u8], call: &[u8], sheet: &mu
     requires { ⌜ (recordLaid version (now «record») ≡ true) × (card ≡ cardAt version (now «record»)) ⌝ }
     ensures { λ r. ⌜ WasAfter (entryRead version (now («record» .entry)) (now (call .entry)) (now (sheet .entry)) (callOf version (now (call .entry)))) r (now («record» .exit)) (now (sheet .exit)) ⌝ }
 {
-    let b = records::read_record(version, card, record);
-    if entry::record_accepted(version, b) {
+    let b = sheet_records::read_record(version, card, record);
+    if entries::record_accepted(version, b) {
         return advance(version, b, record, call, sheet);
     }
     refusals::BAD_CALL
@@ -61,7 +61,7 @@ fn with_card(version: u8, card: Card, record: &mut [u8], call: &[u8], sheet: &mu
 pub extern "C" fn heat_battery_call(record: &mut [u8], call: &[u8], sheet: &mut [u8]) -> u8
     ensures { λ r. ⌜ WasAfter (entryOf onlyVersion (now («record» .entry)) (now (call .entry)) (now (sheet .entry))) r (now («record» .exit)) (now (sheet .exit)) ⌝ }
 {
-    let read = entry::record_card(ONLY_VERSION, record);
+    let read = entries::record_card(ONLY_VERSION, record);
     match read {
         RecordCard::Bad => refusals::BAD_CALL,
         RecordCard::Good(card) => with_card(ONLY_VERSION, card, record, call, sheet),
@@ -90,7 +90,7 @@ pub extern "C" fn heat_battery_advance(b: &mut Battery, call: &[u8]) -> Shown
     ensures { λ r. ⌜ (r ≡ advancedOf onlyVersion (now (b .entry)) (now (call .entry)) .shown) × (now (b .exit) ≡ advancedOf onlyVersion (now (b .entry)) (now (call .entry)) .battery) ⌝ }
 {
     let l = battery::ledger_of(*b);
-    let out = own_record::advance_apart(ONLY_VERSION, l, call, &mut b.zones);
+    let out = entries::own_record::advance_apart(ONLY_VERSION, l, call, &mut b.zones);
     if out.shown.refusal == 0 {
         b.total = out.totals.total;
         b.pump = out.totals.pump;

@@ -9,7 +9,7 @@ use Rattle.card.specs.declared.Card.{Card}
 use Rattle.card.specs.declared.HeatBatteryPcm.{HeatBatteryPcm}
 use Rattle.substep.proofs.Together.{InPlace}
 use Rattle.substep.specs.Substep.{processHeatBatteryZones}
-use Rattle.substep.specs.declared.Drive.{Drive}
+use Rattle.substep.specs.declared.SubstepInput.{SubstepInput}
 use Rattle.substep.specs.declared.Fault.{Fault}
 use Rattle.substep.specs.declared.Outcome.{Outcome}
 use Rattle.substep.specs.declared.Substep.{Substep}
@@ -41,7 +41,7 @@ holds-as-defined P u o zones f g e h = subst (λ (v : Zoned Outcome). P v (v .pa
 
 -- a run of one substep
 pub one-substep :
-    (f : Outcome → Stopped) (c : Card) (pcm : HeatBatteryPcm) (salts : ℕ → Salt) (d : Drive) (before : List Float) (o : Outcome) (zones : List Float) (r : Stopped) →
+    (f : Outcome → Stopped) (c : Card) (pcm : HeatBatteryPcm) (salts : ℕ → Salt) (d : SubstepInput) (before : List Float) (o : Outcome) (zones : List Float) (r : Stopped) →
     InPlace (processHeatBatteryZones c pcm salts d before) o zones → r ≡ f o → AsDefined (endRefusal (r .end)) r zones (onPart f (outcome (processHeatBatteryZones c pcm salts d before)))
 one-substep f c pcm salts d before o zones r g e = (e ∙ ap f (g .1), λ h. g .0)
 

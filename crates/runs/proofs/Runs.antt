@@ -19,32 +19,32 @@ use Rattle.substep.specs.declared.Fault.the-variants.{Nothing, Logarithm, NotFi
 use Rattle.runs.specs.Zoned.{Zoned, zoned, AsDefined}
 use Rattle.runs.specs.Runs.{endRefusal, outcome, nextRefusal, reynoldBetween}
 use Rattle.runs.specs.declared.HydronicTask.{HydronicTask}
-use Rattle.runs.specs.declared.WetPace.{WetPace}
-use Rattle.runs.specs.declared.WetTurn.{WetTurn}
-use Rattle.runs.specs.declared.WetEnd.{WetEnd}
+use Rattle.runs.specs.declared.HydronicState.{HydronicState}
+use Rattle.runs.specs.declared.HydronicTurn.{HydronicTurn}
+use Rattle.runs.specs.declared.HydronicEnd.{HydronicEnd}
 use Rattle.runs.specs.declared.End.{End}
 use Rattle.runs.specs.declared.End.the-variants.{OverBudget, Time, Limit, Level}
 use Rattle.runs.specs.declared.Next.{Next}
 use Rattle.runs.specs.declared.Next.the-variants.{On, Stop}
-use Rattle.runs.specs.Hydronic.{wetDrive, clearlyBelow, limitReached, hydronicTurn, replayBy, replayed, fractionSeconds, hydronicWhole, hydronicBy, hydronicEnd, hydronicThen, hydronicRun, hydronicStep}
+use Rattle.runs.specs.Hydronic.{wetInput, clearlyBelow, limitReached, hydronicTurn, replayBy, replayed, fractionSeconds, hydronicWhole, hydronicBy, hydronicEnd, hydronicThen, hydronicRun, hydronicStep}
 
 -- a turn that goes on took one substep
 
 no-stop : {A : Type 0} {k : End} → _≡_ {A = Next} (Stop k) On → A
 no-stop h = let z : _≡_ {A = ℕ} 0 1 = cc in absurd (omega arith)
 
-fault-stops : (x : HydronicTask) (n : ℕ) (s : Zoned WetPace) (seconds reynold : Float) (u : Zoned Outcome) (f : Fault) → replayBy x n s seconds reynold u f .part .next ≡ On → ⊥
+fault-stops : (x : HydronicTask) (n : ℕ) (s : Zoned HydronicState) (seconds reynold : Float) (u : Zoned Outcome) (f : Fault) → replayBy x n s seconds reynold u f .part .next ≡ On → ⊥
 unfolding replayBy
 fault-stops x n s seconds reynold u Nothing h = no-stop h
 fault-stops x n s seconds reynold u Logarithm h = no-stop h
 fault-stops x n s seconds reynold u NotFinite h = no-stop h
 
-replay-stops : (x : HydronicTask) (salts : ℕ → Salt) (n : ℕ) (s : Zoned WetPace) (seconds reynold : Float) → replayed x salts n s seconds reynold .part .next ≡ On → ⊥
+replay-stops : (x : HydronicTask) (salts : ℕ → Salt) (n : ℕ) (s : Zoned HydronicState) (seconds reynold : Float) → replayed x salts n s seconds reynold .part .next ≡ On → ⊥
 unfolding replayed
 replay-stops x salts n s seconds reynold h = at (eqb n (x .card .budget)) h
   where
     u : Zoned Outcome
-    u = outcome (processHeatBatteryZones (x .card) (x .pcm) salts (wetDrive x seconds reynold) (s .zones))
+    u = outcome (processHeatBatteryZones (x .card) (x .pcm) salts (wetInput x seconds reynold) (s .zones))
 
     by : (f : Fault) → replayBy x (n + 1) s seconds reynold u f .part .next ≡ On → ⊥
     by f = fault-stops x (n + 1) s seconds reynold u f
@@ -55,14 +55,14 @@ replay-stops x salts n s seconds reynold h = at (eqb n (x .card .budget)) h
 
 -- three tests, of which one way stops
 one-of-four :
-    (a b c : Bool) (stops limit on level : Zoned WetTurn) (n : ℕ) → (stops .part .next ≡ On → ⊥) → limit .part .substeps ≡ n → on .part .substeps ≡ n → level .part .substeps ≡ n →
+    (a b c : Bool) (stops limit on level : Zoned HydronicTurn) (n : ℕ) → (stops .part .next ≡ On → ⊥) → limit .part .substeps ≡ n → on .part .substeps ≡ n → level .part .substeps ≡ n →
     cond a (cond b (cond c stops limit) on) level .part .next ≡ On → cond a (cond b (cond c stops limit) on) level .part .substeps ≡ n
 one-of-four true true true stops limit on level n w p q r h = absurd (w h)
 one-of-four true true false stops limit on level n w p q r h = p
 one-of-four true false c stops limit on level n w p q r h = q
 one-of-four false b c stops limit on level n w p q r h = r
 
-whole-counts : (x : HydronicTask) (salts : ℕ → Salt) (n : ℕ) (s : Zoned WetPace) (u : Zoned Outcome) → hydronicWhole x salts n s u .part .next ≡ On → hydronicWhole x salts n s u .part .substeps ≡ n
+whole-counts : (x : HydronicTask) (salts : ℕ → Salt) (n : ℕ) (s : Zoned HydronicState) (u : Zoned Outcome) → hydronicWhole x salts n s u .part .next ≡ On → hydronicWhole x salts n s u .part .substeps ≡ n
 unfolding hydronicWhole
 whole-counts x salts n s u =
     let reynold = reynoldBetween (x .wet .inlet) (u .part .outlet) (x .wet .velocity) (x .wet .diameter) in
@@ -76,19 +76,19 @@ whole-counts x salts n s u =
     (hydronicTurn (zoned (record { absorbed = s .part .absorbed; reynold = reynold; time = time }) (u .zones)) (Stop Level) n) n
     (replay-stops x salts n s (fractionSeconds x absorbed this) reynold) refl refl refl
 
-by-counts : (x : HydronicTask) (salts : ℕ → Salt) (n : ℕ) (s : Zoned WetPace) (u : Zoned Outcome) (f : Fault) → hydronicBy x salts n s u f .part .next ≡ On → hydronicBy x salts n s u f .part .substeps ≡ n
+by-counts : (x : HydronicTask) (salts : ℕ → Salt) (n : ℕ) (s : Zoned HydronicState) (u : Zoned Outcome) (f : Fault) → hydronicBy x salts n s u f .part .next ≡ On → hydronicBy x salts n s u f .part .substeps ≡ n
 unfolding hydronicBy
 by-counts x salts n s u Nothing h = whole-counts x salts n s u h
 by-counts x salts n s u Logarithm h = refl
 by-counts x salts n s u NotFinite h = refl
 
-pub on-counts : (x : HydronicTask) (salts : ℕ → Salt) (n : ℕ) (s : Zoned WetPace) → hydronicStep x salts n s .part .next ≡ On → hydronicStep x salts n s .part .substeps ≡ n + 1
+pub on-counts : (x : HydronicTask) (salts : ℕ → Salt) (n : ℕ) (s : Zoned HydronicState) → hydronicStep x salts n s .part .next ≡ On → hydronicStep x salts n s .part .substeps ≡ n + 1
 unfolding hydronicStep
 on-counts x salts n s h =
-    let u = outcome (processHeatBatteryZones (x .card) (x .pcm) salts (wetDrive x (x .card .substep) (s .part .reynold)) (s .zones)) in
+    let u = outcome (processHeatBatteryZones (x .card) (x .pcm) salts (wetInput x (x .card .substep) (s .part .reynold)) (s .zones)) in
     by-counts x salts (n + 1) s u (u .part .fault) h
 
-module _ (x : HydronicTask) (salts : ℕ → Salt) (steps n : ℕ) (s : Zoned WetPace) where
+module _ (x : HydronicTask) (salts : ℕ → Salt) (steps n : ℕ) (s : Zoned HydronicState) where
   pub hydronic-time : n ≡ steps → hydronicEnd s Time n ≡ hydronicRun x salts (steps - n) n s
   unfolding hydronicRun
   hydronic-time e = let z : steps - n ≡ 0 = omega arith in rw z
@@ -101,21 +101,21 @@ module _ (x : HydronicTask) (salts : ℕ → Salt) (steps n : ℕ) (s : Zoned We
     unfolding hydronicRun
     hydronic-over-budget e = rw left (via-true _ _ (eq-eqb _ _ e) refl)
 
-    -- a turn behind s, and the zones that it leaves
-    module _ (t : WetTurn) (after : List Float) (h : n ≡ x .card .budget → ⊥) (l : AsDefined (nextRefusal (t .next)) t after (hydronicStep x salts n s)) where
-      hydronic-unfolds : hydronicRun x salts (steps - n) n s ≡ hydronicThen (hydronicRun x salts (steps - (n + 1))) (zoned (t .pace) (hydronicStep x salts n s .zones)) (t .next) (t .substeps)
+    -- a turn after s, and the zones that it leaves
+    module _ (t : HydronicTurn) (after : List Float) (h : n ≡ x .card .budget → ⊥) (l : AsDefined (nextRefusal (t .next)) t after (hydronicStep x salts n s)) where
+      hydronic-unfolds : hydronicRun x salts (steps - n) n s ≡ hydronicThen (hydronicRun x salts (steps - (n + 1))) (zoned (t .state) (hydronicStep x salts n s .zones)) (t .next) (t .substeps)
       unfolding hydronicRun
       hydronic-unfolds = rw (left, ne-eqb _ _ h, l .0)
 
       pub wet-took : t .next ≡ On → t .substeps ≡ n + 1
-      wet-took d = rw (l .0) (on-counts x salts n s (sym (ap (λ (u : WetTurn). u .next) (l .0)) ∙ d))
+      wet-took d = rw (l .0) (on-counts x salts n s (sym (ap (λ (u : HydronicTurn). u .next) (l .0)) ∙ d))
 
-      pub wet-on : t .next ≡ On → hydronicRun x salts (steps - t .substeps) (t .substeps) (zoned (t .pace) after) ≡ hydronicRun x salts (steps - n) n s
-      wet-on d = rw (l .1 (ap nextRefusal d)) (sym (hydronic-unfolds ∙ rw d (ap (λ (k : ℕ). hydronicRun x salts (steps - k) (t .substeps) (zoned (t .pace) (hydronicStep x salts n s .zones))) (sym (wet-took d)))))
+      pub wet-on : t .next ≡ On → hydronicRun x salts (steps - t .substeps) (t .substeps) (zoned (t .state) after) ≡ hydronicRun x salts (steps - n) n s
+      wet-on d = rw (l .1 (ap nextRefusal d)) (sym (hydronic-unfolds ∙ rw d (ap (λ (k : ℕ). hydronicRun x salts (steps - k) (t .substeps) (zoned (t .state) (hydronicStep x salts n s .zones))) (sym (wet-took d)))))
 
       pub wet-stop :
-          (k : End) (e : Zoned WetEnd) → t .next ≡ Stop k → hydronicRun x salts (steps - n) n s ≡ e →
-          AsDefined (endRefusal k) (record { pace = t .pace; end = k; substeps = t .substeps }) after e
+          (k : End) (e : Zoned HydronicEnd) → t .next ≡ Stop k → hydronicRun x salts (steps - n) n s ≡ e →
+          AsDefined (endRefusal k) (record { state = t .state; end = k; substeps = t .substeps }) after e
       wet-stop k e d r =
-          let w : hydronicEnd (zoned (t .pace) (hydronicStep x salts n s .zones)) k (t .substeps) ≡ e = sym (hydronic-unfolds ∙ rw d) ∙ r in
-          (ap (λ (v : Zoned WetEnd). v .part) w, λ q. l .1 (ap nextRefusal d ∙ q) ∙ ap (λ (v : Zoned WetEnd). v .zones) w)
+          let w : hydronicEnd (zoned (t .state) (hydronicStep x salts n s .zones)) k (t .substeps) ≡ e = sym (hydronic-unfolds ∙ rw d) ∙ r in
+          (ap (λ (v : Zoned HydronicEnd). v .part) w, λ q. l .1 (ap nextRefusal d ∙ q) ∙ ap (λ (v : Zoned HydronicEnd). v .zones) w)

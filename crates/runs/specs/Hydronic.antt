@@ -11,18 +11,18 @@ use Rattle.zone.specs.Heat.{kj, kilowattHours}
 use Rattle.zone.specs.declared.Kilojoules.{Kilojoules}
 use Rattle.zone.specs.declared.KilowattHours.{KilowattHours}
 use Rattle.zone.specs.declared.Salt.{Salt}
-use Rattle.water.specs.declared.Mode.the-variants.{Normal}
+use Rattle.zone_water.specs.declared.Mode.the-variants.{Normal}
 use Rattle.substep.specs.Substep.{processHeatBatteryZones}
-use Rattle.substep.specs.declared.Drive.{Drive}
+use Rattle.substep.specs.declared.SubstepInput.{SubstepInput}
 use Rattle.substep.specs.declared.Outcome.{Outcome}
 use Rattle.substep.specs.declared.Fault.{Fault}
 use Rattle.substep.specs.declared.Fault.the-variants.{Nothing, Logarithm, NotFinite}
 use Rattle.runs.specs.declared.HydronicTask.{HydronicTask}
-use Rattle.runs.specs.declared.WetPace.{WetPace}
-use Rattle.runs.specs.declared.WetTurn.{WetTurn}
+use Rattle.runs.specs.declared.HydronicState.{HydronicState}
+use Rattle.runs.specs.declared.HydronicTurn.{HydronicTurn}
 use Rattle.runs.specs.declared.Next.{Next}
 use Rattle.runs.specs.declared.Next.the-variants.{On, Stop}
-use Rattle.runs.specs.declared.WetEnd.{WetEnd}
+use Rattle.runs.specs.declared.HydronicEnd.{HydronicEnd}
 use Rattle.runs.specs.declared.Stopped.{Stopped}
 use Rattle.runs.specs.declared.End.{End}
 use Rattle.runs.specs.declared.End.the-variants.{Level, Limit, Time, OverBudget, NoLogarithm, NotFiniteRun}
@@ -30,9 +30,9 @@ use Rattle.runs.specs.Runs.{outcome, reynoldBetween}
 use Rattle.runs.specs.Zoned.{Zoned, zoned, onPart}
 
 -- a substep of the wet source
-unfoldable pub wetDrive : HydronicTask → Float → Float → Drive
-wetDrive x seconds reynold =
-    record { mode = Normal; inlet = x .wet .inlet; seconds = seconds; reynold = reynold; flow = x .wet .flow; power = Constants.zero; target = x .target; a = x .wet .a; b = x .wet .b }
+unfoldable pub wetInput : HydronicTask → Float → Float → SubstepInput
+wetInput task seconds reynold =
+    record { mode = Normal; inlet = task .wet .inlet; seconds = seconds; reynold = reynold; flow = task .wet .flow; power = Constants.zero; target = task .target; a = task .wet .a; b = task .wet .b }
 
 -- the outlet is clearly below the inlet
 unfoldable pub clearlyBelow : Float → Float → Bool
@@ -42,80 +42,80 @@ clearlyBelow outlet inlet = lt outlet inlet && not (nearlyEqual outlet inlet tol
 unfoldable pub limitReached : Kilojoules → Kilojoules → Bool
 limitReached absorbed limit = cond (lt (limit .0) (absorbed .0)) true (nearlyEqual (absorbed .0) (limit .0) tolerance maxRelative)
 
-abbrev pub hydronicTurn : Zoned WetPace → Next → ℕ → Zoned WetTurn
-hydronicTurn s next n = zoned (record { pace = s .part; next = next; substeps = n }) (s .zones)
+abbrev pub hydronicTurn : Zoned HydronicState → Next → ℕ → Zoned HydronicTurn
+hydronicTurn run next n = zoned (record { state = run .part; next = next; substeps = n }) (run .zones)
 
--- behind the fractional substep u: its zones, and the limit as the energy
-unfoldable pub replayBy : HydronicTask → ℕ → Zoned WetPace → Float → Float → Zoned Outcome → Fault → Zoned WetTurn
-replayBy x n s seconds reynold u Nothing =
-    hydronicTurn (zoned (record { absorbed = x .limit; reynold = reynold; time = s .part .time ⊕ seconds }) (u .zones)) (Stop Limit) n
-replayBy x n s seconds reynold u Logarithm = hydronicTurn s (Stop NoLogarithm) n
-replayBy x n s seconds reynold u NotFinite = hydronicTurn s (Stop NotFiniteRun) n
+-- after the fractional substep u: its zones, and the limit as the energy
+unfoldable pub replayBy : HydronicTask → ℕ → Zoned HydronicState → Float → Float → Zoned Outcome → Fault → Zoned HydronicTurn
+replayBy task n run seconds reynold u Nothing =
+    hydronicTurn (zoned (record { absorbed = task .limit; reynold = reynold; time = run .part .time ⊕ seconds }) (u .zones)) (Stop Limit) n
+replayBy task n run seconds reynold u Logarithm = hydronicTurn run (Stop NoLogarithm) n
+replayBy task n run seconds reynold u NotFinite = hydronicTurn run (Stop NotFiniteRun) n
 
 -- the fractional substep: from the zones before the whole one, with the Reynolds number after it; n substeps are done
-unfoldable pub replayed : HydronicTask → (ℕ → Salt) → ℕ → Zoned WetPace → Float → Float → Zoned WetTurn
-replayed x salts n s seconds reynold =
-    let u = outcome (processHeatBatteryZones (x .card) (x .pcm) salts (wetDrive x seconds reynold) (s .zones)) in
-    cond (eqb n (x .card .budget))
-    (hydronicTurn s (Stop OverBudget) n)
-    (replayBy x (n + 1) s seconds reynold u (u .part .fault))
+unfoldable pub replayed : HydronicTask → (ℕ → Salt) → ℕ → Zoned HydronicState → Float → Float → Zoned HydronicTurn
+replayed task salts n run seconds reynold =
+    let u = outcome (processHeatBatteryZones (task .card) (task .pcm) salts (wetInput task seconds reynold) (run .zones)) in
+    cond (eqb n (task .card .budget))
+    (hydronicTurn run (Stop OverBudget) n)
+    (replayBy task (n + 1) run seconds reynold u (u .part .fault))
 
 -- the fraction of the whole substep's heat that the limit allows, as seconds
 unfoldable pub fractionSeconds : HydronicTask → Kilojoules → Kilojoules → Float
-fractionSeconds x absorbed this = x .card .substep ⊗ ((x .limit .0 ⊖ (absorbed .0 ⊖ this .0)) ⊘ this .0)
+fractionSeconds task absorbed this = task .card .substep ⊗ ((task .limit .0 ⊖ (absorbed .0 ⊖ this .0)) ⊘ this .0)
 
--- behind the whole substep u; n substeps are done
-unfoldable pub hydronicWhole : HydronicTask → (ℕ → Salt) → ℕ → Zoned WetPace → Zoned Outcome → Zoned WetTurn
-hydronicWhole x salts n s u =
-    let reynold = reynoldBetween (x .wet .inlet) (u .part .outlet) (x .wet .velocity) (x .wet .diameter) in
+-- after the whole substep u; n substeps are done
+unfoldable pub hydronicWhole : HydronicTask → (ℕ → Salt) → ℕ → Zoned HydronicState → Zoned Outcome → Zoned HydronicTurn
+hydronicWhole task salts n run u =
+    let reynold = reynoldBetween (task .wet .inlet) (u .part .outlet) (task .wet .velocity) (task .wet .diameter) in
     let this = kj (neg (u .part .delivered .0)) in
-    let absorbed = kj (s .part .absorbed .0 ⊕ this .0) in
-    let time = s .part .time ⊕ x .card .substep in
-    cond (clearlyBelow (u .part .outlet) (x .wet .inlet))
-    (cond (limitReached absorbed (x .limit))
+    let absorbed = kj (run .part .absorbed .0 ⊕ this .0) in
+    let time = run .part .time ⊕ task .card .substep in
+    cond (clearlyBelow (u .part .outlet) (task .wet .inlet))
+    (cond (limitReached absorbed (task .limit))
     (cond (lt Constants.zero (this .0))
-    (replayed x salts n s (fractionSeconds x absorbed this) reynold)
+    (replayed task salts n run (fractionSeconds task absorbed this) reynold)
     (hydronicTurn (zoned (record { absorbed = absorbed; reynold = reynold; time = time }) (u .zones)) (Stop Limit) n))
     (hydronicTurn (zoned (record { absorbed = absorbed; reynold = reynold; time = time }) (u .zones)) On n))
-    (hydronicTurn (zoned (record { absorbed = s .part .absorbed; reynold = reynold; time = time }) (u .zones)) (Stop Level) n)
+    (hydronicTurn (zoned (record { absorbed = run .part .absorbed; reynold = reynold; time = time }) (u .zones)) (Stop Level) n)
 
-unfoldable pub hydronicBy : HydronicTask → (ℕ → Salt) → ℕ → Zoned WetPace → Zoned Outcome → Fault → Zoned WetTurn
-hydronicBy x salts n s u Nothing = hydronicWhole x salts n s u
-hydronicBy x salts n s u Logarithm = hydronicTurn s (Stop NoLogarithm) n
-hydronicBy x salts n s u NotFinite = hydronicTurn s (Stop NotFiniteRun) n
+unfoldable pub hydronicBy : HydronicTask → (ℕ → Salt) → ℕ → Zoned HydronicState → Zoned Outcome → Fault → Zoned HydronicTurn
+hydronicBy task salts n run u Nothing = hydronicWhole task salts n run u
+hydronicBy task salts n run u Logarithm = hydronicTurn run (Stop NoLogarithm) n
+hydronicBy task salts n run u NotFinite = hydronicTurn run (Stop NotFiniteRun) n
 
 -- one turn: a whole substep, and the fractional one where the limit calls for it
-unfoldable pub hydronicStep : HydronicTask → (ℕ → Salt) → ℕ → Zoned WetPace → Zoned WetTurn
-hydronicStep x salts n s =
-    let u = outcome (processHeatBatteryZones (x .card) (x .pcm) salts (wetDrive x (x .card .substep) (s .part .reynold)) (s .zones)) in
-    hydronicBy x salts (n + 1) s u (u .part .fault)
+unfoldable pub hydronicStep : HydronicTask → (ℕ → Salt) → ℕ → Zoned HydronicState → Zoned HydronicTurn
+hydronicStep task salts n run =
+    let u = outcome (processHeatBatteryZones (task .card) (task .pcm) salts (wetInput task (task .card .substep) (run .part .reynold)) (run .zones)) in
+    hydronicBy task salts (n + 1) run u (u .part .fault)
 
-abbrev pub wetPace : WetTurn → WetPace
-wetPace t = t .pace
+abbrev pub hydronicState : HydronicTurn → HydronicState
+hydronicState t = t .state
 
-abbrev pub wetEndPace : WetEnd → WetPace
-wetEndPace e = e .pace
+abbrev pub hydronicEndState : HydronicEnd → HydronicState
+hydronicEndState e = e .state
 
-abbrev pub hydronicEnd : Zoned WetPace → End → ℕ → Zoned WetEnd
-hydronicEnd s e n = zoned (record { pace = s .part; end = e; substeps = n }) (s .zones)
+abbrev pub hydronicEnd : Zoned HydronicState → End → ℕ → Zoned HydronicEnd
+hydronicEnd run e n = zoned (record { state = run .part; end = e; substeps = n }) (run .zones)
 
-abbrev pub hydronicThen : (ℕ → Zoned WetPace → Zoned WetEnd) → Zoned WetPace → Next → ℕ → Zoned WetEnd
-hydronicThen go s On n = go n s
-hydronicThen go s (Stop e) n = hydronicEnd s e n
+abbrev pub hydronicThen : (ℕ → Zoned HydronicState → Zoned HydronicEnd) → Zoned HydronicState → Next → ℕ → Zoned HydronicEnd
+hydronicThen go run On n = go n run
+hydronicThen go run (Stop e) n = hydronicEnd run e n
 
 -- the run from s with n substeps done and k whole ones left
-unfoldable pub hydronicRun : HydronicTask → (ℕ → Salt) → ℕ → ℕ → Zoned WetPace → Zoned WetEnd
-hydronicRun x salts zero n s = hydronicEnd s Time n
-hydronicRun x salts (suc k) n s =
-    cond (eqb n (x .card .budget))
-    (hydronicEnd s OverBudget n)
-    (hydronicThen (hydronicRun x salts k) (onPart wetPace (hydronicStep x salts n s)) (hydronicStep x salts n s .part .next) (hydronicStep x salts n s .part .substeps))
+unfoldable pub hydronicRun : HydronicTask → (ℕ → Salt) → ℕ → ℕ → Zoned HydronicState → Zoned HydronicEnd
+hydronicRun task salts zero n run = hydronicEnd run Time n
+hydronicRun task salts (suc k) n run =
+    cond (eqb n (task .card .budget))
+    (hydronicEnd run OverBudget n)
+    (hydronicThen (hydronicRun task salts k) (onPart hydronicState (hydronicStep task salts n run)) (hydronicStep task salts n run .part .next) (hydronicStep task salts n run .part .substeps))
 
 -- what the run hands out; the charged electric total stays
-unfoldable pub hydronicEnded : KilowattHours → WetEnd → Stopped
+unfoldable pub hydronicEnded : KilowattHours → HydronicEnd → Stopped
 hydronicEnded electric e =
-    record { energy = kilowattHours (e .pace .absorbed); electric = electric; outlet = Constants.zero; time = e .pace .time; end = e .end; substeps = e .substeps }
+    record { energy = kilowattHours (e .state .absorbed); electric = electric; outlet = Constants.zero; time = e .state .time; end = e .end; substeps = e .substeps }
 
 -- whole substeps, truncated
 unfoldable pub wholeSubsteps : HydronicTask → ℕ
-wholeSubsteps x = truncate (x .wet .hours ⊗ hour ⊘ x .card .substep)
+wholeSubsteps task = truncate (task .wet .hours ⊗ hour ⊘ task .card .substep)

@@ -4,7 +4,7 @@ use lib.Ieee.{Float}
 use Rattle.refusals.specs.Refusals.{overBudget, notFinite, noLogarithm}
 use Rattle.floats.specs.F64.{_⊖_, _⊗_, _⊘_}
 use Rattle.floats.specs.Constants.{one}
-use Rattle.water.specs.Water.{kinematicViscosity, reynoldNumber}
+use Rattle.zone_water.specs.Water.{kinematicViscosity, reynoldNumber}
 use Rattle.substep.specs.Substep.{outcomeOf}
 use Rattle.substep.specs.declared.Outcome.{Outcome}
 use Rattle.substep.specs.declared.Substep.{Substep}
@@ -51,4 +51,4 @@ reynoldBetween inlet outlet velocity diameter = reynoldNumber (kinematicViscosit
 
 -- `time_available`, in hours
 unfoldable pub timeAvailable : Ledger → Float → Float
-timeAvailable l start = (l .card .timestep ⊖ l .totals .total) ⊗ (one ⊖ start ⊘ l .card .timestep)
+timeAvailable ledger start = (ledger .card .timestep ⊖ ledger .totals .total) ⊗ (one ⊖ start ⊘ ledger .card .timestep)

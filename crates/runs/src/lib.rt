@@ -31,7 +31,7 @@ pub enum Next {
 // What a run hands out; its zones stay where they lie.
 pub struct Stopped {
     pub energy: KilowattHours,
-    // the charged electric total behind the run
+    // the charged electric total after the run
     pub electric: KilowattHours,
     pub outlet: f64,
     // seconds
@@ -70,21 +70,21 @@ pub struct HydronicTask {
 }
 
 // What the substeps of a hydronic charge change.
-pub struct WetPace {
+pub struct HydronicState {
     pub absorbed: Kilojoules,
     pub reynold: f64,
     // seconds
     pub time: f64,
 }
 
-pub struct WetTurn {
-    pub pace: WetPace,
+pub struct HydronicTurn {
+    pub state: HydronicState,
     pub next: Next,
     pub substeps: u32,
 }
 
-pub struct WetEnd {
-    pub pace: WetPace,
+pub struct HydronicEnd {
+    pub state: HydronicState,
     pub end: End,
     pub substeps: u32,
 }
@@ -120,8 +120,8 @@ pub fn end_refusal(end: End) -> u8
 pub fn reynold_between(inlet: f64, outlet: f64, velocity: f64, diameter: f64) -> f64
     ensures { λ r. ⌜ r ≡ reynoldBetween inlet outlet velocity diameter ⌝ }
 {
-    let viscosity = water::calculate_water_kinematic_viscosity_m2_per_s(inlet, outlet);
-    water::calculate_reynold_number_at_1_l_per_min(viscosity, velocity, diameter)
+    let viscosity = zone_water::calculate_water_kinematic_viscosity_m2_per_s(inlet, outlet);
+    zone_water::calculate_reynold_number_at_1_l_per_min(viscosity, velocity, diameter)
 }
 
 // Hours.

@@ -16,8 +16,8 @@ use Rattle.floats.proofs.Quotient.{div-number-left, div-nonneg, div-nonpos}
 use Rattle.floats.proofs.Difference.{neg-nonpos, neg-nonneg}
 use Rattle.zone.specs.Heat.{kilojoules}
 use Rattle.substep.specs.Substep.{chargerHeat}
-use Rattle.substep.specs.declared.Drive.{Drive}
-use Rattle.substep.proofs.Passes.{not-alike}
+use Rattle.substep.specs.declared.SubstepInput.{SubstepInput}
+use Rattle.substep.proofs.SubstepLaws.{not-alike}
 
 -- power times seconds over an hour, as heat, has the sign of the product
 module _ (power seconds : Float) (N : T (number (neg power ⊗ seconds ⊘ hour ⊗ hour))) where
@@ -38,7 +38,7 @@ module _ (power seconds : Float) (N : T (number (neg power ⊗ seconds ⊘ hour 
   nonnegative Q = mul-nonneg binary64 (neg power ⊗ seconds ⊘ hour) hour N (div-nonneg binary64 (neg power ⊗ seconds) hour quotient Q tt) tt
 
 -- a charger's power is at least 0: its heat, which a zone would give up, is at most 0
-pub charger-nonpositive : (d : Drive) → T (le zero (d .power)) → T (le zero (d .seconds)) → T (number (chargerHeat d .0)) → T (le (chargerHeat d .0) zero)
+pub charger-nonpositive : (d : SubstepInput) → T (le zero (d .power)) → T (le zero (d .seconds)) → T (number (chargerHeat d .0)) → T (le (chargerHeat d .0) zero)
 unfolding chargerHeat kilojoules
 charger-nonpositive d P S N = nonpositive (d .power) (d .seconds) N P S
 
@@ -54,7 +54,7 @@ loss-sign : (power seconds : Float) → T (le power zero) → T (le zero seconds
 unfolding ofBits le
 loss-sign power seconds P S N = mul-nonneg binary64 (neg power) seconds N (neg-nonneg power P) S
 
-pub charger-not-negative : (d : Drive) → T (le (d .power) zero) → T (le zero (d .seconds)) → lt (chargerHeat d .0) zero ≡ false
+pub charger-not-negative : (d : SubstepInput) → T (le (d .power) zero) → T (le zero (d .seconds)) → lt (chargerHeat d .0) zero ≡ false
 unfolding chargerHeat kilojoules
 charger-not-negative d P S = not-negative (d .power) (d .seconds) (loss-sign (d .power) (d .seconds) P S)
 
@@ -67,10 +67,10 @@ no-power seconds N =
       | inr S ↦ mul-nonpos-nonpos binary64 (neg zero) seconds N tt S
     ]
 
-pub charger-idle : (d : Drive) → d .power ≡ zero → lt (chargerHeat d .0) zero ≡ false
+pub charger-idle : (d : SubstepInput) → d .power ≡ zero → lt (chargerHeat d .0) zero ≡ false
 unfolding chargerHeat kilojoules
 charger-idle d e = ap (λ (p : Float). lt (neg p ⊗ d .seconds ⊘ hour ⊗ hour) zero) e ∙ not-negative zero (d .seconds) (no-power (d .seconds))
 
 -- so a zone is never charged then
-pub idle-charges-none : {A : Type 0} (d : Drive) → d .power ≡ zero → lt (chargerHeat d .0) zero ≡ true → A
+pub idle-charges-none : {A : Type 0} (d : SubstepInput) → d .power ≡ zero → lt (chargerHeat d .0) zero ≡ true → A
 idle-charges-none d e h = not-alike (sym (charger-idle d e) ∙ h)

@@ -11,14 +11,14 @@ use Rattle.floats.specs.Standins.{finite64}
 use Rattle.zone.specs.declared.Kilojoules.{Kilojoules}
 use Rattle.zone.specs.declared.KilowattHours.{KilowattHours}
 use Rattle.zone.specs.declared.Salt.{Salt}
-use Rattle.water.specs.declared.Mode.{Mode}
-use Rattle.water.specs.declared.Mode.the-variants.{OnlyCharging, Losses, Normal}
+use Rattle.zone_water.specs.declared.Mode.{Mode}
+use Rattle.zone_water.specs.declared.Mode.the-variants.{OnlyCharging, Losses, Normal}
 use Rattle.substep.specs.Substep.{zoneIndex, zoneStep, zoneAt, zonesAfter}
-use Rattle.substep.specs.declared.Course.{Course}
-use Rattle.substep.specs.Pass.{Pass}
-use Rattle.substep.proofs.Passes.{index-below}
+use Rattle.substep.specs.declared.Common.{Common}
+use Rattle.substep.specs.Progress.{Progress}
+use Rattle.substep.proofs.SubstepLaws.{index-below}
 use Rattle.substep.proofs.Stores.{stored-elsewhere}
-use Rattle.substep.proofs.Above.{pass-places}
+use Rattle.substep.proofs.Above.{progress-places}
 
 pub index-once : (m : Mode) (n k l : ℕ) → k < n → l < k → zoneIndex m n l ≡ zoneIndex m n k → ⊥
 unfolding zoneIndex
@@ -28,17 +28,17 @@ index-once Normal n k l h g e = omega arith
 
 -- a zone that none of the first k steps came to is as before
 pub unvisited :
-    (x : Course) (s : ℕ → Salt) (n k : ℕ) (p : Pass) (i : ℕ) → ((l : ℕ) → l < k → zoneIndex (x .mode) n l ≡ i → ⊥) → getD (zonesAfter x s n k p .zones) i nan ≡ getD (p .zones) i nan
+    (x : Common) (s : ℕ → Salt) (n k : ℕ) (p : Progress) (i : ℕ) → ((l : ℕ) → l < k → zoneIndex (x .mode) n l ≡ i → ⊥) → getD (zonesAfter x s n k p .zones) i nan ≡ getD (p .zones) i nan
 unfolding zonesAfter zoneAt
 unvisited x s n k p i h = stored-elsewhere (x .mode) n (λ j. zonesAfter x s n j p .zones) _ (λ j. refl) k i h
 
--- J of the charger's heat left holds throughout, and R of each temperature before and behind its step
+-- J of the charger's heat left holds throughout, and R of each temperature before and after its step
 module _
-    (x : Course) (s : ℕ → Salt) (n : ℕ) (J : Kilojoules → Type 0) (R : Float → Float → Type 0)
+    (x : Common) (s : ℕ → Salt) (n : ℕ) (J : Kilojoules → Type 0) (R : Float → Float → Type 0)
     (stays : (t : Float) → T (finite64 t) → R t t)
     (moves : (j : ℕ) → j < n → (t inlet : Float) (q : Kilojoules) (e : KilowattHours) → J q → T (finite64 t) → R t (zoneStep x (s j) t inlet q e .temperature))
     (goes : (j : ℕ) → j < n → (t inlet : Float) (q : Kilojoules) (e : KilowattHours) → J q → T (finite64 t) → J (zoneStep x (s j) t inlet q e .left))
-    (p : Pass) (start : J (p .left)) (finite : (i : ℕ) → i < n → T (finite64 (getD (p .zones) i nan))) (places : n ≤ length (p .zones)) where
+    (p : Progress) (start : J (p .left)) (finite : (i : ℕ) → i < n → T (finite64 (getD (p .zones) i nan))) (places : n ≤ length (p .zones)) where
   before : (k : ℕ) → k < n → getD (zonesAfter x s n k p .zones) (zoneIndex (x .mode) n k) nan ≡ getD (p .zones) (zoneIndex (x .mode) n k) nan
   before k h = unvisited x s n k p (zoneIndex (x .mode) n k) (λ l g. index-once (x .mode) n k l h g)
 
@@ -56,7 +56,7 @@ module _
       let j = zoneIndex (x .mode) n k in
       let q = zonesAfter x s n k p in
       let b : j < n = index-below (x .mode) n k h in
-      let l = pass-places x s n k p in
+      let l = progress-places x s n k p in
       rw (getD-set-same (q .zones) j (zoneStep x (s j) (getD (q .zones) j nan) (q .outlet) (q .left) (q .charged) .temperature) nan (omega arith), ← before k h)
       (moves j b (getD (q .zones) j nan) (q .outlet) (q .left) (q .charged) (left-throughout k (omega arith)) (before-finite k h))
 

@@ -1,4 +1,4 @@
-pub mod Passes
+pub mod SubstepLaws
 pub mod Stores
 pub mod Above
 pub mod Charger

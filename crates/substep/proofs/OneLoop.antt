@@ -1,4 +1,4 @@
--- One loop over the zones, as the engine has it: no array of energies, their sum and the zones' tests in the mode's order. Behind the last
+-- One loop over the zones, as the engine has it: no array of energies, their sum and the zones' tests in the mode's order. After the last
 -- zone it has what the definition reads of its arrays.
 use mathlib.Core.Path.{_≡_, refl, sym, _∙_, ap, subst}
 use mathlib.Core.Bool.{Bool, true, cond, _&&_}
@@ -17,41 +17,41 @@ use Rattle.floats.specs.declared.Sum2.{Sum2}
 use Rattle.floats.proofs.Spread.{spread-start}
 use Rattle.floats.proofs.Sum2Laws.{no-more, noSum}
 use Rattle.zone.specs.Heat.{kj, kwh}
-use Rattle.water.specs.Water.{zoneProperties}
+use Rattle.zone_water.specs.Water.{zoneProperties}
 use Rattle.zone.specs.declared.Kilojoules.{Kilojoules}
 use Rattle.zone.specs.declared.KilowattHours.{KilowattHours}
-use Rattle.water.specs.declared.Mode.the-variants.{OnlyCharging}
+use Rattle.zone_water.specs.declared.Mode.the-variants.{OnlyCharging}
 use Rattle.zone.specs.declared.Salt.{Salt}
 use Rattle.card.specs.declared.Card.{Card}
 use Rattle.battery.specs.Battery.{zonesFinite}
-use Rattle.substep.specs.Substep.{zoneIndex, zoneStep, zoneAt, zonesAfter, chargerHeat, passFrom, outcomeOf, passFinite, passFault, substepFrom}
-use Rattle.substep.specs.declared.Course.{Course}
-use Rattle.substep.specs.declared.Drive.{Drive}
+use Rattle.substep.specs.Substep.{zoneIndex, zoneStep, zoneAt, zonesAfter, chargerHeat, progressFrom, outcomeOf, progressFinite, progressFault, substepFrom}
+use Rattle.substep.specs.declared.Common.{Common}
+use Rattle.substep.specs.declared.SubstepInput.{SubstepInput}
 use Rattle.substep.specs.declared.Fault.{Fault}
 use Rattle.substep.specs.declared.Fault.the-variants.{Nothing, NotFinite}
 use Rattle.substep.specs.declared.Outcome.{Outcome}
-use Rattle.substep.specs.Pass.{Pass}
+use Rattle.substep.specs.Progress.{Progress}
 use Rattle.substep.specs.declared.ZoneStep.{ZoneStep}
-use Rattle.substep.proofs.Passes.{index-below}
+use Rattle.substep.proofs.SubstepLaws.{index-below}
 use Rattle.substep.proofs.Stores.{stored-places, stored-elsewhere}
 use Rattle.substep.proofs.EachZone.{index-once}
 use Rattle.substep.proofs.Ordered.{inOrder, andFinite, read-more, gathered-more, tests-all, sum-all}
 
 -- the k-th of n zones' step, and the sum and the tests up to it, in the mode's order
-abbrev stepped : Course → (ℕ → Salt) → ℕ → ℕ → Pass → ZoneStep
+abbrev stepped : Common → (ℕ → Salt) → ℕ → ℕ → Progress → ZoneStep
 stepped x s n k p =
     let q = zonesAfter x s n k p in
     let j = zoneIndex (x .mode) n k in
     zoneStep x (s j) (getD (q .zones) j nan) (q .outlet) (q .left) (q .charged)
 
-abbrev pub summed : Course → (ℕ → Salt) → ℕ → ℕ → Pass → Sum2
+abbrev pub summed : Common → (ℕ → Salt) → ℕ → ℕ → Progress → Sum2
 summed x s n k p = inOrder (x .mode) n sum2Step noSum (zonesAfter x s n k p .energies) k
 
-abbrev pub tested : Course → (ℕ → Salt) → ℕ → ℕ → Pass → Bool
+abbrev pub tested : Common → (ℕ → Salt) → ℕ → ℕ → Progress → Bool
 tested x s n k p = inOrder (x .mode) n andFinite true (zonesAfter x s n k p .zones) k
 
--- what the loop has behind the first k of n zones
-pub record Underway (x : Course) (s : ℕ → Salt) (n k : ℕ) (p : Pass) (zones : List Float) (outlet : Float) (left : Kilojoules) (charged : KilowattHours) (sum : Sum2) (spread : Float) : Type 0 where
+-- what the loop has after the first k of n zones
+pub record Underway (x : Common) (s : ℕ → Salt) (n k : ℕ) (p : Progress) (zones : List Float) (outlet : Float) (left : Kilojoules) (charged : KilowattHours) (sum : Sum2) (spread : Float) : Type 0 where
   pub same-zones : zones ≡ zonesAfter x s n k p .zones
   pub same-outlet : outlet ≡ zonesAfter x s n k p .outlet
   pub same-left : left ≡ zonesAfter x s n k p .left
@@ -68,11 +68,11 @@ abbrev pub zoneStepOf : Float → Kilojoules → Kilojoules → KilowattHours �
 zoneStepOf t e q k = record { temperature = t; energy = e; outlet = Constants.zero; left = q; charged = k }
 
 -- charging alone gives no heat to the water
-pub no-energy : (x : Course) (s : Salt) (t inlet : Float) (q : Kilojoules) (e : KilowattHours) → x .mode ≡ OnlyCharging → zoneStep x s t inlet q e .energy .0 ≡ Constants.zero
+pub no-energy : (x : Common) (s : Salt) (t inlet : Float) (q : Kilojoules) (e : KilowattHours) → x .mode ≡ OnlyCharging → zoneStep x s t inlet q e .energy .0 ≡ Constants.zero
 unfolding zoneStep zoneProperties
 no-energy x s t inlet q e m = rw m
 
-module _ (x : Course) (s : ℕ → Salt) (n : ℕ) (p : Pass) (none : p .energies ≡ replicate 64 Constants.zero) (few : n ≤ 64) where
+module _ (x : Common) (s : ℕ → Salt) (n : ℕ) (p : Progress) (none : p .energies ≡ replicate 64 Constants.zero) (few : n ≤ 64) where
   clear : (i : ℕ) → i < n → getD (p .energies) i nan ≡ Constants.zero
   clear i h = rw none (getD-replicate 64 i Constants.zero nan (omega arith))
 
@@ -124,46 +124,46 @@ module _ (x : Course) (s : ℕ → Salt) (n : ℕ) (p : Pass) (none : p .energie
         }
 
 -- the loop's start from the zones alone, with no energies yet
-abbrev pub startOf : List Float → Float → Kilojoules → KilowattHours → Pass
+abbrev pub startOf : List Float → Float → Kilojoules → KilowattHours → Progress
 startOf zones outlet left charged = record { zones = zones; energies = replicate 64 Constants.zero; outlet = outlet; left = left; charged = charged }
 
 pub underway-start :
-    (x : Course) (s : ℕ → Salt) (n : ℕ) (zones : List Float) (outlet : Float) (left : Kilojoules) (charged : KilowattHours) →
+    (x : Common) (s : ℕ → Salt) (n : ℕ) (zones : List Float) (outlet : Float) (left : Kilojoules) (charged : KilowattHours) →
     Underway x s n 0 (startOf zones outlet left charged) zones outlet left charged noSum Constants.zero
 unfolding zonesAfter inOrder
 underway-start x s n zones outlet left charged = record { same-zones = refl; same-outlet = refl; same-left = refl; same-charged = refl; same-sum = refl; same-test = spread-start }
 
--- behind the last zone: the zones, and what a substep hands out besides
-module _ (c : Card) (x : Course) (s : ℕ → Salt) (k : ℕ) (d : Drive) (start : List Float) (few : c .layers ≤ 64) where
-  end : Pass
-  end = zonesAfter x s (c .layers) (c .layers) (passFrom d start)
+-- after the last zone: the zones, and what a substep hands out besides
+module _ (c : Card) (x : Common) (s : ℕ → Salt) (k : ℕ) (d : SubstepInput) (start : List Float) (few : c .layers ≤ 64) where
+  end : Progress
+  end = zonesAfter x s (c .layers) (c .layers) (progressFrom d start)
 
-  sum-end : summed x s (c .layers) (c .layers) (passFrom d start) ≡ sum2After (end .energies) (c .layers)
-  unfolding passFrom end
+  sum-end : summed x s (c .layers) (c .layers) (progressFrom d start) ≡ sum2After (end .energies) (c .layers)
+  unfolding progressFrom end
   sum-end =
       sum-all (x .mode) (c .layers) (end .energies)
-      (λ m i h. ap (λ (l : List Float). getD l i nan) (charging-energies x s (c .layers) (passFrom d start) refl few m (c .layers) (omega arith)) ∙ clear x s (c .layers) (passFrom d start) refl few i h)
+      (λ m i h. ap (λ (l : List Float). getD l i nan) (charging-energies x s (c .layers) (progressFrom d start) refl few m (c .layers) (omega arith)) ∙ clear x s (c .layers) (progressFrom d start) refl few i h)
 
-  tests-end : tested x s (c .layers) (c .layers) (passFrom d start) ≡ zonesFinite (end .zones) (c .layers)
+  tests-end : tested x s (c .layers) (c .layers) (progressFrom d start) ≡ zonesFinite (end .zones) (c .layers)
   unfolding end
   tests-end = tests-all (x .mode) (c .layers) (end .zones)
 
   module _ (zones : List Float) (outlet : Float) (left heat : Kilojoules) (charged : KilowattHours) (sum : Sum2) (spread : Float) (f : Fault) where
-    behind-all :
+    following-all :
         heat ≡ chargerHeat d →
         k ≡ c .layers →
         Underway x s (c .layers) k (startOf start (d .inlet) heat (kwh Constants.zero)) zones outlet left charged sum spread →
-        Underway x s (c .layers) (c .layers) (passFrom d start) zones outlet left charged sum spread
-    unfolding passFrom
-    behind-all h e u =
-        subst (λ (i : ℕ). Underway x s (c .layers) i (passFrom d start) zones outlet left charged sum spread) e
+        Underway x s (c .layers) (c .layers) (progressFrom d start) zones outlet left charged sum spread
+    unfolding progressFrom
+    following-all h e u =
+        subst (λ (i : ℕ). Underway x s (c .layers) i (progressFrom d start) zones outlet left charged sum spread) e
         (subst (λ (q : Kilojoules). Underway x s (c .layers) k (startOf start (d .inlet) q (kwh Constants.zero)) zones outlet left charged sum spread) h u)
 
     handed-out :
-        Underway x s (c .layers) (c .layers) (passFrom d start) zones outlet left charged sum spread →
+        Underway x s (c .layers) (c .layers) (progressFrom d start) zones outlet left charged sum spread →
         f ≡ cond (eq spread Constants.zero && (finite64 outlet && (finite64 (sum .s ⊕ sum .c) && finite64 (charged .0)))) Nothing NotFinite →
         (zones ≡ end .zones) × (_≡_ {A = Outcome} (record { outlet = outlet; delivered = kj (sum .s ⊕ sum .c); charged = charged; fault = f }) (outcomeOf (substepFrom c end)))
-    unfolding end outcomeOf substepFrom passFault passFinite sum2
+    unfolding end outcomeOf substepFrom progressFault progressFinite sum2
     handed-out u g = (u .same-zones, rw (g, u .same-test, tests-end, u .same-sum, sum-end, u .same-outlet, u .same-charged))
 
     pub underway-end :
@@ -172,8 +172,8 @@ module _ (c : Card) (x : Course) (s : ℕ → Salt) (k : ℕ) (d : Drive) (start
         c .layers ≤ k →
         Underway x s (c .layers) k (startOf start (d .inlet) heat (kwh Constants.zero)) zones outlet left charged sum spread →
         f ≡ cond (eq spread Constants.zero && (finite64 outlet && (finite64 (sum .s ⊕ sum .c) && finite64 (charged .0)))) Nothing NotFinite →
-        (zones ≡ zonesAfter x s (c .layers) (c .layers) (passFrom d start) .zones) ×
+        (zones ≡ zonesAfter x s (c .layers) (c .layers) (progressFrom d start) .zones) ×
         (_≡_ {A = Outcome} (record { outlet = outlet; delivered = kj (sum .s ⊕ sum .c); charged = charged; fault = f })
-        (outcomeOf (substepFrom c (zonesAfter x s (c .layers) (c .layers) (passFrom d start)))))
+        (outcomeOf (substepFrom c (zonesAfter x s (c .layers) (c .layers) (progressFrom d start)))))
     unfolding end
-    underway-end h a b u g = handed-out (behind-all h (omega arith) u) g
+    underway-end h a b u g = handed-out (following-all h (omega arith) u) g

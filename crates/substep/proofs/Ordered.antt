@@ -15,12 +15,12 @@ use Rattle.floats.specs.Standins.{finite64}
 use Rattle.floats.specs.Sum2.{sum2Step, sum2After}
 use Rattle.logic.proofs.Tests.{same-test, and-true, true-and}
 use Rattle.floats.proofs.Sum2Laws.{noSum, no-sum-more}
-use Rattle.water.specs.declared.Mode.{Mode}
-use Rattle.water.specs.declared.Mode.the-variants.{OnlyCharging, Losses, Normal}
+use Rattle.zone_water.specs.declared.Mode.{Mode}
+use Rattle.zone_water.specs.declared.Mode.the-variants.{OnlyCharging, Losses, Normal}
 use Rattle.battery.specs.Battery.{zonesFinite}
 use Rattle.battery.proofs.Zones.{zones-finite-of, zones-finite-at}
 use Rattle.substep.specs.Substep.{zoneIndex}
-use Rattle.substep.proofs.Passes.{index-below}
+use Rattle.substep.proofs.SubstepLaws.{index-below}
 use Rattle.substep.proofs.EachZone.{index-once}
 
 -- from a, by f, the first k of n places in the mode's order

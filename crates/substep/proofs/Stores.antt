@@ -6,7 +6,7 @@ use native.Mathlib.Omega.{arith}
 use lib.ListN.{length, getD, set, length-set}
 use lib.Seq.{getD-set-other}
 use lib.Ieee.{Float, nan}
-use Rattle.water.specs.declared.Mode.{Mode}
+use Rattle.zone_water.specs.declared.Mode.{Mode}
 use Rattle.substep.specs.Substep.{zoneIndex}
 
 module _ (m : Mode) (n : ℕ) (l : ℕ → List Float) (v : ℕ → Float) (stores : (k : ℕ) → l (suc k) ≡ set (l k) (zoneIndex m n k) (v k)) where

@@ -16,29 +16,29 @@ use Rattle.floats.proofs.Parts.{number}
 use Rattle.floats.proofs.Standins.{finite64-finite}
 use Rattle.zone.specs.Good.{GoodSalt}
 use Rattle.zone.specs.Heat.{kj}
-use Rattle.update.specs.Update.{newZoneTemperature}
-use Rattle.water.specs.Water.{zoneProperties}
-use Rattle.charging.specs.declared.Charged.{Charged}
+use Rattle.zone_update.specs.Update.{newZoneTemperature}
+use Rattle.zone_water.specs.Water.{zoneProperties}
+use Rattle.zone_charging.specs.declared.Charged.{Charged}
 use Rattle.zone.specs.declared.Kilojoules.{Kilojoules}
 use Rattle.zone.specs.declared.KilowattHours.{KilowattHours}
 use Rattle.zone.specs.declared.Salt.{Salt}
-use Rattle.water.specs.declared.Mode.the-variants.{OnlyCharging, Losses}
-use Rattle.update.proofs.Directions.{negative-never-lowers}
-use Rattle.water.proofs.Exchanged.{loss-never-warms}
-use Rattle.charging.proofs.Charges.{charge-never-cools, charging-left-nonpositive}
+use Rattle.zone_water.specs.declared.Mode.the-variants.{OnlyCharging, Losses}
+use Rattle.zone_update.proofs.Directions.{negative-never-lowers}
+use Rattle.zone_water.proofs.Exchanged.{loss-never-warms}
+use Rattle.zone_charging.proofs.Charges.{charge-never-cools, charging-left-nonpositive}
 use Rattle.card.specs.declared.Card.{Card}
 use Rattle.card.specs.declared.HeatBatteryPcm.{HeatBatteryPcm}
-use Rattle.substep.specs.Substep.{levelAt, zoneCharge, zoneStep, zonesAfter, zoneTransfer, courseOf, passFrom, substepFrom, withTransfer, processHeatBatteryZones}
-use Rattle.substep.specs.declared.Course.{Course}
-use Rattle.substep.specs.declared.Drive.{Drive}
+use Rattle.substep.specs.Substep.{levelAt, zoneCharge, zoneStep, zonesAfter, zoneTransfer, commonOf, progressFrom, substepFrom, withTransfer, processHeatBatteryZones}
+use Rattle.substep.specs.declared.Common.{Common}
+use Rattle.substep.specs.declared.SubstepInput.{SubstepInput}
 use Rattle.substep.proofs.EachZone.{each-zone}
-use Rattle.substep.proofs.Passes.{without-logarithm-loss, without-logarithm-charge}
+use Rattle.substep.proofs.SubstepLaws.{without-logarithm-loss, without-logarithm-charge}
 use Rattle.substep.proofs.Charger.{charger-nonpositive, charger-not-negative}
 
 not-warmer : (t : Float) → T (finite64 t) → T (le t t)
 not-warmer t F = le-refl t (finite-number t (finite64-finite t F))
 
-module _ (x : Course) (s : Salt) (g : GoodSalt s) (t inlet : Float) (q : Kilojoules) (k : KilowattHours) (F : T (finite64 t)) where
+module _ (x : Common) (s : Salt) (g : GoodSalt s) (t inlet : Float) (q : Kilojoules) (k : KilowattHours) (F : T (finite64 t)) where
   -- where the charger's heat is not negative, a zone takes the loss as it is
   module _ (m : x .mode ≡ Losses) (h : lt (q .0) zero ≡ false) where
     loss-step : T (le (zoneStep x s t inlet q k .temperature) t)
@@ -67,26 +67,26 @@ module _ (x : Course) (s : Salt) (g : GoodSalt s) (t inlet : Float) (q : Kilojou
         (λ l. charging-left-nonpositive s g t F (levelAt x s) q (le-of-lt (q .0) zero l) k)
         (λ l. h))
 
-module _ (c : Card) (pcm : HeatBatteryPcm) (s : ℕ → Salt) (d : Drive) (zones : List Float) (g : (j : ℕ) → j < c .layers → GoodSalt (s j)) (S : T (le zero (d .seconds)))
+module _ (c : Card) (pcm : HeatBatteryPcm) (s : ℕ → Salt) (d : SubstepInput) (zones : List Float) (g : (j : ℕ) → j < c .layers → GoodSalt (s j)) (S : T (le zero (d .seconds)))
     (places : c .layers ≤ length zones) (finite : (i : ℕ) → i < c .layers → T (finite64 (getD zones i nan))) where
-  zones-behind : zoneTransfer (d .mode) c d ≡ Value zero → processHeatBatteryZones c pcm s d zones .zones ≡ zonesAfter (courseOf c pcm d zero) s (c .layers) (c .layers) (passFrom d zones) .zones
+  zones-after : zoneTransfer (d .mode) c d ≡ Value zero → processHeatBatteryZones c pcm s d zones .zones ≡ zonesAfter (commonOf c pcm d zero) s (c .layers) (c .layers) (progressFrom d zones) .zones
   unfolding processHeatBatteryZones withTransfer substepFrom
-  zones-behind e = rw e
+  zones-after e = rw e
 
   pub losses-warm-none : d .mode ≡ Losses → T (le (d .power) zero) → (i : ℕ) → i < c .layers → T (le (getD (processHeatBatteryZones c pcm s d zones .zones) i nan) (getD zones i nan))
-  unfolding courseOf passFrom
+  unfolding commonOf progressFrom
   losses-warm-none m P i l =
-      let x = courseOf c pcm d zero in
-      rw (zones-behind (without-logarithm-loss c d m))
+      let x = commonOf c pcm d zero in
+      rw (zones-after (without-logarithm-loss c d m))
       (each-zone x s (c .layers) (λ q. lt (q .0) zero ≡ false) (λ t u. T (le u t)) not-warmer
       (λ j l t inlet q k h F. loss-step x (s j) (g j l) t inlet q k F m h) (λ j l t inlet q k h F. loss-left x (s j) (g j l) t inlet q k F m h)
-      (passFrom d zones) (charger-not-negative d P S) finite places i l)
+      (progressFrom d zones) (charger-not-negative d P S) finite places i l)
 
   pub charging-cools-none : d .mode ≡ OnlyCharging → T (le zero (d .power)) → (i : ℕ) → i < c .layers → T (le (getD zones i nan) (getD (processHeatBatteryZones c pcm s d zones .zones) i nan))
-  unfolding courseOf passFrom
+  unfolding commonOf progressFrom
   charging-cools-none m P i l =
-      let x = courseOf c pcm d zero in
-      rw (zones-behind (without-logarithm-charge c d m))
+      let x = commonOf c pcm d zero in
+      rw (zones-after (without-logarithm-charge c d m))
       (each-zone x s (c .layers) (λ q. T (number (q .0)) → T (le (q .0) zero)) (λ t u. T (le t u)) not-warmer
       (λ j l t inlet q k h F. charge-step x (s j) (g j l) t inlet q k F m h) (λ j l t inlet q k h F. charge-left x (s j) (g j l) t inlet q k F m h)
-      (passFrom d zones) (charger-nonpositive d P S) finite places i l)
+      (progressFrom d zones) (charger-nonpositive d P S) finite places i l)

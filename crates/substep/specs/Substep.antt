@@ -13,23 +13,23 @@ use Rattle.floats.specs.declared.Log.{Log}
 use Rattle.floats.specs.declared.Log.the-variants.{Value, Refused}
 use Rattle.zone.specs.Heat.{kj, kwh, kilojoules}
 use Rattle.zone.specs.Layer.{socToTemp}
-use Rattle.update.specs.Update.{newZoneTemperature}
-use Rattle.charging.specs.Charging.{charged, zoneSimultaneousCharging}
-use Rattle.water.specs.Water.{massFlow, heatTransfer, zoneProperties}
+use Rattle.zone_update.specs.Update.{newZoneTemperature}
+use Rattle.zone_charging.specs.Charging.{charged, zoneSimultaneousCharging}
+use Rattle.zone_water.specs.Water.{massFlow, heatTransfer, zoneProperties}
 use Rattle.zone.specs.declared.Kilojoules.{Kilojoules}
 use Rattle.zone.specs.declared.KilowattHours.{KilowattHours}
 use Rattle.zone.specs.declared.Salt.{Salt}
-use Rattle.charging.specs.declared.Charged.{Charged}
-use Rattle.water.specs.declared.Mode.{Mode}
-use Rattle.water.specs.declared.Mode.the-variants.{OnlyCharging, Losses, Normal}
+use Rattle.zone_charging.specs.declared.Charged.{Charged}
+use Rattle.zone_water.specs.declared.Mode.{Mode}
+use Rattle.zone_water.specs.declared.Mode.the-variants.{OnlyCharging, Losses, Normal}
 use Rattle.card.specs.Derived.{layersOf}
 use Rattle.card.specs.declared.Card.{Card}
 use Rattle.card.specs.declared.HeatBatteryPcm.{HeatBatteryPcm}
 use Rattle.battery.specs.Battery.{zonesFinite}
-use Rattle.substep.specs.declared.Drive.{Drive}
-use Rattle.substep.specs.declared.Course.{Course}
+use Rattle.substep.specs.declared.SubstepInput.{SubstepInput}
+use Rattle.substep.specs.declared.Common.{Common}
 use Rattle.substep.specs.declared.ZoneStep.{ZoneStep}
-use Rattle.substep.specs.Pass.{Pass}
+use Rattle.substep.specs.Progress.{Progress}
 use Rattle.substep.specs.declared.Substep.{Substep}
 use Rattle.substep.specs.declared.Outcome.{Outcome}
 use Rattle.substep.specs.declared.Fault.{Fault}
@@ -43,68 +43,68 @@ zoneIndex Normal n k = k
 
 -- a zone's charge, where there is heat of the charger left
 unfoldable pub zoneCharge : Salt → Float → Float → Kilojoules → Kilojoules → KilowattHours → Charged
-zoneCharge s t target q e k = cond (lt (q .0) Constants.zero) (zoneSimultaneousCharging s t target q e k) (charged q k e)
+zoneCharge salt t target q e k = cond (lt (q .0) Constants.zero) (zoneSimultaneousCharging salt t target q e k) (charged q k e)
 
 -- the temperature of the course's charge level, by a zone's salt
-abbrev pub levelAt : Course → Salt → Float
-levelAt x s = socToTemp s (x .reference) (x .max) (x .level)
+abbrev pub levelAt : Common → Salt → Float
+levelAt common salt = socToTemp salt (common .reference) (common .max) (common .level)
 
 -- one zone of the salt s at t: its inlet, the charger's heat left and the energy charged so far
-unfoldable pub zoneStep : Course → Salt → Float → Float → Kilojoules → KilowattHours → ZoneStep
-zoneStep x s t inlet q k =
-    let p = zoneProperties (x .mode) (x .shared) t inlet q in
-    let c = zoneCharge s t (levelAt x s) q (p .energy) k in
-    record { temperature = newZoneTemperature s t (c .heat) .temperature; energy = p .energy; outlet = p .outlet; left = c .left; charged = c .charged }
+unfoldable pub zoneStep : Common → Salt → Float → Float → Kilojoules → KilowattHours → ZoneStep
+zoneStep common salt t inlet q k =
+    let p = zoneProperties (common .mode) (common .shared) t inlet q in
+    let c = zoneCharge salt t (levelAt common salt) q (p .energy) k in
+    record { temperature = newZoneTemperature salt t (c .heat) .temperature; energy = p .energy; outlet = p .outlet; left = c .left; charged = c .charged }
 
 -- the zone at j, of the salt s j
-unfoldable pub zoneAt : Course → (ℕ → Salt) → ℕ → Pass → Pass
-zoneAt x s j p =
-    let z = zoneStep x (s j) (getD (p .zones) j nan) (p .outlet) (p .left) (p .charged) in
+unfoldable pub zoneAt : Common → (ℕ → Salt) → ℕ → Progress → Progress
+zoneAt common s j progress =
+    let z = zoneStep common (s j) (getD (progress .zones) j nan) (progress .outlet) (progress .left) (progress .charged) in
     record {
-      zones = set (p .zones) j (z .temperature);
-      energies = set (p .energies) j (getD (p .energies) j nan ⊕ z .energy .0);
+      zones = set (progress .zones) j (z .temperature);
+      energies = set (progress .energies) j (getD (progress .energies) j nan ⊕ z .energy .0);
       outlet = z .outlet;
       left = z .left;
       charged = z .charged;
     }
 
 -- the first k of n zones
-unfoldable pub zonesAfter : Course → (ℕ → Salt) → ℕ → ℕ → Pass → Pass
-zonesAfter x s n zero p = p
-zonesAfter x s n (suc k) p = zoneAt x s (zoneIndex (x .mode) n k) (zonesAfter x s n k p)
+unfoldable pub zonesAfter : Common → (ℕ → Salt) → ℕ → ℕ → Progress → Progress
+zonesAfter common s n zero progress = progress
+zonesAfter common s n (suc k) progress = zoneAt common s (zoneIndex (common .mode) n k) (zonesAfter common s n k progress)
 
 -- a zone's share of the heat transfer. 'Only demand and hydronic substeps take a logarithm'
 unfoldable pub perLayer : Card → Log → Log
-perLayer c (Value u) = Value (u ⊘ layersOf c)
-perLayer c Refused = Refused
+perLayer card (Value u) = Value (u ⊘ layersOf card)
+perLayer card Refused = Refused
 
-unfoldable pub zoneTransfer : Mode → Card → Drive → Log
-zoneTransfer OnlyCharging c d = Value Constants.zero
-zoneTransfer Losses c d = Value Constants.zero
-zoneTransfer Normal c d = perLayer c (heatTransfer (d .a) (d .b) (d .flow) (d .reynold))
+unfoldable pub zoneTransfer : Mode → Card → SubstepInput → Log
+zoneTransfer OnlyCharging card input = Value Constants.zero
+zoneTransfer Losses card input = Value Constants.zero
+zoneTransfer Normal card input = perLayer card (heatTransfer (input .a) (input .b) (input .flow) (input .reynold))
 
 -- the temperature of a charge level, by a zone's salt
 abbrev pub targetOf : Card → Salt → Float → Float
-targetOf c s level = socToTemp s (c .reference) (c .max) level
+targetOf card salt level = socToTemp salt (card .reference) (card .max) level
 
 -- what all zones share
-unfoldable pub courseOf : Card → HeatBatteryPcm → Drive → Float → Course
-courseOf c pcm d transfer =
+unfoldable pub commonOf : Card → HeatBatteryPcm → SubstepInput → Float → Common
+commonOf card pcm input transfer =
     record {
-      mode = d .mode;
-      shared = record { layers = c .layers; inlet = d .inlet; rated = pcm .rated; transfer = transfer; mass = massFlow (d .flow); seconds = d .seconds };
-      reference = c .reference;
-      max = c .max;
-      level = d .target;
+      mode = input .mode;
+      shared = record { layers = card .layers; inlet = input .inlet; rated = pcm .rated; transfer = transfer; mass = massFlow (input .flow); seconds = input .seconds };
+      reference = card .reference;
+      max = card .max;
+      level = input .target;
     }
 
 -- the charger's heat over the substep, at first: kilowatts times hours
-unfoldable pub chargerHeat : Drive → Kilojoules
-chargerHeat d = kilojoules (kwh (neg (d .power) ⊗ d .seconds ⊘ hour))
+unfoldable pub chargerHeat : SubstepInput → Kilojoules
+chargerHeat input = kilojoules (kwh (neg (input .power) ⊗ input .seconds ⊘ hour))
 
-unfoldable pub passFrom : Drive → List Float → Pass
-passFrom d zones =
-    record { zones = zones; energies = replicate 64 Constants.zero; outlet = d .inlet; left = chargerHeat d; charged = kwh Constants.zero }
+unfoldable pub progressFrom : SubstepInput → List Float → Progress
+progressFrom input zones =
+    record { zones = zones; energies = replicate 64 Constants.zero; outlet = input .inlet; left = chargerHeat input; charged = kwh Constants.zero }
 
 -- what a substep hands out with its arrays, and without
 unfoldable pub substepWith : Outcome → List Float → List Float → Substep
@@ -120,22 +120,22 @@ withoutLogarithm zones =
     record { zones = zones; energies = replicate 64 Constants.zero; outlet = Constants.zero; delivered = kj Constants.zero; charged = kwh Constants.zero; fault = Logarithm }
 
 -- '23 after a substep a zone, outlet, delivered sum or charged energy is not finite'
-unfoldable pub passFinite : Card → Pass → Kilojoules → Bool
-passFinite c p sum =
-    zonesFinite (p .zones) (c .layers) && (finite64 (p .outlet) && (finite64 (sum .0) && finite64 (p .charged .0)))
+unfoldable pub progressFinite : Card → Progress → Kilojoules → Bool
+progressFinite card progress sum =
+    zonesFinite (progress .zones) (card .layers) && (finite64 (progress .outlet) && (finite64 (sum .0) && finite64 (progress .charged .0)))
 
-unfoldable pub passFault : Card → Pass → Kilojoules → Fault
-passFault c p sum = cond (passFinite c p sum) Nothing NotFinite
+unfoldable pub progressFault : Card → Progress → Kilojoules → Fault
+progressFault card progress sum = cond (progressFinite card progress sum) Nothing NotFinite
 
-unfoldable pub substepFrom : Card → Pass → Substep
-substepFrom c p =
-    let sum = kj (sum2 (p .energies) (c .layers)) in
-    record { zones = p .zones; energies = p .energies; outlet = p .outlet; delivered = sum; charged = p .charged; fault = passFault c p sum }
+unfoldable pub substepFrom : Card → Progress → Substep
+substepFrom card progress =
+    let sum = kj (sum2 (progress .energies) (card .layers)) in
+    record { zones = progress .zones; energies = progress .energies; outlet = progress .outlet; delivered = sum; charged = progress .charged; fault = progressFault card progress sum }
 
-unfoldable pub withTransfer : Card → HeatBatteryPcm → (ℕ → Salt) → Drive → List Float → Log → Substep
-withTransfer c pcm s d zones Refused = withoutLogarithm zones
-withTransfer c pcm s d zones (Value u) =
-    substepFrom c (zonesAfter (courseOf c pcm d u) s (c .layers) (c .layers) (passFrom d zones))
+unfoldable pub withTransfer : Card → HeatBatteryPcm → (ℕ → Salt) → SubstepInput → List Float → Log → Substep
+withTransfer card pcm s input zones Refused = withoutLogarithm zones
+withTransfer card pcm s input zones (Value u) =
+    substepFrom card (zonesAfter (commonOf card pcm input u) s (card .layers) (card .layers) (progressFrom input zones))
 
-unfoldable pub processHeatBatteryZones : Card → HeatBatteryPcm → (ℕ → Salt) → Drive → List Float → Substep
-processHeatBatteryZones c pcm s d zones = withTransfer c pcm s d zones (zoneTransfer (d .mode) c d)
+unfoldable pub processHeatBatteryZones : Card → HeatBatteryPcm → (ℕ → Salt) → SubstepInput → List Float → Substep
+processHeatBatteryZones card pcm s input zones = withTransfer card pcm s input zones (zoneTransfer (input .mode) card input)

@@ -2,13 +2,13 @@
 // `losses` have its loops.
 use card::Card;
 use card::HeatBatteryPcm;
-use charging::Charged;
 use floats::Log;
-use water::Mode;
-use water::Shared;
 use zone::Kilojoules;
 use zone::KilowattHours;
 use zone::Salt;
+use zone_charging::Charged;
+use zone_water::Mode;
+use zone_water::Shared;
 ghost use mathlib.Core.Path.{_≡_};
 ghost use mathlib.Core.Bool.{true, cond, _&&_};
 ghost use mathlib.Core.List.{List};
@@ -18,10 +18,10 @@ ghost use lib.Ieee.{Float, lt};
 ghost use Rattle.floats.specs.Constants.{zero};
 ghost use Rattle.floats.specs.Standins.{finite64};
 ghost use Rattle.zone.specs.Lent.{zoneSalt};
-ghost use Rattle.substep.specs.Substep.{zoneIndex, zoneCharge, levelAt, zoneStep, perLayer, zoneTransfer, targetOf, courseOf, chargerHeat, withoutLogarithm, outcomeOf};
+ghost use Rattle.substep.specs.Substep.{zoneIndex, zoneCharge, levelAt, zoneStep, perLayer, zoneTransfer, targetOf, commonOf, chargerHeat, withoutLogarithm, outcomeOf};
 
 // What a substep is asked, in the Rust's words.
-pub struct Drive {
+pub struct SubstepInput {
     pub mode: Mode,
     // °C entering the battery; of the surroundings in the losses mode
     pub inlet: f64,
@@ -39,7 +39,7 @@ pub struct Drive {
 }
 
 // What stays the same over the zones.
-pub struct Course {
+pub struct Common {
     pub mode: Mode,
     pub shared: Shared,
     // °C
@@ -98,7 +98,7 @@ pub fn zone_index(mode: Mode, n: usize, k: usize) -> usize
 }
 
 fn zone_charge(
-    course: Course,
+    common: Common,
     salt: Salt,
     alike: bool,
     target: f64,
@@ -107,12 +107,19 @@ fn zone_charge(
     energy: Kilojoules,
     charged: KilowattHours,
 ) -> Charged
-    requires { ⌜ (lt (left .0) zero ≡ true → alike ≡ true → target ≡ levelAt course salt) ⌝ }
-    ensures { λ r. ⌜ r ≡ zoneCharge salt zone (levelAt course salt) left energy charged ⌝ }
+    requires { ⌜ (lt (left .0) zero ≡ true → alike ≡ true → target ≡ levelAt common salt) ⌝ }
+    ensures { λ r. ⌜ r ≡ zoneCharge salt zone (levelAt common salt) left energy charged ⌝ }
 {
     if left.0 < 0.0 {
-        let own = zone_target(course, salt, alike, target);
-        return charging::process_zone_simultaneous_charging(salt, zone, own, left, energy, charged);
+        let own = zone_target(common, salt, alike, target);
+        return zone_charging::process_zone_simultaneous_charging(
+            salt,
+            zone,
+            own,
+            left,
+            energy,
+            charged,
+        );
     }
     Charged {
         left,
@@ -122,18 +129,18 @@ fn zone_charge(
 }
 
 // The temperature of the charge level by a zone's salt: `target` where the zones are alike in it.
-pub fn zone_target(course: Course, salt: Salt, alike: bool, target: f64) -> f64
-    requires { ⌜ (alike ≡ true → target ≡ levelAt course salt) ⌝ }
-    ensures { λ r. ⌜ r ≡ levelAt course salt ⌝ }
+pub fn zone_target(common: Common, salt: Salt, alike: bool, target: f64) -> f64
+    requires { ⌜ (alike ≡ true → target ≡ levelAt common salt) ⌝ }
+    ensures { λ r. ⌜ r ≡ levelAt common salt ⌝ }
 {
     if alike {
         return target;
     }
-    zone::layer::soc_to_temp(salt, course.reference, course.max, course.level)
+    zone::layer::soc_to_temp(salt, common.reference, common.max, common.level)
 }
 
 pub fn zone_step(
-    course: Course,
+    common: Common,
     salt: Salt,
     alike: bool,
     target: f64,
@@ -142,16 +149,16 @@ pub fn zone_step(
     left: Kilojoules,
     charged: KilowattHours,
 ) -> ZoneStep
-    requires { ⌜ (lt (left .0) zero ≡ true → alike ≡ true → target ≡ levelAt course salt) ⌝ }
-    ensures { λ r. ⌜ r ≡ zoneStep course salt zone inlet left charged ⌝ }
+    requires { ⌜ (lt (left .0) zero ≡ true → alike ≡ true → target ≡ levelAt common salt) ⌝ }
+    ensures { λ r. ⌜ r ≡ zoneStep common salt zone inlet left charged ⌝ }
 {
-    let mode = course.mode;
-    let shared = course.shared;
-    let p = water::get_zone_properties(mode, shared, zone, inlet, left);
+    let mode = common.mode;
+    let shared = common.shared;
+    let p = zone_water::get_zone_properties(mode, shared, zone, inlet, left);
     let energy = p.energy;
-    let c = zone_charge(course, salt, alike, target, zone, left, energy, charged);
+    let c = zone_charge(common, salt, alike, target, zone, left, energy, charged);
     let heat = c.heat;
-    let update = update::calculate_new_zone_temperature(salt, zone, heat);
+    let update = zone_update::calculate_new_zone_temperature(salt, zone, heat);
     let left = c.left;
     let charged = c.charged;
     ZoneStep {
@@ -164,14 +171,14 @@ pub fn zone_step(
 }
 
 // A zone's share of the heat transfer; a logarithm is taken in the normal mode alone.
-pub fn zone_transfer(mode: Mode, card: Card, d: Drive) -> Log
+pub fn zone_transfer(mode: Mode, card: Card, d: SubstepInput) -> Log
     ensures { λ r. ⌜ r ≡ zoneTransfer mode card d ⌝ }
 {
     match mode {
         Mode::OnlyCharging => Log::Value(0.0),
         Mode::Losses => Log::Value(0.0),
         Mode::Normal => {
-            let whole = water::calculate_heat_transfer_kw_per_k(d.a, d.b, d.flow, d.reynold);
+            let whole = zone_water::calculate_heat_transfer_kw_per_k(d.a, d.b, d.flow, d.reynold);
             per_layer(card, whole)
         }
     }
@@ -196,11 +203,17 @@ pub fn target_of(card: Card, salts: &[f64], step: usize, level: f64) -> f64
 }
 
 // `mode` is the drive's.
-pub fn course_of(mode: Mode, card: Card, pcm: HeatBatteryPcm, d: Drive, transfer: f64) -> Course
+pub fn common_of(
+    mode: Mode,
+    card: Card,
+    pcm: HeatBatteryPcm,
+    d: SubstepInput,
+    transfer: f64,
+) -> Common
     requires { ⌜ mode ≡ d .mode ⌝ }
-    ensures { λ r. ⌜ r ≡ courseOf card pcm d transfer ⌝ }
+    ensures { λ r. ⌜ r ≡ commonOf card pcm d transfer ⌝ }
 {
-    let mass = water::mass_flow(d.flow);
+    let mass = zone_water::mass_flow(d.flow);
     let shared = Shared {
         layers: card.layers,
         inlet: d.inlet,
@@ -209,7 +222,7 @@ pub fn course_of(mode: Mode, card: Card, pcm: HeatBatteryPcm, d: Drive, transfer
         mass,
         seconds: d.seconds,
     };
-    Course {
+    Common {
         mode,
         shared,
         reference: card.reference,
@@ -219,13 +232,13 @@ pub fn course_of(mode: Mode, card: Card, pcm: HeatBatteryPcm, d: Drive, transfer
 }
 
 // The charger's heat over the substep, at first: kilowatts times hours.
-pub fn charger_heat(d: Drive) -> Kilojoules
+pub fn charger_heat(d: SubstepInput) -> Kilojoules
     ensures { λ r. ⌜ r ≡ chargerHeat d ⌝ }
 {
     KilowattHours(-d.power * d.seconds / floats::SECONDS_PER_HOUR).kilojoules()
 }
 
-pub fn pass_fault(zones: bool, outlet: f64, sum: Kilojoules, charged: KilowattHours) -> Fault
+pub fn progress_fault(zones: bool, outlet: f64, sum: Kilojoules, charged: KilowattHours) -> Fault
     ensures { λ r. ⌜ r ≡ cond (zones && (finite64 outlet && (finite64 (sum .0) && finite64 (charged .0)))) Fault.Nothing Fault.NotFinite ⌝ }
 {
     let finite = logic::both(

@@ -1,25 +1,25 @@
 // Id 51: a call on the battery that the last record left.
 use battery::Answer;
-use words::cards::VERSION;
+use vectors_words::cards::VERSION;
 
 fn advanced(s: &[u8], held: &[u8]) -> Answer {
-    let b = lists::battery(held);
-    let call = lists::calls::read(s);
+    let b = vectors_lists::battery(held);
+    let call = vectors_lists::calls::read(s);
     let l = battery::ledger_of(b);
     let zones = b.zones;
     if battery::is_accepted(VERSION, l, &zones) {
         return engine::steps::advance(VERSION, b, call);
     }
-    answers::refused(refusals::BAD_CALL, b)
+    battery::answers::refused(refusals::BAD_CALL, b)
 }
 
 pub fn call(s: &[u8], held: &mut [u8]) -> bool {
-    let at = lists::calls::answer_at(s);
+    let at = vectors_lists::calls::answer_at(s);
     if at == 0 {
         return false;
     }
     let a = advanced(s, held);
     let b = a.battery;
-    lists::hold(held, b);
-    lists::answer_is(s, at, a)
+    vectors_lists::hold(held, b);
+    vectors_lists::answer_is(s, at, a)
 }

@@ -2,8 +2,8 @@
 mod calls;
 
 use std::num::wrapping_add_u64;
-use vector_files::Run;
-use vector_files::lines;
+use vectors_files::Run;
+use vectors_files::lines;
 ghost use Prim.Native.Nat.{_≤_};
 
 // The ids of a list of calls. Its start compares nothing.
@@ -18,27 +18,27 @@ fn agrees(id: u64, words: &[u8], held: &mut [u8]) -> bool {
     if id == CALL {
         return calls::call(words, held);
     }
-    replays::replay(id, words)
+    vectors_replays::replay(id, words)
 }
 
 // Compares a record, and says where it disagrees.
 fn compared(file: &[u8], run: Run, id: u64, words: &[u8], held: &mut [u8]) -> Run {
     if id == START {
-        lists::start(words, held);
-        return vector_files::counted(run, 0, 0);
+        vectors_lists::start(words, held);
+        return vectors_files::counted(run, 0, 0);
     }
     if agrees(id, words, held) {
-        return vector_files::counted(run, 1, 0);
+        return vectors_files::counted(run, 1, 0);
     }
     if run.disagree < MOST_LINES {
         lines::disagrees(file, run.place, id);
     }
-    vector_files::counted(run, 0, 1)
+    vectors_files::counted(run, 0, 1)
 }
 
 // Reads a record's words, as many as `words` holds, and compares it.
 fn next_words(fd: i32, file: &[u8], run: Run, id: u64, words: &mut [u8], held: &mut [u8]) -> Run {
-    let run = vector_files::read_words(fd, file, run, words);
+    let run = vectors_files::read_words(fd, file, run, words);
     if run.going {
         return compared(file, run, id, words, held);
     }
@@ -55,7 +55,7 @@ fn sized_record(fd: i32, file: &[u8], run: Run, id: u64, size: usize, held: &mut
 
 // Reads and compares the next record, if there is one.
 fn next_record(fd: i32, file: &[u8], run: Run, held: &mut [u8]) -> Run {
-    let head = vector_files::read_head(fd, file, run);
+    let head = vectors_files::read_head(fd, file, run);
     let run = head.run;
     if run.going {
         return sized_record(fd, file, run, head.id, head.size, held);
@@ -65,7 +65,7 @@ fn next_record(fd: i32, file: &[u8], run: Run, held: &mut [u8]) -> Run {
 
 // All records of an open file. Nothing says that a file ends, so the turns are counted down, from a number that no run uses up.
 fn records(fd: i32, file: &[u8], held: &mut [u8]) -> Run {
-    let mut run = vector_files::fresh();
+    let mut run = vectors_files::fresh();
     let mut turns = u64::MAX;
     while turns > 0 && run.going {
         run = next_record(fd, file, run, held);
@@ -98,7 +98,7 @@ fn replay_file(i: usize) -> Run {
     let fd = os::open_read(&space[..length]);
     if fd < 0 {
         lines::not_opened(&space[..length]);
-        return vector_files::spoilt(vector_files::fresh());
+        return vectors_files::spoilt(vectors_files::fresh());
     }
     replay_open(fd, &space[..length])
 }

@@ -16,38 +16,38 @@ use Rattle.zone.specs.declared.StateOfCharge.the-variants.{Level, Above}
 
 -- `calculate_layer_energy_stored`: the energy of a layer at t above ref
 unfoldable pub layerEnergyStored : Float → Float → Salt → Kilojoules
-layerEnergyStored t ref s =
+layerEnergyStored t ref salt =
     cond (le t ref)
     (kj Constants.zero)
-    (cond (le t (s .lower))
-    (kj ((t ⊖ ref) ⊗ s .below))
-    (cond (le (s .upper) ref)
-    (kj ((t ⊖ ref) ⊗ s .above))
-    (cond (le (s .lower) ref)
-    (cond (le t (s .upper))
-    (kj ((t ⊖ ref) ⊗ s .during))
-    (kj ((s .upper ⊖ ref) ⊗ s .during ⊕ (t ⊖ s .upper) ⊗ s .above)))
-    (cond (le t (s .upper))
-    (kj ((s .lower ⊖ ref) ⊗ s .below ⊕ (t ⊖ s .lower) ⊗ s .during))
-    (kj ((s .lower ⊖ ref) ⊗ s .below ⊕ (s .upper ⊖ s .lower) ⊗ s .during ⊕ (t ⊖ s .upper) ⊗ s .above))))))
+    (cond (le t (salt .lower))
+    (kj ((t ⊖ ref) ⊗ salt .below))
+    (cond (le (salt .upper) ref)
+    (kj ((t ⊖ ref) ⊗ salt .above))
+    (cond (le (salt .lower) ref)
+    (cond (le t (salt .upper))
+    (kj ((t ⊖ ref) ⊗ salt .during))
+    (kj ((salt .upper ⊖ ref) ⊗ salt .during ⊕ (t ⊖ salt .upper) ⊗ salt .above)))
+    (cond (le t (salt .upper))
+    (kj ((salt .lower ⊖ ref) ⊗ salt .below ⊕ (t ⊖ salt .lower) ⊗ salt .during))
+    (kj ((salt .lower ⊖ ref) ⊗ salt .below ⊕ (salt .upper ⊖ salt .lower) ⊗ salt .during ⊕ (t ⊖ salt .upper) ⊗ salt .above))))))
 
 -- the temperature at which a layer holds e, from its energies at lower and at upper
 unfoldable pub tempAt : Salt → Float → Kilojoules → Kilojoules → Kilojoules → Float
-tempAt s ref e atLower atUpper =
+tempAt salt ref e atLower atUpper =
     cond (le (e .0) (atLower .0))
-    (ref ⊕ e .0 ⊘ s .below)
+    (ref ⊕ e .0 ⊘ salt .below)
     (cond (le (e .0) (atUpper .0))
-    (s .lower ⊕ (e .0 ⊖ atLower .0) ⊘ s .during)
-    (s .upper ⊕ (e .0 ⊖ atUpper .0) ⊘ s .above))
+    (salt .lower ⊕ (e .0 ⊖ atLower .0) ⊘ salt .during)
+    (salt .upper ⊕ (e .0 ⊖ atUpper .0) ⊘ salt .above))
 
 -- `soc_to_temp`: ref at level 0, max at level 1
 unfoldable pub socToTemp : Salt → Float → Float → Float → Float
-socToTemp s ref max soc =
+socToTemp salt ref max soc =
     cond (le soc Constants.zero)
     ref
     (cond (le one soc)
     max
-    (tempAt s ref (kj (soc ⊗ layerEnergyStored max ref s .0)) (layerEnergyStored (s .lower) ref s) (layerEnergyStored (s .upper) ref s)))
+    (tempAt salt ref (kj (soc ⊗ layerEnergyStored max ref salt .0)) (layerEnergyStored (salt .lower) ref salt) (layerEnergyStored (salt .upper) ref salt)))
 
 -- a battery's salts: one for all its zones, or one for each
 pub data Salts : Type 0 where
@@ -75,15 +75,15 @@ stateOfCharge s ref most zones n = levelOf (storedEnergy s ref zones n .0 ⊘ mo
 
 -- `calculate_zone_energy_required`: what a zone at t gives up on the way to its target, so below 0 where it takes heat
 unfoldable pub zoneEnergyRequired : Salt → Float → Float → Kilojoules
-zoneEnergyRequired s t target =
-    cond (le (s .upper) t)
-    (kj (s .above ⊗ (t ⊖ target)))
-    (cond (le (s .lower) t)
-    (cond (lt (s .upper) target)
-    (kj (s .above ⊗ (s .upper ⊖ target) ⊕ s .during ⊗ (t ⊖ s .upper)))
-    (kj (s .during ⊗ (t ⊖ target))))
-    (cond (lt (s .upper) target)
-    (kj (s .above ⊗ (s .upper ⊖ target) ⊕ s .during ⊗ (s .lower ⊖ s .upper) ⊕ s .below ⊗ (t ⊖ s .lower)))
-    (cond (lt (s .lower) target)
-    (kj (s .during ⊗ (s .lower ⊖ target) ⊕ s .below ⊗ (t ⊖ s .lower)))
-    (kj (s .below ⊗ (t ⊖ target))))))
+zoneEnergyRequired salt t target =
+    cond (le (salt .upper) t)
+    (kj (salt .above ⊗ (t ⊖ target)))
+    (cond (le (salt .lower) t)
+    (cond (lt (salt .upper) target)
+    (kj (salt .above ⊗ (salt .upper ⊖ target) ⊕ salt .during ⊗ (t ⊖ salt .upper)))
+    (kj (salt .during ⊗ (t ⊖ target))))
+    (cond (lt (salt .upper) target)
+    (kj (salt .above ⊗ (salt .upper ⊖ target) ⊕ salt .during ⊗ (salt .lower ⊖ salt .upper) ⊕ salt .below ⊗ (t ⊖ salt .lower)))
+    (cond (lt (salt .lower) target)
+    (kj (salt .during ⊗ (salt .lower ⊖ target) ⊕ salt .below ⊗ (t ⊖ salt .lower)))
+    (kj (salt .below ⊗ (t ⊖ target))))))

@@ -4,7 +4,7 @@
 //! the lengths of record and sheet that opening is lent; then for each call the call (a slice),
 //! the length of its sheet, the count of the caller's own record (0: the card's layers), and a
 //! record handed in (a slice; empty: the one that the last call left). Bytes that end early stand
-//! for zeros and for slices that are cut; what stands behind 24 calls is left out.
+//! for zeros and for slices that are cut; what stands after 24 calls is left out.
 
 /// The most bytes of a record or sheet that are lent.
 const MOST_LENT: u16 = 1024;

@@ -107,7 +107,7 @@ impl Refusal {
         }
     }
 
-    /// Its name: that of the C header behind `HEAT_BATTERY_`. Both refusals with the number 10 have
+    /// Its name: that of the C header after `HEAT_BATTERY_`. Both refusals with the number 10 have
     /// one name.
     pub fn name(&self) -> &'static str {
         self.entry().map_or("OTHER", |entry| entry.2)

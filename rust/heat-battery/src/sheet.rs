@@ -10,7 +10,7 @@ use crate::refusal::Refusal;
 /// A fresh battery with the sheet of all calls made on it.
 ///
 /// The two stay together, so that the sheet is one that the auditor accepts. Each call gets
-/// the free bytes behind the last line and the bytes that it used are kept.
+/// the free bytes after the last line and the bytes that it used are kept.
 ///
 /// ```
 /// use heat_battery::{audit, Call, Card, Refusal, Sheet, Verdict};

@@ -42,7 +42,7 @@ fn the_energies_of_a_winter_day_sum_to_31_43_in_json() {
     assert_eq!(sums, ["2.20", "27.25", "30.97"].map(String::from));
 }
 
-/// The words of a line of the table, behind its number and kind.
+/// The words of a line of the table, after its number and kind.
 fn columns(table: &str, line: usize) -> Vec<String> {
     let row = table.lines().find(|row| row.trim_start().starts_with(&format!("{line} ")));
     row.unwrap().split_whitespace().skip(2).map(String::from).collect()

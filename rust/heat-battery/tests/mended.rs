@@ -59,7 +59,7 @@ fn convert_agrees_with_the_audit_on_a_sign_of_zero() {
     let mut sheet = Sheet::open(&Card::example()).unwrap();
     sheet.call(&Call::CloseTimestep).unwrap();
     let mut bytes = sheet.into_bytes();
-    // The energy, behind length, kind and refusal.
+    // The energy, after length, kind and refusal.
     assert_eq!(bytes[161 + 4], 0);
     bytes[161 + 4] = 0x80;
     let (sheet, name) = (folder.write("sheet", &bytes), folder.path("x"));

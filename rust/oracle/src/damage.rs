@@ -290,7 +290,7 @@ impl Copy<'_> {
     }
 }
 
-/// Damage to version, card line or what stands behind the last line.
+/// Damage to version, card line or what stands after the last line.
 fn damage_ends(mut copy: Copy) -> Option<Sheet> {
     let behind = copy.behind();
     match copy.random.below(8) {

@@ -20,7 +20,7 @@ pub enum Fault {
     AbsentBytes,
     /// A zone of the record changed on a refusal line.
     RefusedRecord,
-    /// A byte behind the line written.
+    /// A byte after the line written.
     BehindLine,
     /// Every sheet accepted.
     PassesAll,
@@ -36,7 +36,7 @@ pub enum Fault {
     NoLimit,
     /// A limit of length in the audit of any length.
     WholeLimited,
-    /// The byte behind the sheet read.
+    /// The byte after the sheet read.
     ReadsBehind,
     /// The byte before the sheet read.
     ReadsBefore,

@@ -12,7 +12,7 @@ fn flags(kind: u8) -> &'static [(usize, u8)] {
     }
 }
 
-/// The place of a call's mark; its number stands behind it.
+/// The place of a call's mark; its number stands after it.
 pub fn mark(kind: u8) -> Option<usize> {
     match kind {
         1 => Some(20),
@@ -21,7 +21,7 @@ pub fn mark(kind: u8) -> Option<usize> {
     }
 }
 
-/// Places and ranges of a call's numbers, the one behind the mark included.
+/// Places and ranges of a call's numbers, the one after the mark included.
 pub fn numbers(kind: u8, timestep: f64) -> Vec<(usize, Range)> {
     match kind {
         1 => vec![(4, ranges::REQUIRED), (12, (0.0, timestep)), (21, ranges::TEMPERATURE)],

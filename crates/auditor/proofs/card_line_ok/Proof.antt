@@ -4,7 +4,7 @@ use lib.ListN.{drop}
 use borrow.Author.Needs.{needs}
 use borrow.Author.Tests.{le-leb, lt-leb, eq-eqb, ne-eqb}
 use Rattle.logic.proofs.Branch.{via-true, via-false}
-use Rattle.records.specs.Cards.{cardLength}
+use Rattle.sheet_records.specs.Cards.{cardLength}
 use Rattle.auditor.specs.Audit.{cardLineOk}
 use Rattle.auditor.proofs.Opening.{opening-is, from-three, opening-end, card-slice, card-whole, no-card-line}
 use Rattle.auditor.proofs.card_line_ok.Statement.{statement}

@@ -4,19 +4,19 @@ use Prim.Native.Nat.{ℕ, _<_}
 use native.Mathlib.Omega.{arith}
 use lib.ListN.{length, getD}
 use Rattle.battery.specs.declared.Call.{Call}
-use Rattle.calls.specs.Calls.{callOf}
-use Rattle.calls.specs.declared.ReadCall.the-variants.{Good}
-use Rattle.calls.proofs.CallLaws.{call-length}
-use Rattle.calls.proofs.Places.{call-short}
+use Rattle.sheet_calls.specs.Calls.{callOf}
+use Rattle.sheet_calls.specs.declared.ReadCall.the-variants.{Good}
+use Rattle.sheet_calls.proofs.CallLaws.{call-length}
+use Rattle.sheet_calls.proofs.Places.{call-short}
 use Rattle.engine.proofs.AdvanceKeeps.{advance-keeps-card}
 use Rattle.card.proofs.Accepted.{accepted-layers}
 use Rattle.battery.specs.declared.Battery.{Battery}
 use Rattle.battery.specs.declared.Answer.{Answer}
 use Rattle.engine.specs.Steps.{advanceOf}
-use Rattle.records.specs.Cards.{cardAt}
-use Rattle.records.specs.Records.{recordLength, recordOf, stateAt}
+use Rattle.sheet_records.specs.Cards.{cardAt}
+use Rattle.sheet_records.specs.Records.{recordLength, recordOf, stateAt}
 use Rattle.heat_battery.specs.Entries.{entryRead}
-use Rattle.entry.proofs.Entering.{record-laid}
+use Rattle.entries.proofs.Entering.{record-laid}
 use borrow.Author.Needs.{needs}
 use Rattle.heat_battery.proofs.advance.Statement.{statement}
 use Rattle.heat_battery.proofs.advance.Tie as tie

@@ -52,24 +52,24 @@ use Rattle.card.proofs.Versions.{only-known, known-byte}
 use Rattle.battery.specs.Ledger.{whole as wholeOf, ledgerOf}
 use Rattle.battery.specs.declared.Battery.{Battery}
 use Rattle.battery.specs.declared.Ledger.{Ledger}
-use Rattle.own_record.specs.Record.{Advanced, renewedWith, advancedOf}
-use Rattle.own_record.specs.declared.Renewed.{Renewed}
+use Rattle.entries.specs.Record.{Advanced, renewedWith, advancedOf}
+use Rattle.entries.specs.declared.own_record.Renewed.{Renewed}
 use Rattle.battery.proofs.Battery as T
 use Rattle.battery.proofs.Battery.Laws as T′
 use Rattle.battery.proofs.Ledger as L
 use Rattle.battery.proofs.Ledger.Laws as L′
-use Rattle.own_record.proofs.Renewed as S
-use Rattle.own_record.proofs.Renewed.Laws as S′
-use Rattle.own_record.proofs.Shown as P·Shown
-use Rattle.own_record.proofs.Shown.Laws as P·Shown′
+use Rattle.entries.proofs.own_record.Renewed as S
+use Rattle.entries.proofs.own_record.Renewed.Laws as S′
+use Rattle.entries.proofs.own_record.Shown as P·Shown
+use Rattle.entries.proofs.own_record.Shown.Laws as P·Shown′
 use Rattle.battery.proofs.ledger_of as k
 use Rattle.battery.proofs.ledger_of.Symbol as k-def
 use Rattle.battery.proofs.ledger_of.Symbol.{name as #k}
 use Rattle.battery.proofs.ledger_of.Met as k-thm
-use Rattle.own_record.proofs.advance_apart as g
-use Rattle.own_record.proofs.advance_apart.Symbol as g-def
-use Rattle.own_record.proofs.advance_apart.Symbol.{name as #g}
-use Rattle.own_record.proofs.advance_apart.Met as g-thm
+use Rattle.entries.proofs.own_record.advance_apart as g
+use Rattle.entries.proofs.own_record.advance_apart.Symbol as g-def
+use Rattle.entries.proofs.own_record.advance_apart.Symbol.{name as #g}
+use Rattle.entries.proofs.own_record.advance_apart.Met as g-thm
 use Rattle.heat_battery.proofs.RecordAfter.{shown-vals, after, kept, totals-are, shown-is, after-is, kept-is, told, left}
 use Rattle.heat_battery.proofs.ZonesLent.{vals, Zones, spread, zones-val, put-back, Way, taken-out, put-in}
 use Rattle.heat_battery.proofs.heat_battery_advance.Key.{name as #f}
@@ -120,8 +120,8 @@ module _ {M : Type 1} (𝓤 : URA M) (H : Heap 𝓤) (A : Atoms 𝓤) (W : Given
   abbrev to-ledger : K 𝓤 H A at-mem run .Ghost
   to-ledger = ((tt, tt, tt, (h, tt), (vals h, tt)), tt)
 
-  ledger-asked : Is T.the-row h (vals h) → ent 𝓤 (emp 𝓤) (K 𝓤 H A at-mem run .pre to-ledger)
-  ledger-asked was = qed W [] ∵ nothing ! $ owned ! T.the-row (Is T.the-row) (LL.makes T.the-type T′.the-plain 𝓤 H A) h _ was $ fjoin ! $ nothing ! $ join ! $ frame ! $ done !
+  ledger-operation : Is T.the-row h (vals h) → ent 𝓤 (emp 𝓤) (K 𝓤 H A at-mem run .pre to-ledger)
+  ledger-operation was = qed W [] ∵ nothing ! $ owned ! T.the-row (Is T.the-row) (LL.makes T.the-type T′.the-plain 𝓤 H A) h _ was $ fjoin ! $ nothing ! $ join ! $ frame ! $ done !
 
   -- the same of `advance_apart`, which is lent the zones for α: the tokens, the slice and the reference are handed over
   module _ (l : Ledger) (α : ℕ) (γ′ : GName) where
@@ -140,8 +140,8 @@ module _ {M : Type 1} (𝓤 : URA M) (H : Heap 𝓤) (A : Atoms 𝓤) (W : Given
     abbrev handed : List (Item 𝓤)
     handed = (‵ (flft κ₁ q₁) ⊛ ‵ ftrue) ∷ ‵ (flft (α ∷ []) fullShare) ∷ ‵ (ShrSlice (named 1) κ₁ u8 .own call (slice-vals call)) ∷ ‵ (MutRef (named 1) (α ∷ []) Zones .own lent (vptr b (o + 160) ∷ [])) ∷ []
 
-    apart-asked : Is L.the-row l (ledger-vals l) → ent 𝓤 (⋆ 𝓤 H A handed) (G 𝓤 H A at-mem run .pre to-apart)
-    apart-asked is =
+    apart-operation : Is L.the-row l (ledger-vals l) → ent 𝓤 (⋆ 𝓤 H A handed) (G 𝓤 H A at-mem run .pre to-apart)
+    apart-operation is =
         qed W handed ∵ split ! $ move ! (4 ∷ 1 ∷ []) $ fjoin ! $ move ! (3 ∷ 0 ∷ []) $ fjoin ! $
         owned ! L.the-row (Is L.the-row) (LL.makes L.the-type L′.the-plain 𝓤 H A) l _ is $ fjoin ! $ owned ! u8 (Is u8) (uint-makes 𝓤 H A W w8) onlyVersion _ (refl, known-byte onlyVersion only-known) $ fjoin ! $ nothing ! $ move ! (3 ∷ 0 ∷ []) $ join ! $ move ! (2 ∷ 0 ∷ []) $ join ! $ join ! $ frame ! $ done !
 
@@ -171,7 +171,7 @@ module _ {M : Type 1} (𝓤 : URA M) (H : Heap 𝓤) (A : Atoms 𝓤) (W : Given
         move ! (1 ∷ []) $ peeks ! T.the-row (Is T.the-row) (shows 𝓤 H A T.the-row) h (vals h) (λ was. drop ! $
         -- [cell; open; obs; auth; tok; own call; rest; _7; …; _6; …; _5; …; _4; …; _3; …; _2; …; _1; …; _0; …]
         assigns ! (of-opd ! (load ! (from ! (hop ! (look ! 19 refl) (stop !))) (look-raw ! 0 refl))) (from ! (stop !)) (init ! 11 refl (LL.lawful T.the-type T′.the-laws 𝓤 H A W .typed h (vals h) was .0)) $
-        use0 W (raw (K 𝓤 H A at-mem run .pre to-ledger)) (ledger-asked was) $
+        use0 W (raw (K 𝓤 H A at-mem run .pre to-ledger)) (ledger-operation was) $
         calls-at ! fm (K 𝓤 H A at-mem run) ledger-known to-ledger (and-then ! (load ! (from ! (stop !)) (look ! 12 refl)) (no-more !)) (λ u.
         use1 W (later (some (λ (l : Ledger). (‵ ftrue ⊛ ‵ (L.the-row .own l (u ∷ []))) ⊛ raw (ensured 𝓤 H A k.ended (k.clauses 𝓤 H A at-mem run) tt (h, tt) tt l)))) (id⊢ 𝓤 _) $ await ! tt $ pick ! (λ l.
         split ! $ move ! (1 ∷ []) $ use1 W (some (λ (zs : Unit {0} × Unit {0}). ‵ (lasts k.ended tt (h, tt) zs) ⊛ raw (fact 𝓤 (l ≡ ledgerOf h)))) (id⊢ 𝓤 _) $ pick ! (λ _.
@@ -184,7 +184,7 @@ module _ {M : Type 1} (𝓤 : URA M) (H : Heap 𝓤) (A : Atoms 𝓤) (W : Given
         use1 W (later (some (λ (γ′ : GName). ‵ (MutRef (named 1) (α ∷ []) Zones .own (lent l α γ′) (vptr b (o + 160) ∷ [])) ⊛ ‵ (flent (α ∷ []) (Body (mem Zones) b (o + 160) γ′))))) (lends-ref 𝓤 H A W Zones (named 1) (α ∷ []) (spread (h .zones)) b (o + 160)) $
         await ! tt $ pick ! (λ γ′. split ! $
         -- [own zones; lent; tok α; way back; open; obs; auth; tok; own call; rest; _7; …]
-        move ! (7 ∷ 2 ∷ 8 ∷ 0 ∷ []) $ group ! 4 $ use1 W (raw (G 𝓤 H A at-mem run .pre (to-apart l α γ′))) (apart-asked l α γ′ (subst (Is L.the-row l) (LL.tells L.the-type L′.the-laws l (u ∷ []) l-is) l-is)) $
+        move ! (7 ∷ 2 ∷ 8 ∷ 0 ∷ []) $ group ! 4 $ use1 W (raw (G 𝓤 H A at-mem run .pre (to-apart l α γ′))) (apart-operation l α γ′ (subst (Is L.the-row l) (LL.tells L.the-type L′.the-laws l (u ∷ []) l-is) l-is)) $
         calls-at ! fm (G 𝓤 H A at-mem run) known (to-apart l α γ′) (and-then ! (lit ! tt) (and-then ! (load ! (from ! (stop !)) (look ! 15 refl)) (and-then ! (load ! (from ! (stop !)) (look ! 17 refl)) (and-then ! (load ! (from ! (stop !)) (look ! 9 refl)) (no-more !))))) (λ v.
         use1 W (later (some (λ (r : Renewed). ((‵ (flft κ₁ q₁) ⊛ ‵ (flft (α ∷ []) fullShare) ⊛ ‵ ftrue) ⊛ ‵ (S.the-row .own r (v ∷ []))) ⊛ raw (ensured 𝓤 H A g.ended (g.clauses 𝓤 H A at-mem run) (κs′ l α γ′) (a′ l α γ′) tt r)))) (id⊢ 𝓤 _) $ await ! tt $ pick ! (λ r.
         split ! $ move ! (1 ∷ []) $ use1 W (some (λ (ws : Lasts). ‵ (lasts g.ended (κs′ l α γ′) (a′ l α γ′) ws) ⊛ raw (fact 𝓤 (Said l α γ′ r (last ws))))) (id⊢ 𝓤 _) $ pick ! (λ ws.
@@ -245,4 +245,4 @@ heat-battery-advance-spec 𝓤 H 𝓜 𝓖 𝓡 =
     (tables 𝓤 H 𝓜 𝓡 code.env .C) (tables 𝓤 H 𝓜 𝓡 code.env .Λ) #f code.function (code.unfolded 𝓤 H 𝓜 𝓡)
     (meets 𝓤 H (𝓖 .A) (givenOf 𝓤 H 𝓜 𝓖) (𝓜 .mem) (𝓡 .run) (tablesOf 𝓤 H 𝓜 (tables 𝓤 H 𝓜 𝓡 code.env))
     (cited 𝓤 H (K 𝓤 H (𝓖 .A) (𝓜 .mem) (𝓡 .run)) 𝓜 𝓡 code.env #k k-def.routine code.calls-battery·ledger-of (k-thm.met 𝓤 H 𝓜 𝓖 𝓡))
-    (cited 𝓤 H (G 𝓤 H (𝓖 .A) (𝓜 .mem) (𝓡 .run)) 𝓜 𝓡 code.env #g g-def.routine code.calls-own-record·advance-apart (g-thm.met 𝓤 H 𝓜 𝓖 𝓡)))
+    (cited 𝓤 H (G 𝓤 H (𝓖 .A) (𝓜 .mem) (𝓡 .run)) 𝓜 𝓡 code.env #g g-def.routine code.calls-entries·own-record·advance-apart (g-thm.met 𝓤 H 𝓜 𝓖 𝓡)))

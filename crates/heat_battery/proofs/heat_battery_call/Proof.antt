@@ -1,5 +1,5 @@
 use mathlib.Core.Path.{refl, sym, _∙_}
-use Rattle.entry.proofs.Checked.{good-card, bad-card}
+use Rattle.entries.proofs.Checked.{good-card, bad-card}
 use Rattle.heat_battery.specs.Entries.{entryOf}
 use borrow.Author.Needs.{needs}
 use Rattle.heat_battery.proofs.heat_battery_call.Statement.{statement}

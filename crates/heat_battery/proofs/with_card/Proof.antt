@@ -3,10 +3,10 @@ use mathlib.Core.Bool.{false}
 use native.Mathlib.Omega.{arith}
 use Rattle.card.proofs.Accepted.{accepted-layers}
 use Rattle.battery.specs.Battery.{batteryAccepted}
-use Rattle.records.specs.Cards.{cardAt}
-use Rattle.records.specs.Records.{recordOf, stateAt}
-use Rattle.calls.specs.Calls.{callOf}
-use Rattle.entry.proofs.Entering.{record-laid}
+use Rattle.sheet_records.specs.Cards.{cardAt}
+use Rattle.sheet_records.specs.Records.{recordOf, stateAt}
+use Rattle.sheet_calls.specs.Calls.{callOf}
+use Rattle.entries.proofs.Entering.{record-laid}
 use Rattle.heat_battery.proofs.Calling.{read-not-accepted}
 use borrow.Author.Needs.{needs}
 use Rattle.heat_battery.proofs.with_card.Statement.{statement}

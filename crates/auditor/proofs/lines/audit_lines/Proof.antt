@@ -8,8 +8,8 @@ use lib.Ieee.{fits, binary64}
 use Rattle.card.proofs.Accepted.{accepted-layers}
 use Rattle.battery.specs.declared.Answer.{Answer}
 use Rattle.auditor.specs.Audit.{auditLines}
-use Rattle.sheet.specs.Answers.{sameNumber, agrees, answerAt}
-use Rattle.records.specs.Records.{stateAt}
+use Rattle.sheet_lines.specs.Answers.{sameNumber, agrees, answerAt}
+use Rattle.sheet_records.specs.Records.{stateAt}
 use Rattle.auditor.proofs.Turns.{turn-bad, turn-out, turn-differs, turn-next, at-end, head-read, rest-less, Walked, walked-on}
 use Rattle.auditor.proofs.Walks.{Own, own-fresh, advanced-own}
 use Rattle.auditor.proofs.lines.audit_lines.Statement.{statement}

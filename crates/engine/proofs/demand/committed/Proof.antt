@@ -1,7 +1,7 @@
 use Rattle.battery.specs.declared.Reply.{Reply}
 use Rattle.battery.specs.Ledger.{whole}
 use Rattle.engine.proofs.FiniteZones.{demand-leaves-finite, left-finite}
-use Rattle.replies.proofs.Settled.{committed-with}
+use Rattle.engine_replies.proofs.Settled.{committed-with}
 use mathlib.Core.Path.{_∙_, ap}
 use borrow.Author.Needs.{needs}
 use Rattle.engine.proofs.demand.committed.Statement.{statement}

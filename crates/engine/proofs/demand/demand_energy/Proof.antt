@@ -1,8 +1,8 @@
 use mathlib.Core.List.{[]}
 use Rattle.logic.proofs.Branch.{via-true, via-false}
-use Rattle.replies.specs.Replies.{checked}
+use Rattle.engine_replies.specs.Replies.{checked}
 use Rattle.engine.specs.Steps.{demandEnergy}
-use Rattle.replies.proofs.Settled.{plain-refusal, plain-with}
+use Rattle.engine_replies.proofs.Settled.{plain-refusal, plain-with}
 use mathlib.Core.Path.{_∙_, ap}
 use borrow.Author.Needs.{needs}
 use Rattle.engine.proofs.demand.demand_energy.Statement.{statement}

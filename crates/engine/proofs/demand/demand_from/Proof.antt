@@ -1,6 +1,6 @@
 use Rattle.logic.proofs.Branch.{via-true, via-false}
 use Rattle.engine.specs.Steps.{demandFrom}
-use Rattle.replies.proofs.Settled.{settled-refusal}
+use Rattle.engine_replies.proofs.Settled.{settled-refusal}
 use mathlib.Core.Path.{refl}
 use borrow.Author.Needs.{needs}
 use Rattle.engine.proofs.demand.demand_from.Statement.{statement}

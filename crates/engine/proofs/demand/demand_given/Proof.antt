@@ -1,5 +1,5 @@
 use Rattle.engine.specs.Steps.{demandGiven}
-use Rattle.replies.proofs.Settled.{settled-refusal}
+use Rattle.engine_replies.proofs.Settled.{settled-refusal}
 use mathlib.Core.Path.{refl}
 use borrow.Author.Needs.{needs}
 use Rattle.engine.proofs.demand.demand_given.Statement.{statement}

@@ -1,4 +1,4 @@
-use Rattle.delivery.proofs.InPlace.{demand-ended}
+use Rattle.run_demand.proofs.InPlace.{demand-ended}
 use Rattle.engine.specs.Steps.{demandTask}
 use Rattle.zone.proofs.Salts.{salts-at}
 use borrow.Author.Needs.{needs}

@@ -1,5 +1,5 @@
 use Rattle.battery.specs.declared.Reply.{Reply}
-use Rattle.replies.proofs.Settled.{trial-with}
+use Rattle.engine_replies.proofs.Settled.{trial-with}
 use mathlib.Core.Path.{_∙_, ap}
 use borrow.Author.Needs.{needs}
 use Rattle.engine.proofs.demand.trial.Statement.{statement}

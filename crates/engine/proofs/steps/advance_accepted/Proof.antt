@@ -1,7 +1,7 @@
 use Rattle.battery.specs.Ledger.{whole}
 use Rattle.engine.proofs.Accepted.{accepted-few, accepted-finite, accepted-losses}
 use Rattle.engine.proofs.AdvanceKeeps.{advance-is-step, out-of-range-ten}
-use Rattle.replies.proofs.Settled.{settled-refusal}
+use Rattle.engine_replies.proofs.Settled.{settled-refusal}
 use Rattle.engine.proofs.ByKind.{stepped}
 use mathlib.Core.Path.{refl, sym, _∙_}
 use borrow.Author.Needs.{needs}
@@ -11,11 +11,11 @@ use Rattle.engine.proofs.steps.advance_accepted.Tie as tie
 call-in-range-requires : tie.Need-call-in-range-requires
 call-in-range-requires c κs = search needs
 
-asked-requires : tie.Need-asked-requires
-asked-requires c κs = search needs
+operation-requires : tie.Need-operation-requires
+operation-requires c κs = search needs
 
-asked-step-requires : tie.Need-asked-step-requires
-asked-step-requires c κs =
+operation-step-requires : tie.Need-operation-step-requires
+operation-step-requires c κs =
     let r = c .before .before .before .before .before .before in
     let b = whole (r .args .l) (r .args .zones .now) in
     let h = r .pre .1 in
@@ -24,7 +24,7 @@ asked-step-requires c κs =
 returns : tie.Need-returns
 returns c =
     let r = c .before .before .before .before .before .before .before in
-    c .asked-step .ensures ∙ stepped _ _ _ _ (c .before .before .asked .ensures)
+    c .operation-step .ensures ∙ stepped _ _ _ _ (c .before .before .operation .ensures)
     ∙ sym (advance-is-step (r .args .version) (whole (r .args .l) (r .args .zones .now)) (r .args .call) (r .pre .1) (sym (c .before .before .before .before .call-in-range .ensures) ∙ c .before .before .before .if1 .taken))
 
 refused-reply-requires : tie.Need-refused-reply-requires
@@ -41,8 +41,8 @@ advance-accepted-spec =
     tie.close
     (tie.spec
     call-in-range-requires
-    asked-requires
-    asked-step-requires
+    operation-requires
+    operation-step-requires
     returns
     refused-reply-requires
     returns-2)

@@ -1,6 +1,6 @@
 use Rattle.battery.specs.Ledger.{whole}
 use Rattle.engine.proofs.AdvanceKeeps.{not-accepted-ten}
-use Rattle.replies.proofs.Settled.{settled-refusal}
+use Rattle.engine_replies.proofs.Settled.{settled-refusal}
 use mathlib.Core.Path.{refl, sym, _∙_}
 use borrow.Author.Needs.{needs}
 use Rattle.engine.proofs.steps.advance_in_place.Statement.{statement}

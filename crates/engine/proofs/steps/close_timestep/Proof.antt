@@ -1,6 +1,6 @@
 use mathlib.Core.List.{[]}
-use Rattle.replies.specs.Replies.{checked}
-use Rattle.replies.proofs.Settled.{plain-refusal, closed-with}
+use Rattle.engine_replies.specs.Replies.{checked}
+use Rattle.engine_replies.proofs.Settled.{plain-refusal, closed-with}
 use mathlib.Core.Path.{_∙_, ap}
 use borrow.Author.Needs.{needs}
 use Rattle.engine.proofs.steps.close_timestep.Statement.{statement}

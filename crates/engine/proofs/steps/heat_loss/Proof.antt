@@ -2,7 +2,7 @@ use Rattle.battery.specs.declared.Reply.{Reply}
 use Rattle.battery.specs.Ledger.{whole}
 use Rattle.engine.specs.Steps.{heatLoss}
 use Rattle.engine.proofs.FiniteZones.{loss-leaves-finite, left-finite}
-use Rattle.replies.proofs.Settled.{cooled-with}
+use Rattle.engine_replies.proofs.Settled.{cooled-with}
 use mathlib.Core.Path.{_∙_, ap}
 use borrow.Author.Needs.{needs}
 use Rattle.engine.proofs.steps.heat_loss.Statement.{statement}

@@ -1,7 +1,7 @@
 use mathlib.Core.List.{[]}
-use Rattle.replies.specs.Replies.{checked}
+use Rattle.engine_replies.specs.Replies.{checked}
 use Rattle.engine.specs.Steps.{readLevel}
-use Rattle.replies.proofs.Settled.{settled-refusal, plain-refusal, plain-with}
+use Rattle.engine_replies.proofs.Settled.{settled-refusal, plain-refusal, plain-with}
 use mathlib.Core.Path.{refl, _∙_, ap}
 use borrow.Author.Needs.{needs}
 use Rattle.engine.proofs.steps.read_level.Statement.{statement}

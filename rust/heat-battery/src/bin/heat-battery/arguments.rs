@@ -1,4 +1,4 @@
-//! The words behind a command: places in order, options by name.
+//! The words after a command: places in order, options by name.
 
 use heat_battery::text::hint;
 use std::ffi::{OsStr, OsString};
@@ -54,7 +54,7 @@ impl Arguments {
         }
     }
 
-    /// Adds an option with the value behind its '=', or with the next word.
+    /// Adds an option with the value after its '=', or with the next word.
     fn add_flag<'a>(
         &mut self,
         flag: &Flag,

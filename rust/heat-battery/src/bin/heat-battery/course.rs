@@ -121,7 +121,7 @@ impl Course {
         self.lines.last().map_or(1.0, |placed| placed.to)
     }
 
-    /// Where a line stands; the one behind the last at the end. None for others.
+    /// Where a line stands; the one after the last at the end. None for others.
     pub fn place(&self, index: u64) -> Option<f64> {
         let found = self.lines.iter().find(|placed| placed.line.index == index);
         let is_next = self.lines().next_back().is_some_and(|line| line.index + 1 == index);

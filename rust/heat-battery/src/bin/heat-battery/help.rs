@@ -13,7 +13,7 @@ heat-battery: the proved zone engine for salt hydrate heat batteries
   heat-battery refusals                      every refusal: number, name, meaning
   heat-battery --version
 
-Each has --help. A file '-' is standard input or output; --option=value is --option value; behind
+Each has --help. A file '-' is standard input or output; --option=value is --option value; after
 '--' every word is a file. A file is written whole or not at all.
 Status: 0 all well; 1 a card, a call or the sheet is refused, or isn't the one expected; 2 bad usage
 or a bad file; 3 a demand is unmet and --unmet-fails stands there.

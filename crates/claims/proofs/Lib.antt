@@ -1,3 +1,0 @@
-pub mod Shown
-pub mod Charged
-pub mod Directions

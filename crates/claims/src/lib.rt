@@ -1,1 +1,0 @@
-// What accepted sheets show: its definitions in specs/, its proofs in proofs/.

@@ -1,0 +1,3 @@
+pub mod Replies
+pub mod Classes
+pub mod Totals

@@ -1,0 +1,6 @@
+pub mod Opening
+pub mod Entering
+pub mod Checked
+pub mod Answered
+pub mod OwnRecordLaws
+pub mod Zones

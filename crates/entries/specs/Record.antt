@@ -1,0 +1,56 @@
+-- Document 01, module 9: 'One more entry takes the caller's own battery record and advances it by a call.' There is no sheet, so no 11.
+use Prim.Native.Nat.{ℕ, zero, suc}
+use mathlib.Core.List.{List}
+use lib.ListN.{getD, set}
+use lib.Ieee.{Float, nan}
+use Rattle.refusals.specs.Refusals.{badCall}
+use Rattle.battery.specs.Answer.{replyOf, refusedReply, refusedWith}
+use Rattle.battery.specs.Ledger.{renewedBattery}
+use Rattle.battery.specs.declared.Battery.{Battery}
+use Rattle.battery.specs.declared.Answer.{Answer}
+use Rattle.battery.specs.declared.Reply.{Reply}
+use Rattle.battery.specs.declared.Ledger.{Ledger}
+use Rattle.engine.specs.Steps.{advanceOf}
+use Rattle.sheet_calls.specs.Calls.{callOf}
+use Rattle.sheet_calls.specs.declared.ReadCall.{ReadCall}
+use Rattle.sheet_calls.specs.declared.ReadCall.the-variants.{Good, Bad}
+use Rattle.entries.specs.declared.own_record.Shown.{Shown}
+use Rattle.entries.specs.declared.own_record.Renewed.{Renewed}
+
+-- a battery after a call, and what the call answers
+pub record Advanced : Type 0 where
+  pub battery : Battery
+  pub shown : Shown
+
+-- a reply without its totals, as a line shows it; the same of a refusal, and of an answer
+abbrev pub replyShown : Reply → Shown
+replyShown reply =
+    record { refusal = reply .refusal; mark = reply .mark; substeps = reply .substeps; energy = reply .energy; outlet = reply .outlet; time = reply .time }
+
+abbrev pub refusedShown : ℕ → Shown
+refusedShown n = replyShown (refusedReply n)
+
+unfoldable pub shownOf : Answer → Shown
+shownOf answer = replyShown (replyOf answer)
+
+-- a battery whose zones lie apart, with its totals renewed and these zones: its card and count stay
+abbrev pub renewedWith : Ledger → Renewed → List Float → Advanced
+renewedWith ledger r zones =
+    record { battery = renewedBattery ledger (r .totals) zones; shown = r .shown }
+
+-- zones of which the first n are those of another list
+unfoldable pub renewedZones : List Float → List Float → ℕ → List Float
+renewedZones zones own zero = zones
+renewedZones zones own (suc n) = set (renewedZones zones own n) n (getD own n nan)
+
+-- the record afterwards, and what the call answers
+unfoldable pub advancedBy : Answer → Advanced
+advancedBy answer = record { battery = answer .battery; shown = shownOf answer }
+
+-- 10 for a call that can't be read
+unfoldable pub advancedRead : ℕ → Battery → ReadCall → Advanced
+advancedRead version battery Bad = advancedBy (refusedWith badCall battery)
+advancedRead version battery (Good call) = advancedBy (advanceOf version battery call)
+
+unfoldable pub advancedOf : ℕ → Battery → List ℕ → Advanced
+advancedOf version battery call = advancedRead version battery (callOf version call)

@@ -1,0 +1,97 @@
+// A call on the caller's own battery: the first of its zones stored where they lie, what is left of the totals, and what is shown.
+use battery::Ledger;
+use battery::Reply;
+use battery::Totals;
+use sheet_calls::ReadCall;
+ghost use mathlib.Core.Path.{_≡_};
+ghost use Prim.Native.Nat.{_≤_};
+ghost use Rattle.battery.specs.Ledger.{whole};
+ghost use Rattle.entries.specs.Record.{replyShown, refusedShown, renewedWith, renewedZones, advancedOf};
+
+// What a call answers, without the battery.
+#[repr(C)]
+pub struct Shown {
+    // 0 for none
+    pub refusal: u8,
+    // 1 where there is an outlet temperature
+    pub mark: u8,
+    pub substeps: u32,
+    // kWh, or the state of charge
+    pub energy: f64,
+    pub outlet: f64,
+    // seconds
+    pub time: f64,
+}
+
+// What a call leaves of a battery besides its zones, and what it shows.
+pub struct Renewed {
+    pub totals: Totals,
+    pub shown: Shown,
+}
+
+// What an answer shows.
+fn reply_shown(a: Reply) -> Shown
+    ensures { λ r. ⌜ r ≡ replyShown a ⌝ }
+{
+    Shown {
+        refusal: a.refusal,
+        mark: a.mark,
+        substeps: a.substeps,
+        energy: a.energy,
+        outlet: a.outlet,
+        time: a.time,
+    }
+}
+
+// What a refusal shows.
+fn refused_shown(refusal: u8) -> Shown
+    ensures { λ r. ⌜ r ≡ refusedShown refusal ⌝ }
+{
+    Shown {
+        refusal,
+        mark: 0,
+        substeps: 0,
+        energy: 0.0,
+        outlet: 0.0,
+        time: 0.0,
+    }
+}
+
+// Stores the first n zones of another list; the places above are not written.
+fn renew_zones(zones: &mut [f64; 64], own: &[f64; 64], n: usize)
+    requires { ⌜ n ≤ 64 ⌝ }
+    ensures { λ _. ⌜ now (zones .exit) ≡ renewedZones (now (zones .entry)) (now (own .entry)) n ⌝ }
+{
+    for k in 0..n {
+        zones[k] = own[k];
+    }
+}
+
+// A call's bytes on a battery whose zones lie apart. It runs on a copy of them: answered, the first `count` are stored, and refused, none.
+pub fn advance_apart(version: u8, l: Ledger, call: &[u8], zones: &mut [f64; 64]) -> Renewed
+    ensures { λ r. ⌜ renewedWith l r (now (zones .exit)) ≡ advancedOf version (whole l (now (zones .entry))) (now (call .entry)) ⌝ }
+{
+    let read = sheet_calls::read_call(version, call);
+    match read {
+        ReadCall::Bad => {
+            let totals = l.totals;
+            let shown = refused_shown(refusals::BAD_CALL);
+            Renewed { totals, shown }
+        }
+        ReadCall::Good(c) => {
+            let salts = card::pcm::figures_of(l.card);
+            let mut own = *zones;
+            let a = engine::steps::advance_in_place(version, l, &salts, 0, c, &mut own);
+            if a.refusal == 0 {
+                let n = l.count as usize;
+                renew_zones(zones, &own, n);
+                let totals = a.totals;
+                let shown = reply_shown(a);
+                return Renewed { totals, shown };
+            }
+            let totals = l.totals;
+            let shown = refused_shown(a.refusal);
+            Renewed { totals, shown }
+        }
+    }
+}

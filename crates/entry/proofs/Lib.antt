@@ -1,3 +1,0 @@
-pub mod Opening
-pub mod Entering
-pub mod Checked

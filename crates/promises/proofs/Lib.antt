@@ -1,0 +1,10 @@
+pub mod Spared
+pub mod Lined
+pub mod AList
+pub mod Numbers
+pub mod ClosingLine
+pub mod Promises
+pub mod Example
+pub mod Shown
+pub mod Charged
+pub mod Directions

@@ -1,0 +1,109 @@
+-- The promises are kept. Each is proved where its words are; here it is put under its name.
+use mathlib.Core.Path.{refl}
+use Rattle.sheet_lines.proofs.Agreement.{same-number-self}
+use Rattle.auditor.specs.Rules.{plain}
+use Rattle.heat_battery.proofs.OpenCases.{open-0, open-1, open-2, open-3, open-4, open-10, open-11, open-codes, refused-opening-keeps}
+use Rattle.heat_battery.proofs.CallCases.{call-10, call-11, call-codes, refused-call-keeps, refusal-line-keeps}
+use Rattle.heat_battery.proofs.CallNumbers.{call-20, call-21, call-22, call-23, call-24, call-25}
+use Rattle.heat_battery.proofs.OwnCases.{own-10, own-20, own-21, own-22, own-23, own-24, own-25, own-codes}
+use Rattle.heat_battery.proofs.EqualSteps.{sheet-equal-to-steps}
+use Rattle.entries.proofs.OwnRecordLaws.{refused-record-stays, places-above-stay}
+use Rattle.auditor.specs.Audit.{limitedAuditOf}
+use Rattle.auditor.proofs.Exact.{exact}
+use Rattle.auditor.proofs.Refusals.{refused-40, refused-41, refused-42, refused-43, refused-44, refused-70, no-other}
+use Rattle.auditor.proofs.Words.{verdict-given, plain-given, same-verdict, word-accepts}
+use Rattle.auditor.proofs.Fields.{fields-accept, fields-refuse, fields-word}
+use Rattle.promises.proofs.Directions.{directions}
+use Rattle.promises.proofs.Charged.{charged-total}
+use Rattle.promises.specs.Promises.{OpeningNumbers, CallNumbers, OwnRecordNumbers, AuditVerdicts, AuditorVerdicts, RefusedOpeningChangesNothing, TenAndElevenChangeNothing, RefusalLineLeavesTheRecord, RefusedOwnRecordStays, PlacesAboveTheCountStay, EqualToTheSteps, Opening, AcceptsAList, AcceptsAListByRules, ExactlyWhen, ExactlyWhenInC, WordTellsTheVerdict, ExactlyWhenOfAnyLength, FieldsTellTheVerdict, BothAuditsAgree, ZonesMoveTheRightWay, ChargedTotalAddsUp, OpeningRefusals, CallRefusals, OwnRecordRefusals, AuditRefusals}
+use Rattle.promises.proofs.Numbers.{among-call, among-own}
+use Rattle.promises.proofs.AList.{a-list}
+
+pub opening-numbers : OpeningNumbers
+opening-numbers version known card rec free = open-codes version card rec free
+
+pub call-numbers : CallNumbers
+call-numbers version known rec call free = among-call _ (call-codes version rec call free)
+
+pub own-record-numbers : OwnRecordNumbers
+own-record-numbers version known b call = among-own _ (own-codes version b call)
+
+pub audit-verdicts : AuditVerdicts
+audit-verdicts = plain-given
+
+pub auditor-verdicts : AuditorVerdicts
+auditor-verdicts = no-other
+
+pub refused-opening-changes-nothing : RefusedOpeningChangesNothing
+refused-opening-changes-nothing version known = refused-opening-keeps version
+
+pub ten-and-eleven-change-nothing : TenAndElevenChangeNothing
+ten-and-eleven-change-nothing version known = refused-call-keeps version
+
+pub refusal-line-leaves-the-record : RefusalLineLeavesTheRecord
+refusal-line-leaves-the-record version known rec call free low high = refusal-line-keeps version rec call free low
+
+pub refused-own-record-stays : RefusedOwnRecordStays
+refused-own-record-stays version known = refused-record-stays version
+
+pub places-above-the-count-stay : PlacesAboveTheCountStay
+places-above-the-count-stay version known = places-above-stay version
+
+pub equal-to-the-steps : EqualToTheSteps
+equal-to-the-steps version known = sheet-equal-to-steps version
+
+pub opening : Opening
+opening version known = open-0 version
+
+pub accepts-a-list : AcceptsAList
+accepts-a-list version known card rec free calls = a-list plain same-number-self version known card rec free calls refl
+
+pub accepts-a-list-by-rules : AcceptsAListByRules
+accepts-a-list-by-rules = a-list
+
+pub exactly-when : ExactlyWhen
+exactly-when = exact
+
+pub exactly-when-in-c : ExactlyWhenInC
+exactly-when-in-c = word-accepts
+
+pub word-tells-the-verdict : WordTellsTheVerdict
+word-tells-the-verdict rules bs cs = same-verdict (limitedAuditOf rules bs) (limitedAuditOf rules cs) (verdict-given rules bs) (verdict-given rules cs)
+
+pub exactly-when-of-any-length : ExactlyWhenOfAnyLength
+exactly-when-of-any-length = fields-accept
+
+pub fields-tell-the-verdict : FieldsTellTheVerdict
+fields-tell-the-verdict = fields-refuse
+
+pub both-audits-agree : BothAuditsAgree
+both-audits-agree = fields-word
+
+pub zones-move-the-right-way : ZonesMoveTheRightWay
+zones-move-the-right-way = directions
+
+pub charged-total-adds-up : ChargedTotalAddsUp
+charged-total-adds-up = charged-total
+
+pub opening-refusals : OpeningRefusals
+opening-refusals version known card rec free =
+    (open-1 version card rec free, open-2 version card rec free, open-3 version card rec free, open-4 version card rec free, open-10 version card rec free, open-11 version card rec free)
+
+pub call-refusals : CallRefusals
+call-refusals version known rec call free = (
+  call-10 version rec call free,
+  call-11 version rec call free,
+  call-20 version rec call free,
+  call-21 version rec call free,
+  call-22 version rec call free,
+  call-23 version rec call free,
+  call-24 version rec call free,
+  call-25 version rec call free,
+)
+
+pub own-record-refusals : OwnRecordRefusals
+own-record-refusals version known b call = (own-10 version b call, own-20 version b call, own-21 version b call, own-22 version b call, own-23 version b call, own-24 version b call, own-25 version b call)
+
+pub audit-refusals : AuditRefusals
+audit-refusals rules bs k =
+    (refused-40 rules bs, refused-41 rules bs, refused-70 rules bs, refused-42 rules bs k, refused-43 rules bs k, refused-44 rules bs)

@@ -1,0 +1,192 @@
+-- The promises: what the demands ask, each under its sentence, in the words of the crates below (the entries' openOf, entryOf and advancedOf, the auditor's
+-- auditOf), for every known version: what A does takes it, and a sheet has its own. Each is a theorem of crates/demands/proofs/Promises.antt under the same name.
+use Prim.Native.Nat.{ℕ, _+_, _*_, _<_, _≤_}
+use mathlib.Core.Path.{_≡_}
+use mathlib.Core.Bool.{true}
+use mathlib.Core.Logic.{_⊎_, _↔_}
+use mathlib.Core.List.{List, [], _∷_, _++_}
+use lib.ListN.{length, drop}
+use Rattle.floats.specs.Constants.{zero}
+use Rattle.codec.specs.Bytes.{over}
+use Rattle.card.specs.Version.{knownVersion}
+use Rattle.card.specs.Card.{OneOf, cardRefusals}
+use Rattle.battery.specs.Answer.{refusedWith}
+use Rattle.battery.specs.Battery.{fresh}
+use Rattle.battery.specs.Places.{SameAbove}
+use Rattle.battery.specs.declared.Battery.{Battery}
+use Rattle.engine.specs.Cases.{Case20, Case21, Case22, Case23, Case24, Case25}
+use Rattle.sheet_records.specs.Cards.{cardAt}
+use Rattle.sheet_records.specs.Records.{recordOf}
+use Rattle.sheet_lines.specs.Answers.{AcceptsItself}
+use Rattle.sheet_lines.specs.Lines.{lineBytes, openingBytes}
+use Rattle.entries.specs.Entry.{unchanged, openOf}
+use Rattle.entries.specs.Record.{advancedOf}
+use Rattle.heat_battery.specs.Entries.{entryOf}
+use Rattle.heat_battery.specs.Cases.{OpenCase1, OpenCase2, OpenCase3, OpenCase4, OpenCase10, OpenCase11, Opens, CallCase10, CallCase11, LineCase, OwnCase10, OwnCase}
+use Rattle.heat_battery.specs.Lists.{sheetOf, freeAfterSheet, sparedOf, stepLines, SheetOfSteps}
+use Rattle.auditor.specs.declared.Verdict.the-variants.{Accepted, Refused}
+use Rattle.auditor.specs.Rules.{Rules, plain, NoLooser}
+use Rattle.auditor.specs.Audit.{limit, auditOf, limitedAuditOf, verdictWord, verdictFields}
+use Rattle.auditor.specs.Sheet.{Sheet}
+use Rattle.auditor.specs.Cases.{NoVersion, NoCard, CardNotTaken, BadLine, Disagrees, Known, Given}
+use Rattle.promises.specs.Claims.{AllDirected, AllSummed}
+
+-- ---- 1: 'A caller of any entry, with any numbers and any bytes, gets an answer or a refusal of document 01': the contracts of the five C entries
+-- (crates/heat_battery/src/lib.rt) equate what each returns and leaves with openOf, entryOf and advancedOf of the version that they write, and with limitedAuditOf and auditOf of `plain`; these are their numbers, 0 for an answer
+
+abbrev pub OpeningNumbers : Type 0
+OpeningNumbers = (version : ℕ) → knownVersion version ≡ true → (card rec free : List ℕ) → OneOf (0 ∷ 10 ∷ 11 ∷ cardRefusals) (openOf version card rec free .code)
+
+abbrev pub CallNumbers : Type 0
+CallNumbers =
+    (version : ℕ) → knownVersion version ≡ true → (rec call free : List ℕ) → OneOf (0 ∷ 10 ∷ 11 ∷ 20 ∷ 21 ∷ 22 ∷ 23 ∷ 24 ∷ 25 ∷ []) (entryOf version rec call free .code)
+
+abbrev pub OwnRecordNumbers : Type 0
+OwnRecordNumbers =
+    (version : ℕ) → knownVersion version ≡ true → (b : Battery) (call : List ℕ) → OneOf (0 ∷ 10 ∷ 20 ∷ 21 ∷ 22 ∷ 23 ∷ 24 ∷ 25 ∷ []) (advancedOf version b call .shown .refusal)
+
+-- accepted, 40 or 41 at line 0, 42 or 43 at a call line, or 44 at line 0
+abbrev pub AuditVerdicts : Type 0
+AuditVerdicts = (bs : List ℕ) → Given (limitedAuditOf plain bs)
+
+-- the auditor without a limit of length: the same without 44
+abbrev pub AuditorVerdicts : Type 0
+AuditorVerdicts = (bs : List ℕ) (r i : ℕ) → auditOf plain bs ≡ Refused r i → Known r i
+
+-- 'and a refused call changes no battery, total or byte that 01 doesn't name'
+
+abbrev pub RefusedOpeningChangesNothing : Type 0
+RefusedOpeningChangesNothing =
+    (version : ℕ) → knownVersion version ≡ true → (card rec free : List ℕ) → (openOf version card rec free .code ≡ 0 → ⊥) → openOf version card rec free ≡ unchanged (openOf version card rec free .code) rec free
+
+abbrev pub TenAndElevenChangeNothing : Type 0
+TenAndElevenChangeNothing =
+    (version : ℕ) → knownVersion version ≡ true → (rec call free : List ℕ) → (entryOf version rec call free .code ≡ 10) ⊎ (entryOf version rec call free .code ≡ 11)
+    → entryOf version rec call free ≡ unchanged (entryOf version rec call free .code) rec free
+
+-- 20 to 25: 'A refusal line shows energy 0, outlet absent, time 0, substeps 0, and zones and totals as before'
+abbrev pub RefusalLineLeavesTheRecord : Type 0
+RefusalLineLeavesTheRecord =
+    (version : ℕ) → knownVersion version ≡ true → (rec call free : List ℕ) → 20 ≤ entryOf version rec call free .code → entryOf version rec call free .code ≤ 25
+    → (entryOf version rec call free .record' ≡ rec)
+    × (entryOf version rec call free .sheet ≡ over (lineBytes version call (refusedWith (entryOf version rec call free .code) (recordOf version rec))) free)
+
+abbrev pub RefusedOwnRecordStays : Type 0
+RefusedOwnRecordStays =
+    (version : ℕ) → knownVersion version ≡ true → (b : Battery) (call : List ℕ) → (advancedOf version b call .shown .refusal ≡ 0 → ⊥) → advancedOf version b call .battery ≡ b
+
+-- 'places above the count .. are never written': whatever the caller's own record holds there stays, answered or refused
+abbrev pub PlacesAboveTheCountStay : Type 0
+PlacesAboveTheCountStay =
+    (version : ℕ) → knownVersion version ≡ true → (b : Battery) (call : List ℕ) → SameAbove (b .card .layers) (b .zones) (advancedOf version b call .battery .zones)
+
+-- ---- 2: 'engine, sheet writer and sheet reader are proved against 01's steps'
+
+-- after every list of calls the record and each line are the encodings of the steps' state and answer
+abbrev pub EqualToTheSteps : Type 0
+EqualToTheSteps =
+    (version : ℕ) → knownVersion version ≡ true → (card rec free : List ℕ) → Opens version card rec free → (calls : List (List ℕ)) → SheetOfSteps version card rec free calls
+
+-- ---- 3: 'For every accepted card that opens A's sheet'
+
+abbrev pub Opening : Type 0
+Opening = (version : ℕ) → knownVersion version ≡ true → (card rec free : List ℕ) → (openOf version card rec free .code ≡ 0) ↔ Opens version card rec free
+
+-- 'and every list of calls from a fresh battery (any kind, any fields, refused ones included), B accepts the sheet that A then has, however few bytes were free.'
+-- `free` is the lent buffer, `calls` are any bytes whatsoever.
+pub record AList (rules : Rules) (version : ℕ) (card rec free : List ℕ) (calls : List (List ℕ)) : Type 0 where
+  -- as many lines as calls that 10 and 11 spared
+  pub verdict : auditOf rules (sheetOf version card rec free calls) ≡ Accepted (length (sparedOf version card rec free calls))
+  -- the version, line 0 and, for each such call in order, a line with the call's own bytes and the steps' answer
+  pub bytes : sheetOf version card rec free calls ≡ openingBytes version card ++ stepLines version (fresh (cardAt version card)) (sparedOf version card rec free calls)
+  -- within the buffer
+  pub fits : length (sheetOf version card rec free calls) ≤ length free
+  -- the bytes after it are as before
+  pub following : freeAfterSheet version card rec free calls ≡ drop (length (sheetOf version card rec free calls)) free
+
+abbrev pub AcceptsAList : Type 0
+AcceptsAList =
+    (version : ℕ) → knownVersion version ≡ true → (card rec free : List ℕ) (calls : List (List ℕ)) → openOf version card rec free .code ≡ 0
+    → AList plain version card rec free calls
+
+-- the same of every audit whose comparison accepts a finite number beside itself, and which takes the card
+abbrev pub AcceptsAListByRules : Type 0
+AcceptsAListByRules =
+    (rules : Rules) → AcceptsItself (rules .same) → (version : ℕ) → knownVersion version ≡ true → (card rec free : List ℕ) (calls : List (List ℕ))
+    → rules .test version (cardAt version card) ≡ true → openOf version card rec free .code ≡ 0 → AList rules version card rec free calls
+
+-- 'Whatever bytes B is handed, it accepts them exactly when they have 01's layout, their card is accepted and every call line agrees with 01's steps for the calls up to it.'
+-- Of every comparison and card test: document 01's are `plain`.
+abbrev pub ExactlyWhen : Type 0
+ExactlyWhen = (rules : Rules) (bs : List ℕ) (n : ℕ) → (auditOf rules bs ≡ Accepted n) ↔ Sheet rules bs n
+
+-- the same of its number for at most 65,536 bytes, which the C audit returns by `plain`
+abbrev pub ExactlyWhenInC : Type 0
+ExactlyWhenInC = (rules : Rules) (bs : List ℕ) (n : ℕ) → length bs ≤ limit → (verdictWord (limitedAuditOf rules bs) ≡ n * 256) ↔ Sheet rules bs n
+
+-- and that number tells the verdict
+abbrev pub WordTellsTheVerdict : Type 0
+WordTellsTheVerdict =
+    (rules : Rules) (bs cs : List ℕ) → verdictWord (limitedAuditOf rules bs) ≡ verdictWord (limitedAuditOf rules cs) → limitedAuditOf rules bs ≡ limitedAuditOf rules cs
+
+-- the same of its refusal and its line for any length, which the C audit without a limit returns by `plain`
+abbrev pub ExactlyWhenOfAnyLength : Type 0
+ExactlyWhenOfAnyLength =
+    (rules : Rules) (bs : List ℕ) (n : ℕ) → ((verdictFields (auditOf rules bs) .refusal ≡ 0) × (verdictFields (auditOf rules bs) .line ≡ n)) ↔ Sheet rules bs n
+
+-- and these two tell the verdict
+abbrev pub FieldsTellTheVerdict : Type 0
+FieldsTellTheVerdict =
+    (rules : Rules) (bs : List ℕ) (r i : ℕ) → 1 ≤ r
+    → ((verdictFields (auditOf rules bs) .refusal ≡ r) × (verdictFields (auditOf rules bs) .line ≡ i)) ↔ (auditOf rules bs ≡ Refused r i)
+
+-- where both audits look at the lines, they say the same
+abbrev pub BothAuditsAgree : Type 0
+BothAuditsAgree =
+    (rules : Rules) (bs : List ℕ) → length bs ≤ limit
+    → verdictWord (limitedAuditOf rules bs) ≡ verdictFields (auditOf rules bs) .line * 256 + verdictFields (auditOf rules bs) .refusal
+
+-- 'In each accepted sheet no zone is warmer after a standing loss, none cooler after an electric charge, and none altered by a refused or trial line.'
+-- This and the next of every audit whose comparison accepts no more than f64 equality, as document 01's.
+abbrev pub ZonesMoveTheRightWay : Type 0
+ZonesMoveTheRightWay =
+    (rules : Rules) → NoLooser rules → (bs : List ℕ) (n : ℕ) (s : Sheet rules bs n)
+    → AllDirected (s .version) (cardAt (s .version) (s .card)) (λ i. cardAt (s .version) (s .card) .start) (s .lines)
+
+-- 'On each of its call lines the charged total is the f64 sum, in line order, of the energies of the answered charge lines up to it.'
+abbrev pub ChargedTotalAddsUp : Type 0
+ChargedTotalAddsUp =
+    (rules : Rules) → NoLooser rules → (bs : List ℕ) (n : ℕ) (s : Sheet rules bs n) → AllSummed (s .version) (cardAt (s .version) (s .card)) zero (s .lines)
+
+-- ---- document 01: 'Each is given only in its case', and in its case it is given
+
+abbrev pub OpeningRefusals : Type 0
+OpeningRefusals =
+    (version : ℕ) → knownVersion version ≡ true → (card rec free : List ℕ)
+    → ((openOf version card rec free .code ≡ 1) ↔ OpenCase1 version card) × ((openOf version card rec free .code ≡ 2) ↔ OpenCase2 version card)
+    × ((openOf version card rec free .code ≡ 3) ↔ OpenCase3 version card) × ((openOf version card rec free .code ≡ 4) ↔ OpenCase4 version card)
+    × ((openOf version card rec free .code ≡ 10) ↔ OpenCase10 version card rec) × ((openOf version card rec free .code ≡ 11) ↔ OpenCase11 version card rec free)
+
+abbrev pub CallRefusals : Type 0
+CallRefusals =
+    (version : ℕ) → knownVersion version ≡ true → (rec call free : List ℕ)
+    → ((entryOf version rec call free .code ≡ 10) ↔ CallCase10 version rec call) × ((entryOf version rec call free .code ≡ 11) ↔ CallCase11 version rec call free)
+    × ((entryOf version rec call free .code ≡ 20) ↔ LineCase Case20 version rec call free) × ((entryOf version rec call free .code ≡ 21) ↔ LineCase Case21 version rec call free)
+    × ((entryOf version rec call free .code ≡ 22) ↔ LineCase Case22 version rec call free) × ((entryOf version rec call free .code ≡ 23) ↔ LineCase Case23 version rec call free)
+    × ((entryOf version rec call free .code ≡ 24) ↔ LineCase Case24 version rec call free) × ((entryOf version rec call free .code ≡ 25) ↔ LineCase Case25 version rec call free)
+
+abbrev pub OwnRecordRefusals : Type 0
+OwnRecordRefusals =
+    (version : ℕ) → knownVersion version ≡ true → (b : Battery) (call : List ℕ)
+    → ((advancedOf version b call .shown .refusal ≡ 10) ↔ OwnCase10 version b call)
+    × ((advancedOf version b call .shown .refusal ≡ 20) ↔ OwnCase Case20 version b call) × ((advancedOf version b call .shown .refusal ≡ 21) ↔ OwnCase Case21 version b call)
+    × ((advancedOf version b call .shown .refusal ≡ 22) ↔ OwnCase Case22 version b call) × ((advancedOf version b call .shown .refusal ≡ 23) ↔ OwnCase Case23 version b call)
+    × ((advancedOf version b call .shown .refusal ≡ 24) ↔ OwnCase Case24 version b call) × ((advancedOf version b call .shown .refusal ≡ 25) ↔ OwnCase Case25 version b call)
+
+-- 70 is given by no audit that takes every card, as document 01's (AuditorVerdicts)
+abbrev pub AuditRefusals : Type 0
+AuditRefusals =
+    (rules : Rules) (bs : List ℕ) (k : ℕ)
+    → ((auditOf rules bs ≡ Refused 40 0) ↔ NoVersion bs) × ((auditOf rules bs ≡ Refused 41 0) ↔ NoCard bs) × ((auditOf rules bs ≡ Refused 70 0) ↔ CardNotTaken rules bs)
+    × ((auditOf rules bs ≡ Refused 42 (k + 1)) ↔ BadLine rules bs k) × ((auditOf rules bs ≡ Refused 43 (k + 1)) ↔ Disagrees rules bs k)
+    × ((limitedAuditOf rules bs ≡ Refused 44 0) ↔ (limit < length bs))

@@ -1,9 +1,0 @@
-use mathlib.Core.Path.{refl}
-use Rattle.replies.proofs.run_reply.Statement.{statement}
-use Rattle.replies.proofs.run_reply.Tie as tie
-
-returns : tie.Need-returns
-returns c = refl
-
-pub run-reply-spec : {M : Type 1} → statement M
-run-reply-spec = tie.close (tie.spec returns)

@@ -1,0 +1,102 @@
+-- Document 01, 'Kinds': a call's bytes, and refusal 10's tests of them. Ranges are the battery's.
+use Prim.Native.Nat.{ℕ, _+_}
+use mathlib.Core.List.{List}
+use mathlib.Core.Bool.{Bool, cond, _&&_}
+use lib.Dec.{leb, eqb}
+use lib.ListN.{length, getD}
+use Rattle.codec.specs.Bytes.{beAt, f64At, nthF64}
+use Rattle.battery.specs.declared.Given.{Given}
+use Rattle.battery.specs.declared.Given.the-variants.{Absent, Value}
+use Rattle.battery.specs.declared.Demand.{Demand}
+use Rattle.battery.specs.declared.Hydronic.{Hydronic}
+use Rattle.battery.specs.declared.Call.the-variants.{DemandEnergy, ChargeElectric, ChargeHydronic, HeatLoss, CloseTimestep, ReadStateOfCharge, ChargeEnergyDemand}
+use Rattle.sheet_calls.specs.declared.ReadCall.{ReadCall}
+use Rattle.sheet_calls.specs.declared.ReadCall.the-variants.{Good, Bad}
+
+-- a mark is 0 or 1, and 'an absent value has zero bytes'
+unfoldable pub markOk : List ℕ → ℕ → Bool
+markOk bs at = cond (eqb (getD bs at 0) 0) (eqb (beAt bs (at + 1) 8) 0) (eqb (getD bs at 0) 1)
+
+-- a mark and a value
+unfoldable pub givenAt : List ℕ → ℕ → Given
+givenAt bs at = cond (eqb (getD bs at 0) 0) Absent (Value (f64At bs (at + 1)))
+
+-- the place of the first field
+abbrev pub fieldsPlace : ℕ
+fieldsPlace = 1
+
+-- the place of a demand's first flag, after its type; those of its second flag, its numbers and its return mark
+unfoldable pub commitPlace : ℕ → ℕ
+commitPlace version = 2
+
+abbrev pub controlPlace : ℕ → ℕ
+controlPlace version = commitPlace version + 1
+
+abbrev pub demandNumbers : ℕ → ℕ
+demandNumbers version = commitPlace version + 2
+
+abbrev pub returnPlace : ℕ → ℕ
+returnPlace version = commitPlace version + 18
+
+-- the bytes of a call of a kind, the kind's own included; 0 where there is no such kind
+unfoldable pub callLength : ℕ → ℕ → ℕ
+callLength version kind =
+    cond (eqb kind 1) (returnPlace version + 9)
+    (cond (eqb kind 2) 17
+    (cond (eqb kind 3) 73
+    (cond (eqb kind 4) 1
+    (cond (eqb kind 5) 1
+    (cond (eqb kind 6) 1
+    (cond (eqb kind 7) 18 0))))))
+
+-- '1 demand: type, commit, control on (u8 each), required, start, return mark and temperature'
+unfoldable pub demandAt : ℕ → List ℕ → Demand
+demandAt version bs =
+    record {
+      service = getD bs fieldsPlace 0;
+      commit = eqb (getD bs (commitPlace version) 0) 1;
+      control = eqb (getD bs (controlPlace version) 0) 1;
+      required = nthF64 bs (demandNumbers version) 0;
+      start = nthF64 bs (demandNumbers version) 1;
+      feed = givenAt bs (returnPlace version);
+    }
+
+unfoldable pub demandCall : ℕ → List ℕ → ReadCall
+demandCall version bs =
+    cond (leb (getD bs (commitPlace version) 0) 1 && (leb (getD bs (controlPlace version) 0) 1 && markOk bs (returnPlace version)))
+    (Good (DemandEnergy (demandAt version bs))) Bad
+
+-- '3 hydronic: inlet, hours, flow, target, limit, hex a, hex b, velocity, diameter'
+unfoldable pub hydronicAt : ℕ → List ℕ → Hydronic
+hydronicAt version bs =
+    record {
+      inlet = nthF64 bs fieldsPlace 0;
+      hours = nthF64 bs fieldsPlace 1;
+      flow = nthF64 bs fieldsPlace 2;
+      target = nthF64 bs fieldsPlace 3;
+      limit = nthF64 bs fieldsPlace 4;
+      a = nthF64 bs fieldsPlace 5;
+      b = nthF64 bs fieldsPlace 6;
+      velocity = nthF64 bs fieldsPlace 7;
+      diameter = nthF64 bs fieldsPlace 8;
+    }
+
+-- '7 charge energy demand: mark and flow maximum, target'
+unfoldable pub chargeDemandCall : ℕ → List ℕ → ReadCall
+chargeDemandCall version bs = cond (markOk bs fieldsPlace) (Good (ChargeEnergyDemand (givenAt bs fieldsPlace) (f64At bs 10))) Bad
+
+-- '4 standing loss', '5 close timestep', '6 state of charge': no fields
+unfoldable pub bareCall : ℕ → ℕ → ReadCall
+bareCall version kind = cond (eqb kind 4) (Good HeatLoss) (cond (eqb kind 5) (Good CloseTimestep) (cond (eqb kind 6) (Good ReadStateOfCharge) Bad))
+
+-- the fields of a kind; '2 electric: power, target'
+unfoldable pub callBy : ℕ → ℕ → List ℕ → ReadCall
+callBy version kind bs =
+    cond (eqb kind 1) (demandCall version bs)
+    (cond (eqb kind 2) (Good (ChargeElectric (nthF64 bs fieldsPlace 0) (nthF64 bs fieldsPlace 1)))
+    (cond (eqb kind 3) (Good (ChargeHydronic (hydronicAt version bs)))
+    (cond (eqb kind 7) (chargeDemandCall version bs) (bareCall version kind))))
+
+-- a call's bytes; bad ones are of another length, of an unknown kind, with a flag or mark other than 0 or 1, or with nonzero bytes under an absent mark
+unfoldable pub callOf : ℕ → List ℕ → ReadCall
+callOf version bs = cond (eqb (length bs) (callLength version (getD bs 0 0))) (callBy version (getD bs 0 0) bs) Bad

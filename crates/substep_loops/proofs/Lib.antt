@@ -1,0 +1,2 @@
+mod ChargingSteps
+mod LossSteps

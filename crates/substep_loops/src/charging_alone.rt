@@ -1,0 +1,111 @@
+// Substeps of charging alone, in a loop of their own: a zone is asked less than in the loop with water, and the call that runs one such
+// substep has the loop compiled in place.
+use card::Card;
+use card::HeatBatteryPcm;
+use substep::Common;
+use substep::Outcome;
+use substep::SubstepInput;
+use substep::ZoneStep;
+use zone::Kilojoules;
+use zone::KilowattHours;
+use zone::Salt;
+use zone_water::Mode;
+ghost use mathlib.Core.Path.{_≡_};
+ghost use mathlib.Core.Bool.{true};
+ghost use Prim.Native.Nat.{_≤_};
+ghost use lib.Ieee.{Float};
+ghost use Rattle.zone.specs.Lent.{zoneSalt, Salted};
+ghost use Rattle.substep.specs.Substep.{levelAt, zoneStep, zonesAfter, progressFrom, outcomeOf, substepFrom, processHeatBatteryZones};
+
+// A zone's part of charging alone: nothing, where the charger's heat is used up.
+fn charging_step(
+    common: Common,
+    salt: Salt,
+    alike: bool,
+    target: f64,
+    zone: f64,
+    left: Kilojoules,
+    charged: KilowattHours,
+) -> ZoneStep
+    requires { ⌜ (common .mode ≡ Mode.OnlyCharging) × (alike ≡ true → target ≡ levelAt common salt) ⌝ }
+    ensures { λ r. ⌜ ((inlet : Float) → r ≡ zoneStep common salt zone inlet left charged) ⌝ }
+{
+    if left.0 < 0.0 {
+        let own = substep::zone_target(common, salt, alike, target);
+        let c = zone_charging::charge_zone_alone(salt, zone, own, left, charged);
+        let heat = c.heat;
+        let update = zone_update::calculate_new_zone_temperature(salt, zone, heat);
+        let left = c.left;
+        let charged = c.charged;
+        return ZoneStep {
+            temperature: update.temperature,
+            energy: Kilojoules(0.0),
+            outlet: 0.0,
+            left,
+            charged,
+        };
+    }
+    ZoneStep {
+        temperature: zone,
+        energy: Kilojoules(0.0),
+        outlet: 0.0,
+        left,
+        charged,
+    }
+}
+
+// The zones from the last to the first. No heat goes to the water, so there is nothing to sum.
+fn charge_zones(
+    card: Card,
+    common: Common,
+    salts: &[f64],
+    step: usize,
+    d: SubstepInput,
+    target: f64,
+    zones: &mut [f64; 64],
+) -> Outcome
+    requires { ⌜ (card .layers ≤ 64) × (Salted (now salts) step (card .layers) × ((common .mode ≡ Mode.OnlyCharging) × (target ≡ levelAt common (zoneSalt (now salts) step 0)))) ⌝ }
+    ensures { λ r. ⌜ (now (zones .exit) ≡ zonesAfter common (zoneSalt (now (salts .entry)) step) (card .layers) (card .layers) (progressFrom d (now (zones .entry))) .zones) × (r ≡ outcomeOf (substepFrom card (zonesAfter common (zoneSalt (now (salts .entry)) step) (card .layers) (card .layers) (progressFrom d (now (zones .entry)))))) ⌝ }
+{
+    let n = card.layers as usize;
+    let mode = common.mode;
+    let mut outlet = d.inlet;
+    let mut left = substep::charger_heat(d);
+    let mut charged = KilowattHours(0.0);
+    // equals 0 as long as each zone is finite
+    let mut spread = 0.0;
+    for k in 0..n {
+        let j = substep::zone_index(mode, n, k);
+        let salt = zone::layer::zone_salt(salts, step, j);
+        let z = charging_step(common, salt, step == 0, target, zones[j], left, charged);
+        zones[j] = z.temperature;
+        spread = floats::finite_step(spread, zones[j]);
+        outlet = z.outlet;
+        left = z.left;
+        charged = z.charged;
+    }
+    let fault = substep::progress_fault(spread == 0.0, outlet, Kilojoules(0.0), charged);
+    Outcome {
+        outlet,
+        delivered: Kilojoules(0.0),
+        charged,
+        fault,
+    }
+}
+
+// A substep of charging alone, in place.
+pub fn charge_in_place(
+    card: Card,
+    pcm: HeatBatteryPcm,
+    salts: &[f64],
+    step: usize,
+    d: SubstepInput,
+    zones: &mut [f64; 64],
+) -> Outcome
+    requires { ⌜ (card .layers ≤ 64) × (Salted (now salts) step (card .layers) × (d .mode ≡ Mode.OnlyCharging)) ⌝ }
+    ensures { λ r. ⌜ (now (zones .exit) ≡ processHeatBatteryZones card pcm (zoneSalt (now (salts .entry)) step) d (now (zones .entry)) .zones) × (r ≡ outcomeOf (processHeatBatteryZones card pcm (zoneSalt (now (salts .entry)) step) d (now (zones .entry)))) ⌝ }
+{
+    let target = substep::target_of(card, salts, step, d.target);
+    let common = substep::common_of(Mode::OnlyCharging, card, pcm, d, 0.0);
+    charge_zones(card, common, salts, step, d, target, zones)
+}

@@ -1,0 +1,98 @@
+// Substeps of losses, in a loop of their own as those of charging alone.
+use card::Card;
+use card::HeatBatteryPcm;
+use floats::Sum2;
+use substep::Common;
+use substep::Outcome;
+use substep::SubstepInput;
+use substep::ZoneStep;
+use zone::Kilojoules;
+use zone::KilowattHours;
+use zone::Salt;
+use zone_water::Mode;
+ghost use mathlib.Core.Path.{_≡_};
+ghost use mathlib.Core.Bool.{false};
+ghost use Prim.Native.Nat.{_≤_};
+ghost use lib.IntN.{pos};
+ghost use lib.Ieee.{Float, binary64, ofInt, lt};
+ghost use Rattle.floats.specs.Constants.{zero};
+ghost use Rattle.floats.specs.F64.{_⊘_};
+ghost use Rattle.zone.specs.Lent.{zoneSalt, Salted};
+ghost use Rattle.substep.specs.Substep.{zoneStep, zonesAfter, progressFrom, chargerHeat, outcomeOf, substepFrom, processHeatBatteryZones};
+
+// A zone's loss. `share` is a layer's part of the heat that is lost at the rated difference.
+fn loss_step(
+    common: Common,
+    salt: Salt,
+    zone: f64,
+    left: Kilojoules,
+    share: Kilojoules,
+    charged: KilowattHours,
+) -> ZoneStep
+    requires { ⌜ (common .mode ≡ Mode.Losses) × ((lt (left .0) zero ≡ false) × (share .0 ≡ left .0 ⊘ ofInt binary64 (pos (common .shared .layers)))) ⌝ }
+    ensures { λ r. ⌜ ((inlet : Float) → r ≡ zoneStep common salt zone inlet left charged) ⌝ }
+{
+    let energy = floats::max_zero(share.0 * (zone - common.shared.inlet) / common.shared.rated);
+    let update = zone_update::calculate_new_zone_temperature(salt, zone, Kilojoules(energy));
+    ZoneStep {
+        temperature: update.temperature,
+        energy: Kilojoules(energy),
+        outlet: 0.0,
+        left,
+        charged,
+    }
+}
+
+// The zones upward. The heat at the rated difference stays, and nothing is charged.
+fn lose_zones(
+    card: Card,
+    common: Common,
+    salts: &[f64],
+    step: usize,
+    d: SubstepInput,
+    zones: &mut [f64; 64],
+) -> Outcome
+    requires { ⌜ (card .layers ≤ 64) × (Salted (now salts) step (card .layers) × ((common .mode ≡ Mode.Losses) × (lt (chargerHeat d .0) zero ≡ false))) ⌝ }
+    ensures { λ r. ⌜ (now (zones .exit) ≡ zonesAfter common (zoneSalt (now (salts .entry)) step) (card .layers) (card .layers) (progressFrom d (now (zones .entry))) .zones) × (r ≡ outcomeOf (substepFrom card (zonesAfter common (zoneSalt (now (salts .entry)) step) (card .layers) (card .layers) (progressFrom d (now (zones .entry)))))) ⌝ }
+{
+    let n = card.layers as usize;
+    let left = substep::charger_heat(d);
+    let charged = KilowattHours(0.0);
+    let share = left.0 / (common.shared.layers as f64);
+    let mut outlet = d.inlet;
+    let mut sum = Sum2 { s: 0.0, c: 0.0 };
+    // equals 0 as long as each zone is finite
+    let mut spread = 0.0;
+    for k in 0..n {
+        let salt = zone::layer::zone_salt(salts, step, k);
+        let z = loss_step(common, salt, zones[k], left, Kilojoules(share), charged);
+        zones[k] = z.temperature;
+        spread = floats::finite_step(spread, zones[k]);
+        sum = floats::sum2_step(sum, 0.0 + z.energy.0);
+        outlet = z.outlet;
+    }
+    let delivered = Kilojoules(sum.s + sum.c);
+    let fault = substep::progress_fault(spread == 0.0, outlet, delivered, charged);
+    Outcome {
+        outlet,
+        delivered,
+        charged,
+        fault,
+    }
+}
+
+// A substep of losses, in place; no loss has heat of a charger.
+pub fn lose_in_place(
+    card: Card,
+    pcm: HeatBatteryPcm,
+    salts: &[f64],
+    step: usize,
+    d: SubstepInput,
+    zones: &mut [f64; 64],
+) -> Outcome
+    requires { ⌜ (card .layers ≤ 64) × (Salted (now salts) step (card .layers) × ((d .mode ≡ Mode.Losses) × (lt (chargerHeat d .0) zero ≡ false))) ⌝ }
+    ensures { λ r. ⌜ (now (zones .exit) ≡ processHeatBatteryZones card pcm (zoneSalt (now (salts .entry)) step) d (now (zones .entry)) .zones) × (r ≡ outcomeOf (processHeatBatteryZones card pcm (zoneSalt (now (salts .entry)) step) d (now (zones .entry)))) ⌝ }
+{
+    let common = substep::common_of(Mode::Losses, card, pcm, d, 0.0);
+    lose_zones(card, common, salts, step, d, zones)
+}

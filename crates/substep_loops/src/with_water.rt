@@ -1,0 +1,100 @@
+// The loop over the zones, where they lie, and the substep with water: document 01, module 5.
+use card::Card;
+use card::HeatBatteryPcm;
+use floats::Log;
+use floats::Sum2;
+use substep::Common;
+use substep::Outcome;
+use substep::SubstepInput;
+use zone::Kilojoules;
+use zone::KilowattHours;
+use zone::Salt;
+use zone_water::Mode;
+ghost use mathlib.Core.Path.{_≡_};
+ghost use mathlib.Core.Bool.{true};
+ghost use Prim.Native.Nat.{ℕ, _+_, _*_, _≤_, _<_};
+ghost use lib.ListN.{length};
+ghost use lib.Ieee.{lt};
+ghost use Rattle.floats.specs.Constants.{zero};
+ghost use Rattle.zone.specs.Lent.{zoneSalt, Salted};
+ghost use Rattle.substep.specs.Substep.{levelAt, zonesAfter, targetOf, progressFrom, chargerHeat, outcomeOf, substepFrom, processHeatBatteryZones};
+
+// The salt of zone j. `first` is zone 0's, read before the loop: where one salt serves all, the compiler keeps what it works out of it.
+fn own_salt(first: Salt, salts: &[f64], step: usize, j: usize) -> Salt
+    requires { ⌜ (j * step + 5 ≤ length (now salts)) × (first ≡ zoneSalt (now salts) step 0) ⌝ }
+    ensures { λ r. ⌜ r ≡ zoneSalt (now (salts .entry)) step j ⌝ }
+{
+    if step == 0 {
+        return first;
+    }
+    zone::layer::zone_salt(salts, step, j)
+}
+
+// All zones in the mode's order, where they lie. It sums the energies and tests the zones as it goes, also where charging alone goes
+// downward, since the energies there are 0. Places above the zones are neither read nor written.
+// `target` is every zone's where they are `alike` and the charger has heat; else each zone's is worked out where it is asked.
+pub fn zones_in_place(
+    card: Card,
+    common: Common,
+    salts: &[f64],
+    step: usize,
+    d: SubstepInput,
+    alike: bool,
+    target: f64,
+    zones: &mut [f64; 64],
+) -> Outcome
+    requires { ⌜ (card .layers ≤ 64) × (Salted (now salts) step (card .layers) × (lt (chargerHeat d .0) zero ≡ true → alike ≡ true → (j : ℕ) → j < card .layers → target ≡ levelAt common (zoneSalt (now salts) step j))) ⌝ }
+    ensures { λ r. ⌜ (now (zones .exit) ≡ zonesAfter common (zoneSalt (now (salts .entry)) step) (card .layers) (card .layers) (progressFrom d (now (zones .entry))) .zones) × (r ≡ outcomeOf (substepFrom card (zonesAfter common (zoneSalt (now (salts .entry)) step) (card .layers) (card .layers) (progressFrom d (now (zones .entry)))))) ⌝ }
+{
+    let n = card.layers as usize;
+    let mode = common.mode;
+    let first = zone::layer::zone_salt(salts, step, 0);
+    let mut outlet = d.inlet;
+    let mut left = substep::charger_heat(d);
+    let mut charged = KilowattHours(0.0);
+    let mut sum = Sum2 { s: 0.0, c: 0.0 };
+    // equals 0 as long as each zone is finite
+    let mut spread = 0.0;
+    for k in 0..n {
+        let j = substep::zone_index(mode, n, k);
+        let salt = own_salt(first, salts, step, j);
+        let z = substep::zone_step(common, salt, alike, target, zones[j], outlet, left, charged);
+        zones[j] = z.temperature;
+        spread = floats::finite_step(spread, zones[j]);
+        sum = floats::sum2_step(sum, 0.0 + z.energy.0);
+        outlet = z.outlet;
+        left = z.left;
+        charged = z.charged;
+    }
+    let delivered = Kilojoules(sum.s + sum.c);
+    let fault = substep::progress_fault(spread == 0.0, outlet, delivered, charged);
+    Outcome {
+        outlet,
+        delivered,
+        charged,
+        fault,
+    }
+}
+
+// A substep with water in place, without its energies: the engine's. The mode is written out, so that the loop is compiled for it alone;
+// `charging_alone` and `losses` have the others. `target` is the temperature of the drive's level in every zone, where the
+// charger has heat.
+pub fn process_in_place(
+    card: Card,
+    pcm: HeatBatteryPcm,
+    salts: &[f64],
+    step: usize,
+    d: SubstepInput,
+    target: f64,
+    zones: &mut [f64; 64],
+) -> Outcome
+    requires { ⌜ (card .layers ≤ 64) × (Salted (now salts) step (card .layers) × ((d .mode ≡ Mode.Normal) × (lt (chargerHeat d .0) zero ≡ true → (j : ℕ) → j < card .layers → target ≡ targetOf card (zoneSalt (now salts) step j) (d .target)))) ⌝ }
+    ensures { λ r. ⌜ (now (zones .exit) ≡ processHeatBatteryZones card pcm (zoneSalt (now (salts .entry)) step) d (now (zones .entry)) .zones) × (r ≡ outcomeOf (processHeatBatteryZones card pcm (zoneSalt (now (salts .entry)) step) d (now (zones .entry)))) ⌝ }
+{
+    let transfer = substep::zone_transfer(Mode::Normal, card, d);
+    let Log::Value(u) = transfer else {
+        return substep::without_logarithm();
+    };
+    let common = substep::common_of(Mode::Normal, card, pcm, d, u);
+    zones_in_place(card, common, salts, step, d, true, target, zones)
+}

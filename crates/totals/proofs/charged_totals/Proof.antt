@@ -1,9 +1,0 @@
-use mathlib.Core.Path.{refl}
-use Rattle.totals.proofs.charged_totals.Statement.{statement}
-use Rattle.totals.proofs.charged_totals.Tie as tie
-
-returns : tie.Need-returns
-returns c = refl
-
-pub charged-totals-spec : {M : Type 1} → statement M
-charged-totals-spec = tie.close (tie.spec returns)

@@ -1,9 +1,0 @@
-use mathlib.Core.Path.{refl}
-use Rattle.totals.proofs.closed_totals.Statement.{statement}
-use Rattle.totals.proofs.closed_totals.Tie as tie
-
-returns : tie.Need-returns
-returns c = refl
-
-pub closed-totals-spec : {M : Type 1} → statement M
-closed-totals-spec = tie.close (tie.spec returns)
