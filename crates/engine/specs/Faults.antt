@@ -93,7 +93,7 @@ heatOf u = kj (neg (u .delivered .0))
 abbrev pub absorbedWith : HydronicState → Substep → Kilojoules
 absorbedWith state u = kj (state .absorbed .0 ⊕ heatOf u .0)
 
--- the drive of the fractional substep after the whole substep u from s
+-- the input of the fractional substep after the whole substep u
 abbrev pub fractionInput : HydronicTask → HydronicState → Substep → SubstepInput
 fractionInput task state u =
     wetInput task (fractionSeconds task (absorbedWith state u) (heatOf u)) (reynoldBetween (task .wet .inlet) (u .outlet) (task .wet .velocity) (task .wet .diameter))

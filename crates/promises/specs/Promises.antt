@@ -1,5 +1,5 @@
 -- The promises: what the demands ask, each under its sentence, in the words of the crates below (the entries' openOf, entryOf and advancedOf, the auditor's
--- auditOf), for every known version: what A does takes it, and a sheet has its own. Each is a theorem of crates/demands/proofs/Promises.antt under the same name.
+-- auditOf), for every known version: what A does takes it, and a sheet has its own. Each is a theorem of crates/promises/proofs/Promises.antt under the same name.
 use Prim.Native.Nat.{ℕ, _+_, _*_, _<_, _≤_}
 use mathlib.Core.Path.{_≡_}
 use mathlib.Core.Bool.{true}

@@ -51,7 +51,7 @@ demandMet task delivered =
 unfoldable pub cut : DemandTask → Float → Float → Float
 cut task running step = cond (lt (task .seconds) (running ⊕ step)) (task .seconds ⊖ running) step
 
--- the pace after a substep, with its next step and its delivery
+-- the state after a substep, with its next step and its delivery
 unfoldable pub demandStateAfter : DemandTask → DemandState → Outcome → Float → KilowattHours → DemandState
 demandStateAfter task state u step delivered =
     record {

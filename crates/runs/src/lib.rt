@@ -1,4 +1,4 @@
-// What every run of substeps has, and the structs of document 01's module 6. Its functions are in `hydronic` and `charges`.
+// What every run of substeps has, and the structs of document 01's module 6. Its functions are in `run_hydronic` and `run_charges`.
 use card::Card;
 use card::HeatBatteryPcm;
 use zone::Kilojoules;

@@ -45,7 +45,7 @@ zoneIndex Normal n k = k
 unfoldable pub zoneCharge : Salt → Float → Float → Kilojoules → Kilojoules → KilowattHours → Charged
 zoneCharge salt t target q e k = cond (lt (q .0) Constants.zero) (zoneSimultaneousCharging salt t target q e k) (charged q k e)
 
--- the temperature of the course's charge level, by a zone's salt
+-- the temperature of the charge level, by a zone's salt
 abbrev pub levelAt : Common → Salt → Float
 levelAt common salt = socToTemp salt (common .reference) (common .max) (common .level)
 

@@ -1,5 +1,4 @@
-// Document 01, module 5: a zone's part of a substep. The substep over all zones is a definition here; `passes`, `charging_alone` and
-// `losses` have its loops.
+// Document 01, module 5: a zone's part of a substep. The substep over all zones is a definition here; `substep_loops` has its loops.
 use card::Card;
 use card::HeatBatteryPcm;
 use floats::Log;
@@ -202,7 +201,7 @@ pub fn target_of(card: Card, salts: &[f64], step: usize, level: f64) -> f64
     zone::layer::soc_to_temp(salt, card.reference, card.max, level)
 }
 
-// `mode` is the drive's.
+// `mode` is the input's.
 pub fn common_of(
     mode: Mode,
     card: Card,

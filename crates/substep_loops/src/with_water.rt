@@ -77,7 +77,7 @@ pub fn zones_in_place(
 }
 
 // A substep with water in place, without its energies: the engine's. The mode is written out, so that the loop is compiled for it alone;
-// `charging_alone` and `losses` have the others. `target` is the temperature of the drive's level in every zone, where the
+// `charging_alone` and `losses` have the others. `target` is the temperature of the input's level in every zone, where the
 // charger has heat.
 pub fn process_in_place(
     card: Card,
