@@ -25,7 +25,7 @@ use Rattle.card.specs.declared.HeatBatteryPcm.{HeatBatteryPcm}
 use Rattle.zone_water.specs.declared.Mode.{Mode}
 use Rattle.zone_water.specs.declared.Mode.the-variants.{OnlyCharging, Losses, Normal}
 use Rattle.zone.specs.declared.Salt.{Salt}
-use Rattle.substep.specs.Substep.{zoneIndex, levelAt, targetOf, zoneCharge, zoneStep, zoneAt, zonesAfter, chargerHeat, substepWith, outcomeOf, zoneTransfer, commonOf, progressFrom, withoutLogarithm, withTransfer, processHeatBatteryZones, substepFrom}
+use Rattle.substep.specs.Substep.{zoneIndex, targetAt, targetOf, zoneCharge, zoneStep, zoneAt, zonesAfter, chargerHeat, substepWith, outcomeOf, zoneTransfer, commonOf, progressFrom, withoutLogarithm, withTransfer, processHeatBatteryZones, substepFrom}
 use Rattle.substep.specs.declared.SubstepInput.{SubstepInput}
 use Rattle.substep.specs.declared.Substep.{Substep}
 use Rattle.substep.specs.declared.Outcome.{Outcome}
@@ -126,7 +126,7 @@ unfolding commonOf
 common-mode c pcm d u x e = rw e
 
 pub common-level :
-    (c : Card) (pcm : HeatBatteryPcm) (d : SubstepInput) (u : Float) (x : Common) (s : Salt) → x ≡ commonOf c pcm d u → levelAt x s ≡ targetOf c s (d .target)
+    (c : Card) (pcm : HeatBatteryPcm) (d : SubstepInput) (u : Float) (x : Common) (s : Salt) → x ≡ commonOf c pcm d u → targetAt x s ≡ targetOf c s (d .target)
 unfolding commonOf
 common-level c pcm d u x s e = rw e
 

@@ -28,7 +28,7 @@ use Rattle.zone_water.proofs.Exchanged.{loss-never-warms}
 use Rattle.zone_charging.proofs.Charges.{charge-never-cools, charging-left-nonpositive}
 use Rattle.card.specs.declared.Card.{Card}
 use Rattle.card.specs.declared.HeatBatteryPcm.{HeatBatteryPcm}
-use Rattle.substep.specs.Substep.{levelAt, zoneCharge, zoneStep, zonesAfter, zoneTransfer, commonOf, progressFrom, substepFrom, withTransfer, processHeatBatteryZones}
+use Rattle.substep.specs.Substep.{targetAt, zoneCharge, zoneStep, zonesAfter, zoneTransfer, commonOf, progressFrom, substepFrom, withTransfer, processHeatBatteryZones}
 use Rattle.substep.specs.declared.Common.{Common}
 use Rattle.substep.specs.declared.SubstepInput.{SubstepInput}
 use Rattle.substep.proofs.EachZone.{each-zone}
@@ -56,7 +56,7 @@ module _ (x : Common) (s : Salt) (g : GoodSalt s) (t inlet : Float) (q : Kilojou
     charge-step =
         rw m
         (by-test (λ (c : Charged). T (le t (newZoneTemperature s t (c .heat) .temperature))) (lt (q .0) zero) _ _
-        (λ l. charge-never-cools s g t F (levelAt x s) q (le-of-lt (q .0) zero l) k)
+        (λ l. charge-never-cools s g t F (targetAt x s) q (le-of-lt (q .0) zero l) k)
         (λ l. negative-never-lowers s g t F (kj zero) (le-refl zero tt)))
 
     charge-left : T (number (zoneStep x s t inlet q k .left .0)) → T (le (zoneStep x s t inlet q k .left .0) zero)
@@ -64,7 +64,7 @@ module _ (x : Common) (s : Salt) (g : GoodSalt s) (t inlet : Float) (q : Kilojou
     charge-left =
         rw m
         (by-test (λ (c : Charged). T (number (c .left .0)) → T (le (c .left .0) zero)) (lt (q .0) zero) _ _
-        (λ l. charging-left-nonpositive s g t F (levelAt x s) q (le-of-lt (q .0) zero l) k)
+        (λ l. charging-left-nonpositive s g t F (targetAt x s) q (le-of-lt (q .0) zero l) k)
         (λ l. h))
 
 module _ (c : Card) (pcm : HeatBatteryPcm) (s : ℕ → Salt) (d : SubstepInput) (zones : List Float) (g : (j : ℕ) → j < c .layers → GoodSalt (s j)) (S : T (le zero (d .seconds)))

@@ -46,14 +46,14 @@ unfoldable pub zoneCharge : Salt → Float → Float → Kilojoules → Kilojoul
 zoneCharge salt t target q e k = cond (lt (q .0) Constants.zero) (zoneSimultaneousCharging salt t target q e k) (charged q k e)
 
 -- the temperature of the charge level, by a zone's salt
-abbrev pub levelAt : Common → Salt → Float
-levelAt common salt = socToTemp salt (common .reference) (common .max) (common .level)
+abbrev pub targetAt : Common → Salt → Float
+targetAt common salt = socToTemp salt (common .reference) (common .max) (common .level)
 
 -- one zone of the salt s at t: its inlet, the charger's heat left and the energy charged so far
 unfoldable pub zoneStep : Common → Salt → Float → Float → Kilojoules → KilowattHours → ZoneStep
 zoneStep common salt t inlet q k =
     let p = zoneProperties (common .mode) (common .shared) t inlet q in
-    let c = zoneCharge salt t (levelAt common salt) q (p .energy) k in
+    let c = zoneCharge salt t (targetAt common salt) q (p .energy) k in
     record { temperature = newZoneTemperature salt t (c .heat) .temperature; energy = p .energy; outlet = p .outlet; left = c .left; charged = c .charged }
 
 -- the zone at j, of the salt s j

@@ -17,7 +17,7 @@ ghost use lib.Ieee.{Float, lt};
 ghost use Rattle.floats.specs.Constants.{zero};
 ghost use Rattle.floats.specs.Standins.{finite64};
 ghost use Rattle.zone.specs.Lent.{zoneSalt};
-ghost use Rattle.substep.specs.Substep.{zoneIndex, zoneCharge, levelAt, zoneStep, perLayer, zoneTransfer, targetOf, commonOf, chargerHeat, withoutLogarithm, outcomeOf};
+ghost use Rattle.substep.specs.Substep.{zoneIndex, zoneCharge, targetAt, zoneStep, perLayer, zoneTransfer, targetOf, commonOf, chargerHeat, withoutLogarithm, outcomeOf};
 
 // What a substep is asked, in the Rust's words.
 pub struct SubstepInput {
@@ -106,8 +106,8 @@ fn zone_charge(
     energy: Kilojoules,
     charged: KilowattHours,
 ) -> Charged
-    requires { ⌜ (lt (left .0) zero ≡ true → alike ≡ true → target ≡ levelAt common salt) ⌝ }
-    ensures { λ r. ⌜ r ≡ zoneCharge salt zone (levelAt common salt) left energy charged ⌝ }
+    requires { ⌜ (lt (left .0) zero ≡ true → alike ≡ true → target ≡ targetAt common salt) ⌝ }
+    ensures { λ r. ⌜ r ≡ zoneCharge salt zone (targetAt common salt) left energy charged ⌝ }
 {
     if left.0 < 0.0 {
         let own = zone_target(common, salt, alike, target);
@@ -129,8 +129,8 @@ fn zone_charge(
 
 // The temperature of the charge level by a zone's salt: `target` where the zones are alike in it.
 pub fn zone_target(common: Common, salt: Salt, alike: bool, target: f64) -> f64
-    requires { ⌜ (alike ≡ true → target ≡ levelAt common salt) ⌝ }
-    ensures { λ r. ⌜ r ≡ levelAt common salt ⌝ }
+    requires { ⌜ (alike ≡ true → target ≡ targetAt common salt) ⌝ }
+    ensures { λ r. ⌜ r ≡ targetAt common salt ⌝ }
 {
     if alike {
         return target;
@@ -148,7 +148,7 @@ pub fn zone_step(
     left: Kilojoules,
     charged: KilowattHours,
 ) -> ZoneStep
-    requires { ⌜ (lt (left .0) zero ≡ true → alike ≡ true → target ≡ levelAt common salt) ⌝ }
+    requires { ⌜ (lt (left .0) zero ≡ true → alike ≡ true → target ≡ targetAt common salt) ⌝ }
     ensures { λ r. ⌜ r ≡ zoneStep common salt zone inlet left charged ⌝ }
 {
     let mode = common.mode;

@@ -20,7 +20,7 @@ use Rattle.zone.specs.declared.Salt.{Salt}
 use Rattle.zone_update.specs.declared.ZoneUpdate.{ZoneUpdate}
 use Rattle.zone_charging.specs.declared.Charged.{Charged}
 use Rattle.zone_water.specs.declared.Mode.the-variants.{OnlyCharging}
-use Rattle.substep.specs.Substep.{zoneIndex, levelAt, zoneCharge, zoneStep}
+use Rattle.substep.specs.Substep.{zoneIndex, targetAt, zoneCharge, zoneStep}
 use Rattle.substep.specs.declared.Common.{Common}
 use Rattle.substep.specs.Progress.{Progress}
 use Rattle.substep.specs.declared.ZoneStep.{ZoneStep}
@@ -32,7 +32,7 @@ module _ (x : Common) (s : Salt) (t inlet : Float) (q : Kilojoules) (k : Kilowat
     pub charging-on :
         (c : Charged) (u : ZoneUpdate) →
         lt (q .0) zero ≡ true →
-        c ≡ zoneSimultaneousCharging s t (levelAt x s) q (kj zero) k →
+        c ≡ zoneSimultaneousCharging s t (targetAt x s) q (kj zero) k →
         u ≡ newZoneTemperature s t (c .heat) →
         zoneStepOf (u .temperature) (kj zero) (c .left) (c .charged) ≡ zoneStep x s t inlet q k
     unfolding zoneStep zoneCharge zoneProperties

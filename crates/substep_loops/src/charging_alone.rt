@@ -15,7 +15,7 @@ ghost use mathlib.Core.Bool.{true};
 ghost use Prim.Native.Nat.{_≤_};
 ghost use lib.Ieee.{Float};
 ghost use Rattle.zone.specs.Lent.{zoneSalt, Salted};
-ghost use Rattle.substep.specs.Substep.{levelAt, zoneStep, zonesAfter, progressFrom, outcomeOf, substepFrom, processHeatBatteryZones};
+ghost use Rattle.substep.specs.Substep.{targetAt, zoneStep, zonesAfter, progressFrom, outcomeOf, substepFrom, processHeatBatteryZones};
 
 // A zone's part of charging alone: nothing, where the charger's heat is used up.
 fn charging_step(
@@ -27,7 +27,7 @@ fn charging_step(
     left: Kilojoules,
     charged: KilowattHours,
 ) -> ZoneStep
-    requires { ⌜ (common .mode ≡ Mode.OnlyCharging) × (alike ≡ true → target ≡ levelAt common salt) ⌝ }
+    requires { ⌜ (common .mode ≡ Mode.OnlyCharging) × (alike ≡ true → target ≡ targetAt common salt) ⌝ }
     ensures { λ r. ⌜ ((inlet : Float) → r ≡ zoneStep common salt zone inlet left charged) ⌝ }
 {
     if left.0 < 0.0 {
@@ -64,7 +64,7 @@ fn charge_zones(
     target: f64,
     zones: &mut [f64; 64],
 ) -> Outcome
-    requires { ⌜ (card .layers ≤ 64) × (Salted (now salts) step (card .layers) × ((common .mode ≡ Mode.OnlyCharging) × (target ≡ levelAt common (zoneSalt (now salts) step 0)))) ⌝ }
+    requires { ⌜ (card .layers ≤ 64) × (Salted (now salts) step (card .layers) × ((common .mode ≡ Mode.OnlyCharging) × (target ≡ targetAt common (zoneSalt (now salts) step 0)))) ⌝ }
     ensures { λ r. ⌜ (now (zones .exit) ≡ zonesAfter common (zoneSalt (now (salts .entry)) step) (card .layers) (card .layers) (progressFrom d (now (zones .entry))) .zones) × (r ≡ outcomeOf (substepFrom card (zonesAfter common (zoneSalt (now (salts .entry)) step) (card .layers) (card .layers) (progressFrom d (now (zones .entry)))))) ⌝ }
 {
     let n = card.layers as usize;

@@ -17,7 +17,7 @@ ghost use lib.ListN.{length};
 ghost use lib.Ieee.{lt};
 ghost use Rattle.floats.specs.Constants.{zero};
 ghost use Rattle.zone.specs.Lent.{zoneSalt, Salted};
-ghost use Rattle.substep.specs.Substep.{levelAt, zonesAfter, targetOf, progressFrom, chargerHeat, outcomeOf, substepFrom, processHeatBatteryZones};
+ghost use Rattle.substep.specs.Substep.{targetAt, zonesAfter, targetOf, progressFrom, chargerHeat, outcomeOf, substepFrom, processHeatBatteryZones};
 
 // The salt of zone j. `first` is zone 0's, read before the loop: where one salt serves all, the compiler keeps what it works out of it.
 fn own_salt(first: Salt, salts: &[f64], step: usize, j: usize) -> Salt
@@ -43,7 +43,7 @@ pub fn zones_in_place(
     target: f64,
     zones: &mut [f64; 64],
 ) -> Outcome
-    requires { ⌜ (card .layers ≤ 64) × (Salted (now salts) step (card .layers) × (lt (chargerHeat d .0) zero ≡ true → alike ≡ true → (j : ℕ) → j < card .layers → target ≡ levelAt common (zoneSalt (now salts) step j))) ⌝ }
+    requires { ⌜ (card .layers ≤ 64) × (Salted (now salts) step (card .layers) × (lt (chargerHeat d .0) zero ≡ true → alike ≡ true → (j : ℕ) → j < card .layers → target ≡ targetAt common (zoneSalt (now salts) step j))) ⌝ }
     ensures { λ r. ⌜ (now (zones .exit) ≡ zonesAfter common (zoneSalt (now (salts .entry)) step) (card .layers) (card .layers) (progressFrom d (now (zones .entry))) .zones) × (r ≡ outcomeOf (substepFrom card (zonesAfter common (zoneSalt (now (salts .entry)) step) (card .layers) (card .layers) (progressFrom d (now (zones .entry)))))) ⌝ }
 {
     let n = card.layers as usize;
