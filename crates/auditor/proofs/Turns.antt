@@ -18,9 +18,10 @@ use Rattle.sheet_calls.specs.declared.ReadCall.the-variants.{Good, Bad}
 use Rattle.sheet_calls.proofs.CallLaws.{test-good}
 use Rattle.auditor.specs.declared.Verdict.{Verdict}
 use Rattle.auditor.specs.declared.Verdict.the-variants.{Accepted, Refused}
-use Rattle.sheet_lines.specs.Front.{lineCallLength, following, headOk, lineCall, lineAnswer}
+use Rattle.sheet_lines.specs.declared.front.LineHead.{LineHead}
+use Rattle.sheet_lines.specs.Front.{lineCallLength, following, headOk, lineHead, lineCall, lineAnswer}
 use Rattle.auditor.specs.Audit.{judge, auditLine, auditFrom}
-use Rattle.sheet_lines.proofs.Fronts.{size-is}
+use Rattle.sheet_lines.proofs.Fronts.{size-is, Headed, headed}
 
 pub audit-none : (same : Float → Float → Bool) (version : ℕ) (c : Card) (most : ℕ) (b : Battery) (k : ℕ) → auditFrom same version c most b k [] ≡ Accepted k
 unfolding auditFrom
@@ -81,9 +82,12 @@ at-end same version c b k [] v z h = h .gives ∙ audit-none same version c (h .
 at-end same version c b k (x ∷ t) v z h = absurd (omega arith)
 
 -- a line whose call is read has its head in order
-pub head-read : (version : ℕ) (c : Card) (bs : List ℕ) (call : Call) → lineCall version c bs ≡ Good call → headOk version c bs ≡ true
+ok-read : (version : ℕ) (c : Card) (bs : List ℕ) (call : Call) → lineCall version c bs ≡ Good call → headOk version c bs ≡ true
 unfolding lineCall
-head-read version c bs call h = test-good (headOk version c bs) _ call h .0
+ok-read version c bs call h = test-good (headOk version c bs) _ call h .0
+
+pub head-read : (version : ℕ) (c : Card) (bs : List ℕ) (head : LineHead) → head ≡ lineHead version c bs → (call : Call) → lineCall version c bs ≡ Good call → Headed version c bs head
+head-read version c bs head e call h = headed version c bs head e (ok-read version c bs call h)
 
 -- the rest of a slice, as the code takes it
 pub rest-of : (t : List ℕ) (r : ℕ) → take (length t - r) (drop r t) ≡ drop r t

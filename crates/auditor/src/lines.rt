@@ -16,7 +16,8 @@ pub fn audit_lines(version: u8, card: Card, bytes: &[u8]) -> Verdict
     let mut b = battery::fresh(card);
     let mut k: usize = 0;
     while rest.len() > 0 {
-        match sheet_lines::front::line_call(version, card, rest) {
+        let head = sheet_lines::front::line_head(version, card, rest);
+        match sheet_lines::front::line_call(version, card, head, rest) {
             ReadCall::Bad => {
                 return Verdict::Refused(refusals::BAD_LINE, k + 1);
             }
@@ -25,11 +26,11 @@ pub fn audit_lines(version: u8, card: Card, bytes: &[u8]) -> Verdict
                 if own.refusal == refusals::BAD_CALL {
                     return Verdict::Refused(refusals::BAD_LINE, k + 1);
                 }
-                let seen = sheet_lines::front::line_answer(version, card, rest);
+                let seen = sheet_lines::front::line_answer(version, card, head, rest);
                 if sheet_lines::answers::answers_agree(seen, own) {
                     let next = own.battery;
                     b = next;
-                    let size = sheet_lines::front::front_size(version, card, rest);
+                    let size = head.size;
                     rest = &rest[size..];
                     k += 1;
                 } else {

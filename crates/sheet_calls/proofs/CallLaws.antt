@@ -4,7 +4,7 @@ use mathlib.Core.List.{List}
 use mathlib.Core.Bool.{Bool, true, false, cond, _&&_}
 use Prim.Native.Nat.{ℕ}
 use native.Mathlib.Omega.{arith}
-use borrow.Author.Tests.{eqb-true}
+use borrow.Author.Tests.{eqb-true, eq-eqb}
 use lib.Dec.{leb, eqb}
 use lib.ListN.{length, getD}
 use Rattle.codec.specs.Bytes.{f64At, nthF64}
@@ -37,6 +37,11 @@ unfolding callOf
 call-length version bs c h =
     let k = getD bs 0 0 in
     eqb-true (length bs) (callLength version k) (test-good (eqb (length bs) (callLength version k)) (callBy version k bs) c h .0)
+
+-- bytes of their kind's length are read by that kind
+pub call-by : (version : ℕ) (bs : List ℕ) → length bs ≡ callLength version (getD bs 0 0) → callOf version bs ≡ callBy version (getD bs 0 0) bs
+unfolding callOf
+call-by version bs e = rw (eq-eqb (length bs) (callLength version (getD bs 0 0)) e)
 
 -- a read call's kind
 readKind : ReadCall → ℕ

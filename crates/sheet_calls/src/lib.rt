@@ -153,7 +153,8 @@ fn bare_call(version: u8, kind: u8) -> ReadCall
     ReadCall::Bad
 }
 
-fn call_by(version: u8, kind: u8, bytes: &[u8]) -> ReadCall
+// The call of a kind, in no fewer bytes than it has.
+pub fn call_by(version: u8, kind: u8, bytes: &[u8]) -> ReadCall
     requires { ⌜ callLength version kind ≤ length (now bytes) ⌝ }
     ensures { λ r. ⌜ r ≡ callBy version kind (now (bytes .entry)) ⌝ }
 {

@@ -10,6 +10,7 @@ use Rattle.battery.specs.declared.Answer.{Answer}
 use Rattle.sheet_calls.specs.Calls.{callLength, callOf}
 use Rattle.sheet_calls.specs.declared.ReadCall.{ReadCall}
 use Rattle.sheet_calls.specs.declared.ReadCall.the-variants.{Bad}
+use Rattle.sheet_lines.specs.declared.front.LineHead.{LineHead}
 use Rattle.sheet_lines.specs.Answers.{answerLength, answerAt, marksOk}
 use Rattle.sheet_lines.specs.Lines.{lineLength, lineSize}
 
@@ -35,6 +36,16 @@ headOk version card bs =
     (eqb (beAt bs 0 2) (lineLength version card (lineCallLength version bs)))
     false)
     false
+
+-- the kind, the call's length and the line's; all 0 where that does not hold
+abbrev pub noLine : LineHead
+noLine = record { kind = 0; call = 0; size = 0 }
+
+unfoldable pub lineHead : ℕ → Card → List ℕ → LineHead
+lineHead version card bs =
+    cond (headOk version card bs)
+    (record { kind = getD bs 2 0; call = lineCallLength version bs; size = lineSize version card (lineCallLength version bs) })
+    noLine
 
 -- the call of the line at the front of bs, ranges aside
 unfoldable pub lineCall : ℕ → Card → List ℕ → ReadCall

@@ -5,42 +5,56 @@ use sheet_calls::ReadCall;
 ghost use mathlib.Core.Path.{_≡_};
 ghost use mathlib.Core.Bool.{true};
 ghost use Prim.Native.Nat.{_≤_};
-ghost use lib.ListN.{length, drop};
-ghost use Rattle.sheet_lines.specs.Front.{lineCallLength, headOk, lineCall, lineAnswer, following};
+ghost use Rattle.sheet_lines.specs.Front.{headOk, noLine, lineHead, lineCall, lineAnswer};
 
-// The length that the front line's kind gives its call, 0 where there is no such kind.
-fn kind_length(version: u8, bytes: &[u8]) -> usize
-    ensures { λ r. ⌜ (r ≡ lineCallLength version (now (bytes .entry))) × (r ≤ 73) ⌝ }
-{
-    let kind = codec::byte_or_zero(bytes, 2);
-    sheet_calls::call_length(version, kind)
+// What a line's first bytes tell: its kind, the length of its call, and its own, which counts the two bytes that say it. All 0 where there is no such line.
+pub struct LineHead {
+    pub kind: u8,
+    pub call: usize,
+    pub size: usize,
 }
 
-// The front line's kind is known, it is whole, and says the length that its kind gives.
-fn head_ok(version: u8, card: Card, bytes: &[u8]) -> bool
-    ensures { λ r. ⌜ r ≡ headOk version card (now (bytes .entry)) ⌝ }
+fn no_line() -> LineHead
+    ensures { λ r. ⌜ r ≡ noLine ⌝ }
 {
-    let n = kind_length(version, bytes);
-    if 1 <= n {
-        if crate::lines::line_size(version, card, n) <= bytes.len() {
-            let says = crate::lines::line_length(version, card, n) as u64;
-            return codec::read_be(bytes, 0, 2) == says;
-        }
-        return false;
+    LineHead {
+        kind: 0,
+        call: 0,
+        size: 0,
     }
-    false
+}
+
+// The head of a front line whose kind is known, that is whole, and that says the length that its kind gives.
+pub fn line_head(version: u8, card: Card, bytes: &[u8]) -> LineHead
+    ensures { λ r. ⌜ r ≡ lineHead version card (now (bytes .entry)) ⌝ }
+{
+    let kind = codec::byte_or_zero(bytes, 2);
+    let call = sheet_calls::call_length(version, kind);
+    if 1 <= call {
+        let follows = crate::lines::line_length(version, card, call);
+        let size = 2 + follows;
+        if size <= bytes.len() {
+            let says = codec::read_be(bytes, 0, 2);
+            if says == (follows as u64) {
+                return LineHead { kind, call, size };
+            }
+            return no_line();
+        }
+        return no_line();
+    }
+    no_line()
 }
 
 // The front line's call, ranges aside.
-pub fn line_call(version: u8, card: Card, bytes: &[u8]) -> ReadCall
+pub fn line_call(version: u8, card: Card, head: LineHead, bytes: &[u8]) -> ReadCall
+    requires { ⌜ head ≡ lineHead version card (now bytes) ⌝ }
     ensures { λ r. ⌜ r ≡ lineCall version card (now (bytes .entry)) ⌝ }
 {
-    if head_ok(version, card, bytes) {
-        let n = kind_length(version, bytes);
-        let answer = 2 + n;
-        let end = crate::lines::line_size(version, card, n);
+    if 1 <= head.call {
+        let answer = 2 + head.call;
+        let end = head.size;
         if crate::answers::marks_ok(version, &bytes[answer..end]) {
-            return sheet_calls::read_call(version, &bytes[2..answer]);
+            return sheet_calls::call_by(version, head.kind, &bytes[2..answer]);
         }
         return ReadCall::Bad;
     }
@@ -48,21 +62,11 @@ pub fn line_call(version: u8, card: Card, bytes: &[u8]) -> ReadCall
 }
 
 // The front line's answer.
-pub fn line_answer(version: u8, card: Card, bytes: &[u8]) -> Answer
-    requires { ⌜ (card .layers ≤ 64) × (headOk version card (now bytes) ≡ true) ⌝ }
+pub fn line_answer(version: u8, card: Card, head: LineHead, bytes: &[u8]) -> Answer
+    requires { ⌜ (card .layers ≤ 64) × (head ≡ lineHead version card (now bytes)) × (headOk version card (now bytes) ≡ true) ⌝ }
     ensures { λ r. ⌜ r ≡ lineAnswer version card (now (bytes .entry)) ⌝ }
 {
-    let n = kind_length(version, bytes);
-    let answer = 2 + n;
-    let end = crate::lines::line_size(version, card, n);
+    let answer = 2 + head.call;
+    let end = head.size;
     crate::answers::read_answer(version, card, &bytes[answer..end])
-}
-
-// The bytes that the front line takes.
-pub fn front_size(version: u8, card: Card, bytes: &[u8]) -> usize
-    requires { ⌜ headOk version card (now bytes) ≡ true ⌝ }
-    ensures { λ r. ⌜ (r ≤ length (now (bytes .entry))) × (drop r (now (bytes .entry)) ≡ following version card (now (bytes .entry))) × (1 ≤ r) ⌝ }
-{
-    let n = kind_length(version, bytes);
-    crate::lines::line_size(version, card, n)
 }

@@ -33,66 +33,79 @@ loop-holds c =
       rw (c .fresh .ensures) (own-fresh (r .args .version) (r .args .card) (r .pre) f),
     )
 
+line-head-requires : tie.Need-line-head-requires Inv-loop μ-loop
+line-head-requires c κs = search needs
+
 line-call-requires : tie.Need-line-call-requires Inv-loop μ-loop
-line-call-requires c κs = search needs
+line-call-requires c κs = c .line-head .ensures
 
 enum-told : tie.Need-enum-told Inv-loop μ-loop
 enum-told c = search needs
 
-add-t15 : tie.Need-add-t15 Inv-loop μ-loop
-add-t15 c = search needs
+add-t16 : tie.Need-add-t16 Inv-loop μ-loop
+add-t16 c = search needs
 
 returns : tie.Need-returns Inv-loop μ-loop
 returns c =
-    let a = c .before .before .before .before .before .before .before .args in
-    let l = c .before .before .before .before .loop in
+    let a = c .before .before .before .before .before .before .before .before .args in
+    let l = c .before .before .before .before .before .loop in
     let read = sym (c .before .before .line-call .ensures) ∙ c .enum-told .given .1 in
-    sym (turn-bad sameNumber (a .version) (a .card) (l .b) (l .k) (l .rest .now) _ (c .before .before .before .loop-test .taken) (l .inv .0 .1) read)
+    sym (turn-bad sameNumber (a .version) (a .card) (l .b) (l .k) (l .rest .now) _ (c .before .before .before .before .loop-test .taken) (l .inv .0 .1) read)
 
 enum-known-call : tie.Need-enum-known-call Inv-loop μ-loop
 enum-known-call c = search needs
 
 advance-requires : tie.Need-advance-requires Inv-loop μ-loop
-advance-requires c κs = c .before .before .before .before .before .loop .inv .1 .good .accepted
+advance-requires c κs = c .before .before .before .before .before .before .loop .inv .1 .good .accepted
 
-add-t17 : tie.Need-add-t17 Inv-loop μ-loop
-add-t17 c =
-    let l = c .before .before .before .before .before .before .before .before .loop in
-    let k : l .k + 1 ≤ length (c .before .before .before .before .before .before .before .before .before .before .before .args .bytes .now) = omega (arith, l .inv .0 .0, c .before .before .before .before .before .before .before .loop-test .taken) in
-    omega (arith, k, c .before .before .before .before .before .before .before .before .before .before .before .good)
+add-t18 : tie.Need-add-t18 Inv-loop μ-loop
+add-t18 c =
+    let l = c .before .before .before .before .before .before .before .before .before .loop in
+    let k : l .k + 1 ≤ length (c .before .before .before .before .before .before .before .before .before .before .before .before .args .bytes .now) = omega (arith, l .inv .0 .0, c .before .before .before .before .before .before .before .before .loop-test .taken) in
+    omega (arith, k, c .before .before .before .before .before .before .before .before .before .before .before .before .good)
 
 returns-2 : tie.Need-returns-2 Inv-loop μ-loop
 returns-2 c =
-    let a = c .before .before .before .before .before .before .before .before .before .before .before .args in
-    let l = c .before .before .before .before .before .before .before .before .loop in
+    let a = c .before .before .before .before .before .before .before .before .before .before .before .before .args in
+    let l = c .before .before .before .before .before .before .before .before .before .loop in
     let own = c .before .before .advance in
     let read = sym (c .before .before .before .before .before .before .line-call .ensures) ∙ c .before .before .before .before .call .given .1 in
-    sym (turn-out sameNumber (a .version) (a .card) (l .b) (l .k) (l .rest .now) _ (c .before .before .before .before .before .before .before .loop-test .taken) (l .inv .0 .1) _ read (own .result) (own .ensures) (c .if1 .taken))
+    sym (turn-out sameNumber (a .version) (a .card) (l .b) (l .k) (l .rest .now) _ (c .before .before .before .before .before .before .before .before .loop-test .taken) (l .inv .0 .1) _ read (own .result) (own .ensures) (c .if1 .taken))
 
 line-answer-requires : tie.Need-line-answer-requires Inv-loop μ-loop
 line-answer-requires c κs =
-    let a = c .before .before .before .before .before .before .before .before .before .before .before .args in
+    let a = c .before .before .before .before .before .before .before .before .before .before .before .before .args in
+    let front = c .before .before .before .before .before .before .before .line-head in
     let read = sym (c .before .before .before .before .before .before .line-call .ensures) ∙ c .before .before .before .before .call .given .1 in
-    (accepted-layers _ _ (c .before .before .before .before .before .before .before .before .before .before .before .pre) .1, head-read (a .version) (a .card) (c .before .before .before .before .before .before .before .before .loop .rest .now) _ read)
+    (accepted-layers _ _ (c .before .before .before .before .before .before .before .before .before .before .before .before .pre) .1, front .ensures, head-read (a .version) (a .card) (c .before .before .before .before .before .before .before .before .before .loop .rest .now) (front .result) (front .ensures) _ read .ok)
 
 answers-agree-requires : tie.Need-answers-agree-requires Inv-loop μ-loop
 unfolding answerAt stateAt
-answers-agree-requires c κs = rw (c .line-answer .ensures) (accepted-layers _ _ (c .before .before .before .before .before .before .before .before .before .before .before .before .pre) .1)
-
-front-size-requires : tie.Need-front-size-requires Inv-loop μ-loop
-front-size-requires c κs =
-    let a = c .before .before .before .before .before .before .before .before .before .before .before .before .before .before .before .args in
-    let read = sym (c .before .before .before .before .before .before .before .before .before .before .line-call .ensures) ∙ c .before .before .before .before .before .before .before .before .call .given .1 in
-    head-read (a .version) (a .card) (c .before .before .before .before .before .before .before .before .before .before .before .before .loop .rest .now) _ read
+answers-agree-requires c κs = rw (c .line-answer .ensures) (accepted-layers _ _ (c .before .before .before .before .before .before .before .before .before .before .before .before .before .pre) .1)
 
 sub-rest : tie.Need-sub-rest Inv-loop μ-loop
-sub-rest c = search needs
+sub-rest c =
+    let a = c .before .before .before .before .before .before .before .before .before .before .before .before .before .before .before .before .args in
+    let front = c .before .before .before .before .before .before .before .before .before .before .before .line-head in
+    let read = sym (c .before .before .before .before .before .before .before .before .before .before .line-call .ensures) ∙ c .before .before .before .before .before .before .before .before .call .given .1 in
+    let head = head-read (a .version) (a .card) (c .before .before .before .before .before .before .before .before .before .before .before .before .before .loop .rest .now) (front .result) (front .ensures) _ read in
+    omega (arith, head .inside)
 
 part-rest-start : tie.Need-part-rest-start Inv-loop μ-loop
-part-rest-start c = search needs
+part-rest-start c =
+    let a = c .before .before .before .before .before .before .before .before .before .before .before .before .before .before .before .before .args in
+    let front = c .before .before .before .before .before .before .before .before .before .before .before .line-head in
+    let read = sym (c .before .before .before .before .before .before .before .before .before .before .line-call .ensures) ∙ c .before .before .before .before .before .before .before .before .call .given .1 in
+    let head = head-read (a .version) (a .card) (c .before .before .before .before .before .before .before .before .before .before .before .before .before .loop .rest .now) (front .result) (front .ensures) _ read in
+    omega (arith, head .inside)
 
 part-rest-end : tie.Need-part-rest-end Inv-loop μ-loop
-part-rest-end c = search needs
+part-rest-end c =
+    let a = c .before .before .before .before .before .before .before .before .before .before .before .before .before .before .before .before .args in
+    let front = c .before .before .before .before .before .before .before .before .before .before .before .line-head in
+    let read = sym (c .before .before .before .before .before .before .before .before .before .before .line-call .ensures) ∙ c .before .before .before .before .before .before .before .before .call .given .1 in
+    let head = head-read (a .version) (a .card) (c .before .before .before .before .before .before .before .before .before .before .before .before .before .loop .rest .now) (front .result) (front .ensures) _ read in
+    omega (arith, head .inside)
 
 add-k : tie.Need-add-k Inv-loop μ-loop
 add-k c =
@@ -102,37 +115,42 @@ add-k c =
 
 loop-less : tie.Need-loop-less Inv-loop μ-loop
 loop-less c =
-    let front = c .before .front-size in
-    rest-less (c .before .before .before .before .before .before .before .before .before .before .before .before .before .before .loop .rest .now) (front .result) (front .ensures .2) (front .ensures .0)
+    let a = c .before .before .before .before .before .before .before .before .before .before .before .before .before .before .before .before .before .args in
+    let t = c .before .before .before .before .before .before .before .before .before .before .before .before .before .before .loop .rest .now in
+    let front = c .before .before .before .before .before .before .before .before .before .before .before .before .line-head in
+    let read = sym (c .before .before .before .before .before .before .before .before .before .before .before .line-call .ensures) ∙ c .before .before .before .before .before .before .before .before .before .call .given .1 in
+    let head = head-read (a .version) (a .card) t (front .result) (front .ensures) _ read in
+    rest-less t (front .result .size) (omega (arith, head .inside)) (head .inside .1)
 
 loop-again : tie.Need-loop-again Inv-loop μ-loop
 loop-again c =
     let a = c .before .before .before .before .before .before .before .before .before .before .before .before .before .before .before .before .before .args in
     let l = c .before .before .before .before .before .before .before .before .before .before .before .before .before .before .loop in
-    let own = c .before .before .before .before .before .before .before .before .advance in
-    let front = c .before .front-size in
-    let read = sym (c .before .before .before .before .before .before .before .before .before .before .before .before .line-call .ensures) ∙ c .before .before .before .before .before .before .before .before .before .before .call .given .1 in (
-      walked-on sameNumber (a .version) (a .card) (a .bytes .now) (l .rest .now) _ (l .b) _ (l .k) (front .result)
-          (l .inv .0) (front .ensures .2) (front .ensures .0) (front .ensures .1)
-          (turn-next sameNumber (a .version) (a .card) (l .b) (l .k) (l .rest .now) _ (c .before .before .before .before .before .before .before .before .before .before .before .before .before .loop-test .taken) (l .inv .0 .1) _ read (own .result) (own .ensures) (c .before .before .before .before .before .before .if1 .left)
-          (ap (λ (x : Answer). agrees sameNumber x (own .result)) (sym (c .before .before .before .before .before .line-answer .ensures)) ∙ sym (c .before .before .before .before .answers-agree .ensures) ∙ c .before .before .before .if2 .taken)),
+    let own = c .before .before .before .before .before .before .before .advance in
+    let front = c .before .before .before .before .before .before .before .before .before .before .before .before .line-head in
+    let read = sym (c .before .before .before .before .before .before .before .before .before .before .before .line-call .ensures) ∙ c .before .before .before .before .before .before .before .before .before .call .given .1 in
+    let head = head-read (a .version) (a .card) (l .rest .now) (front .result) (front .ensures) _ read in (
+      walked-on sameNumber (a .version) (a .card) (a .bytes .now) (l .rest .now) _ (l .b) _ (l .k) (front .result .size)
+          (l .inv .0) (omega (arith, head .inside)) (head .inside .1) (head .follows)
+          (turn-next sameNumber (a .version) (a .card) (l .b) (l .k) (l .rest .now) _ (c .before .before .before .before .before .before .before .before .before .before .before .before .before .loop-test .taken) (l .inv .0 .1) _ read (own .result) (own .ensures) (c .before .before .before .before .before .if1 .left)
+          (ap (λ (x : Answer). agrees sameNumber x (own .result)) (sym (c .before .before .before .before .line-answer .ensures)) ∙ sym (c .before .before .before .answers-agree .ensures) ∙ c .before .before .if2 .taken)),
       rw (own .ensures) (advanced-own (a .version) (a .card) (l .b) (l .inv .1) _),
     )
 
-add-t22 : tie.Need-add-t22 Inv-loop μ-loop
-add-t22 c =
-    let l = c .before .before .before .before .before .before .before .before .before .before .before .loop in
-    let k : l .k + 1 ≤ length (c .before .before .before .before .before .before .before .before .before .before .before .before .before .before .args .bytes .now) = omega (arith, l .inv .0 .0, c .before .before .before .before .before .before .before .before .before .before .loop-test .taken) in
-    omega (arith, k, c .before .before .before .before .before .before .before .before .before .before .before .before .before .before .good)
+add-t23 : tie.Need-add-t23 Inv-loop μ-loop
+add-t23 c =
+    let l = c .before .before .before .before .before .before .before .before .before .before .before .before .loop in
+    let k : l .k + 1 ≤ length (c .before .before .before .before .before .before .before .before .before .before .before .before .before .before .before .args .bytes .now) = omega (arith, l .inv .0 .0, c .before .before .before .before .before .before .before .before .before .before .before .loop-test .taken) in
+    omega (arith, k, c .before .before .before .before .before .before .before .before .before .before .before .before .before .before .before .good)
 
 returns-3 : tie.Need-returns-3 Inv-loop μ-loop
 returns-3 c =
-    let a = c .before .before .before .before .before .before .before .before .before .before .before .before .before .before .args in
-    let l = c .before .before .before .before .before .before .before .before .before .before .before .loop in
+    let a = c .before .before .before .before .before .before .before .before .before .before .before .before .before .before .before .args in
+    let l = c .before .before .before .before .before .before .before .before .before .before .before .before .loop in
     let own = c .before .before .before .before .before .advance in
     let read = sym (c .before .before .before .before .before .before .before .before .before .line-call .ensures) ∙ c .before .before .before .before .before .before .before .call .given .1 in
     sym
-    (turn-differs sameNumber (a .version) (a .card) (l .b) (l .k) (l .rest .now) _ (c .before .before .before .before .before .before .before .before .before .before .loop-test .taken) (l .inv .0 .1) _ read (own .result) (own .ensures) (c .before .before .before .if1 .left)
+    (turn-differs sameNumber (a .version) (a .card) (l .b) (l .k) (l .rest .now) _ (c .before .before .before .before .before .before .before .before .before .before .before .loop-test .taken) (l .inv .0 .1) _ read (own .result) (own .ensures) (c .before .before .before .if1 .left)
     (ap (λ (x : Answer). agrees sameNumber x (own .result)) (sym (c .before .before .line-answer .ensures)) ∙ sym (c .before .answers-agree .ensures) ∙ c .if2 .left))
 
 returns-4 : tie.Need-returns-4 Inv-loop μ-loop
@@ -149,23 +167,23 @@ audit-lines-spec =
     μ-loop
     fresh-requires
     loop-holds
+    line-head-requires
     line-call-requires
     enum-told
-    add-t15
+    add-t16
     returns
     enum-known-call
     advance-requires
-    add-t17
+    add-t18
     returns-2
     line-answer-requires
     answers-agree-requires
-    front-size-requires
     sub-rest
     part-rest-start
     part-rest-end
     add-k
     loop-less
     loop-again
-    add-t22
+    add-t23
     returns-3
     returns-4)
