@@ -22,6 +22,8 @@ use Rattle.sheet_calls.specs.declared.ReadCall.{ReadCall}
 use Rattle.sheet_calls.specs.declared.ReadCall.the-variants.{Good, Bad}
 use Rattle.sheet_lines.specs.Front.{lineCall, lineAnswer, following}
 use Rattle.auditor.specs.Rules.{Rules}
+use Rattle.auditor.specs.declared.CardLine.{CardLine}
+use Rattle.auditor.specs.declared.CardLine.the-variants.{Fit, Unfit}
 use Rattle.auditor.specs.declared.Verdict.{Verdict}
 use Rattle.auditor.specs.declared.Verdict.the-variants.{Accepted, Refused}
 use Rattle.auditor.specs.declared.AuditVerdict.{AuditVerdict}
@@ -60,6 +62,10 @@ cardLineOk version bs =
     (eqb (cardRefusal version (cardAt version (cardPart version bs))) 0)
     false)
     false
+
+-- the accepted card, and where the call lines begin
+unfoldable pub cardLine : ℕ → List ℕ → CardLine
+cardLine version bs = cond (cardLineOk version bs) (Fit (cardAt version (cardPart version bs)) (openingLength version (drop 3 bs))) Unfit
 
 -- the call lines, from the card's fresh battery on
 unfoldable pub auditLines : (Float → Float → Bool) → ℕ → Card → List ℕ → Verdict

@@ -1,8 +1,9 @@
 // Laboratory B's auditor: it reads calls from the sheet and steps its own battery.
 pub mod lines;
 
+use card::Card;
 ghost use mathlib.Core.Path.{_≡_};
-ghost use Rattle.auditor.specs.Audit.{cardLineOk, auditOf, limit, limitedAuditOf, verdictWord, verdictFields};
+ghost use Rattle.auditor.specs.Audit.{cardLine, auditOf, limit, limitedAuditOf, verdictWord, verdictFields};
 ghost use Rattle.auditor.specs.Rules.{plain};
 ghost use Rattle.auditor.specs.Bound.{IndexAtMost};
 
@@ -10,6 +11,12 @@ ghost use Rattle.auditor.specs.Bound.{IndexAtMost};
 pub enum Verdict {
     Accepted(usize),
     Refused(u8, usize),
+}
+
+// Line 0: its accepted card, and where the lines after it begin.
+enum CardLine {
+    Fit(Card, usize),
+    Unfit,
 }
 
 // A verdict in numbers, for C.
@@ -24,23 +31,27 @@ pub struct AuditVerdict {
 // The most bytes that the program and the C audit take.
 const LIMIT: usize = 65536;
 
-// Line 0 is there in its length, and its card is accepted: refusal 41's test.
-fn card_line_ok(version: u8, sheet: &[u8]) -> bool
-    ensures { λ r. ⌜ r ≡ cardLineOk version (now (sheet .entry)) ⌝ }
+// Line 0, if it is there in its length and its card is accepted: refusal 41's test.
+fn card_line(version: u8, sheet: &[u8]) -> CardLine
+    ensures { λ r. ⌜ r ≡ cardLine version (now (sheet .entry)) ⌝ }
 {
     if sheet.len() < 3 {
-        return false;
+        return CardLine::Unfit;
     }
-    let end = sheet_lines::lines::opening_length(version, &sheet[3..]);
+    let n = sheet_records::cards::card_length(version, &sheet[3..]);
+    let end = 3 + n;
     if end <= sheet.len() {
-        let n = sheet_records::cards::card_length(version, &sheet[3..]) as u64;
-        if codec::read_be(sheet, 1, 2) == n {
+        let says = codec::read_be(sheet, 1, 2);
+        if says == (n as u64) {
             let card = sheet_records::cards::read_card(version, &sheet[3..end]);
-            return card::verdict::refusal(version, card) == 0;
+            if card::verdict::refusal(version, card) == 0 {
+                return CardLine::Fit(card, end);
+            }
+            return CardLine::Unfit;
         }
-        return false;
+        return CardLine::Unfit;
     }
-    false
+    CardLine::Unfit
 }
 
 // The audit, for a sheet of any length.
@@ -49,12 +60,14 @@ pub fn audit(sheet: &[u8]) -> Verdict
 {
     let version = codec::byte_or_zero(sheet, 0);
     if card::version::known_version(version) {
-        if card_line_ok(version, sheet) {
-            let end = sheet_lines::lines::opening_length(version, &sheet[3..]);
-            let card = sheet_records::cards::read_card(version, &sheet[3..end]);
-            return lines::audit_lines(version, card, &sheet[end..]);
+        match card_line(version, sheet) {
+            CardLine::Unfit => {
+                return Verdict::Refused(refusals::BAD_CARD, 0);
+            }
+            CardLine::Fit(card, end) => {
+                return lines::audit_lines(version, card, &sheet[end..]);
+            }
         }
-        return Verdict::Refused(refusals::BAD_CARD, 0);
     }
     Verdict::Refused(refusals::NO_VERSION, 0)
 }
