@@ -219,24 +219,6 @@ pub fn advance_accepted(
     battery::answers::refused_reply(refusals::BAD_CALL)
 }
 
-// A call on any battery whatsoever: 10 where it is not accepted.
-pub fn advance_in_place(
-    version: u8,
-    l: Ledger,
-    salts: &[f64],
-    step: usize,
-    call: Call,
-    zones: &mut [f64; 64],
-) -> Reply
-    requires { ⌜ SaltsLent (l .card) (now salts) step ⌝ }
-    ensures { λ r. ⌜ settled l (now (zones .entry)) r (now (zones .exit)) ≡ advanceOf version (whole l (now (zones .entry))) call ⌝ }
-{
-    if battery::is_accepted(version, l, zones) {
-        return advance_accepted(version, l, salts, step, call, zones);
-    }
-    battery::answers::refused_reply(refusals::BAD_CALL)
-}
-
 // A call on an accepted battery by value.
 pub fn advance(version: u8, b: Battery, call: Call) -> Answer
     requires { ⌜ batteryAccepted version b ≡ true ⌝ }

@@ -1,32 +1,55 @@
 -- An answered step whose zones lie apart: its battery has at most 64 zones, and beyond them nothing changed.
 use Prim.Native.Nat.{ℕ, _≤_}
-use mathlib.Core.Path.{_≡_, sym, _∙_, ap}
+use mathlib.Core.Bool.{true, false}
+use mathlib.Core.Path.{_≡_, refl, sym, _∙_, ap}
 use mathlib.Core.List.{List}
 use native.Mathlib.Omega.{arith}
 use lib.Ieee.{Float}
 use Rattle.card.proofs.Accepted.{accepted-layers}
-use Rattle.battery.specs.Answer.{answerWith, settled}
+use Rattle.battery.specs.Answer.{refusedWith, answerWith, settled}
 use Rattle.battery.specs.Ledger.{whole}
 use Rattle.battery.specs.declared.Answer.{Answer}
-use Rattle.battery.specs.declared.Call.{Call}
+use Rattle.battery.specs.declared.Battery.{Battery}
 use Rattle.battery.specs.declared.Ledger.{Ledger}
 use Rattle.battery.specs.declared.Reply.{Reply}
+use Rattle.battery.specs.Battery.{batteryAccepted}
+use Rattle.battery.specs.Places.{SameAbove}
 use Rattle.battery.proofs.Accepted.{AcceptedBattery, accepted-battery}
+use Rattle.battery.proofs.Zones.{same-above}
 use Rattle.engine_replies.proofs.Settled.{settled-answer}
-use Rattle.engine.specs.Steps.{advanceOf}
-use Rattle.engine.proofs.AdvanceKeeps.{advance-keeps-above, advance-answered-accepted}
-use Rattle.entries.specs.Record.{renewedZones}
+use Rattle.engine.proofs.AdvanceKeeps.{not-accepted-ten, advance-keeps-above, advance-answered-accepted}
+use Rattle.sheet_calls.specs.declared.ReadCall.{ReadCall}
+use Rattle.sheet_calls.specs.declared.ReadCall.the-variants.{Good, Bad}
+use Rattle.entries.specs.Record.{renewedZones, advanceRead}
 use Rattle.entries.proofs.Zones.{renewed-whole}
 
-module _ (version : ℕ) (l : Ledger) (call : Call) (before own : List Float) (r : Reply) (answered : r .refusal ≡ 0)
-    (said : settled l before r own ≡ advanceOf version (whole l before) call) where
-  pub answer-is : answerWith l r own ≡ advanceOf version (whole l before) call
+-- a call that is answered has been read, and its battery accepted
+answered-accepted : (version : ℕ) (b : Battery) (read : ReadCall) → advanceRead version b read .refusal ≡ 0 → batteryAccepted version b ≡ true
+unfolding advanceRead refusedWith
+answered-accepted version b (Good call) h = advance-answered-accepted version b call h
+answered-accepted version b Bad h = absurd (omega arith)
+
+-- a battery that is not accepted is refused, whatever the call
+pub not-accepted-read : (version : ℕ) (b : Battery) (read : ReadCall) → batteryAccepted version b ≡ false → advanceRead version b read ≡ refusedWith 10 b
+unfolding advanceRead
+not-accepted-read version b Bad h = refl
+not-accepted-read version b (Good call) h = not-accepted-ten version b call h
+
+-- any call leaves what lies above the zones
+pub read-leaves-above : (version : ℕ) (b : Battery) (read : ReadCall) → SameAbove (b .card .layers) (b .zones) (advanceRead version b read .battery .zones)
+unfolding advanceRead refusedWith
+read-leaves-above version b Bad = same-above (b .card .layers) (b .zones)
+read-leaves-above version b (Good call) = advance-keeps-above version b call
+
+module _ (version : ℕ) (l : Ledger) (read : ReadCall) (before own : List Float) (r : Reply) (answered : r .refusal ≡ 0)
+    (said : settled l before r own ≡ advanceRead version (whole l before) read) where
+  pub answer-is : answerWith l r own ≡ advanceRead version (whole l before) read
   answer-is = sym (settled-answer l before own r answered) ∙ said
 
   accepted : AcceptedBattery version (whole l before)
   accepted =
       accepted-battery version (whole l before)
-      (advance-answered-accepted version (whole l before) call (sym (ap (λ (a : Answer). a .refusal) answer-is) ∙ answered))
+      (answered-accepted version (whole l before) read (sym (ap (λ (a : Answer). a .refusal) answer-is) ∙ answered))
 
   pub answered-few : l .count ≤ 64
   answered-few =
@@ -38,4 +61,4 @@ module _ (version : ℕ) (l : Ledger) (call : Call) (before own : List Float) (r
   pub answered-zones : renewedZones before own (l .count) ≡ own
   answered-zones =
       renewed-whole before own (l .count)
-      (rw (accepted .count, ap (λ (a : Answer). a .battery .zones) answer-is) (advance-keeps-above version (whole l before) call))
+      (rw (accepted .count, ap (λ (a : Answer). a .battery .zones) answer-is) (read-leaves-above version (whole l before) read))

@@ -22,7 +22,6 @@ code-of b e = ap (λ (x : After). x .code) e
 
 -- what an entry that changes nothing leaves, by its code
 pub unchanged-by : {a : After} {rec free : List ℕ} (n : ℕ) → a ≡ unchanged n rec free → a ≡ unchanged (a .code) rec free
-unfolding unchanged
 unchanged-by {a} {rec} {free} n e = e ∙ ap (λ (k : ℕ). unchanged k rec free) (sym (code-of (unchanged n rec free) e))
 
 -- ---- the line of an answer

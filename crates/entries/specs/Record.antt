@@ -48,9 +48,9 @@ unfoldable pub advancedBy : Answer → Advanced
 advancedBy answer = record { battery = answer .battery; shown = shownOf answer }
 
 -- 10 for a call that can't be read
-unfoldable pub advancedRead : ℕ → Battery → ReadCall → Advanced
-advancedRead version battery Bad = advancedBy (refusedWith badCall battery)
-advancedRead version battery (Good call) = advancedBy (advanceOf version battery call)
+unfoldable pub advanceRead : ℕ → Battery → ReadCall → Answer
+advanceRead version battery Bad = refusedWith badCall battery
+advanceRead version battery (Good call) = advanceOf version battery call
 
 unfoldable pub advancedOf : ℕ → Battery → List ℕ → Advanced
-advancedOf version battery call = advancedRead version battery (callOf version call)
+advancedOf version battery call = advancedBy (advanceRead version battery (callOf version call))

@@ -50,7 +50,7 @@ pub fn record_card(version: u8, record: &[u8]) -> RecordCard
 {
     if sheet_records::cards::card_length(version, record) <= record.len() {
         let c = sheet_records::cards::read_card(version, record);
-        if card::is_accepted(version, c) {
+        if card::verdict::refusal(version, c) == refusals::ANSWERED {
             if record.len() == sheet_records::record_length(version, c, record) {
                 return RecordCard::Good(c);
             }

@@ -5,8 +5,11 @@ use battery::Totals;
 use sheet_calls::ReadCall;
 ghost use mathlib.Core.Path.{_≡_};
 ghost use Prim.Native.Nat.{_≤_};
+ghost use Rattle.card.specs.Lent.{SaltsLent};
+ghost use Rattle.battery.specs.Answer.{settled};
 ghost use Rattle.battery.specs.Ledger.{whole};
-ghost use Rattle.entries.specs.Record.{replyShown, refusedShown, renewedWith, renewedZones, advancedOf};
+ghost use Rattle.sheet_calls.specs.Calls.{callOf};
+ghost use Rattle.entries.specs.Record.{replyShown, refusedShown, renewedWith, renewedZones, advanceRead, advancedOf};
 
 // What a call answers, without the battery.
 #[repr(C)]
@@ -67,31 +70,48 @@ fn renew_zones(zones: &mut [f64; 64], own: &[f64; 64], n: usize)
     }
 }
 
+// A call's bytes on any battery whatsoever, its zones and its salts apart: 10 where either is refused. The battery is judged before the call is
+// read, so that the call goes to the step from where it was read, without a copy.
+fn advance_read(
+    version: u8,
+    l: Ledger,
+    salts: &[f64],
+    step: usize,
+    call: &[u8],
+    zones: &mut [f64; 64],
+) -> Reply
+    requires { ⌜ SaltsLent (l .card) (now salts) step ⌝ }
+    ensures { λ r. ⌜ settled l (now (zones .entry)) r (now (zones .exit)) ≡ advanceRead version (whole l (now (zones .entry))) (callOf version (now (call .entry))) ⌝ }
+{
+    if battery::is_accepted(version, l, zones) {
+        let kind = sheet_calls::kind_of(version, call);
+        let read = sheet_calls::call_by(version, kind, call);
+        match read {
+            ReadCall::Bad => battery::answers::refused_reply(refusals::BAD_CALL),
+            ReadCall::Good(c) => {
+                engine::steps::advance_accepted(version, l, salts, step, c, zones)
+            }
+        }
+    } else {
+        battery::answers::refused_reply(refusals::BAD_CALL)
+    }
+}
+
 // A call's bytes on a battery whose zones lie apart. It runs on a copy of them: answered, the first `count` are stored, and refused, none.
 pub fn advance_apart(version: u8, l: Ledger, call: &[u8], zones: &mut [f64; 64]) -> Renewed
     ensures { λ r. ⌜ renewedWith l r (now (zones .exit)) ≡ advancedOf version (whole l (now (zones .entry))) (now (call .entry)) ⌝ }
 {
-    let read = sheet_calls::read_call(version, call);
-    match read {
-        ReadCall::Bad => {
-            let totals = l.totals;
-            let shown = refused_shown(refusals::BAD_CALL);
-            Renewed { totals, shown }
-        }
-        ReadCall::Good(c) => {
-            let salts = card::pcm::figures_of(l.card);
-            let mut own = *zones;
-            let a = engine::steps::advance_in_place(version, l, &salts, 0, c, &mut own);
-            if a.refusal == 0 {
-                let n = l.count as usize;
-                renew_zones(zones, &own, n);
-                let totals = a.totals;
-                let shown = reply_shown(a);
-                return Renewed { totals, shown };
-            }
-            let totals = l.totals;
-            let shown = refused_shown(a.refusal);
-            Renewed { totals, shown }
-        }
+    let salts = card::pcm::figures_of(l.card);
+    let mut own = *zones;
+    let a = advance_read(version, l, &salts, 0, call, &mut own);
+    if a.refusal == 0 {
+        let n = l.count as usize;
+        renew_zones(zones, &own, n);
+        let totals = a.totals;
+        let shown = reply_shown(a);
+        return Renewed { totals, shown };
     }
+    let totals = l.totals;
+    let shown = refused_shown(a.refusal);
+    Renewed { totals, shown }
 }

@@ -26,7 +26,7 @@ use Rattle.sheet_calls.specs.declared.ReadCall.{ReadCall}
 use Rattle.sheet_calls.specs.declared.ReadCall.the-variants.{Good, Bad}
 use Rattle.sheet_calls.proofs.CallLaws.{same-call, no-call}
 use Rattle.sheet_calls.proofs.CallExact.{call-laid, laid-call}
-use Rattle.entries.specs.Record.{shownOf, advancedBy, advancedRead, advancedOf}
+use Rattle.entries.specs.Record.{shownOf, advancedBy, advanceRead, advancedOf}
 use Rattle.heat_battery.specs.Cases.{GoodCall, GoodOwn, OwnCase10, bad-own, bad-own-call, OwnCase}
 use Rattle.heat_battery.proofs.CallCases.{not-ten}
 
@@ -71,12 +71,12 @@ module _ (version : ℕ) (b : Battery) (call : List ℕ) where
 
   -- the number of a call that is read
   number : (c : Call) → callOf version call ≡ Good c → n ≡ advanceOf version b c .refusal
-  unfolding advancedOf advancedRead advancedBy shownOf
-  number c e = ap (λ (r : ReadCall). advancedRead version b r .shown .refusal) e
+  unfolding advancedOf advanceRead advancedBy shownOf
+  number c e = ap (λ (r : ReadCall). advanceRead version b r .refusal) e
 
   bad-number : callOf version call ≡ Bad → n ≡ 10
-  unfolding advancedOf advancedRead advancedBy shownOf refusedWith
-  bad-number e = ap (λ (r : ReadCall). advancedRead version b r .shown .refusal) e
+  unfolding advancedOf advanceRead advancedBy shownOf refusedWith
+  bad-number e = ap (λ (r : ReadCall). advanceRead version b r .refusal) e
 
   refused-ten : (c : Call) → callOf version call ≡ Good c → (batteryAccepted version b && callInRange version (b .card) c) ≡ false → n ≡ 10
   unfolding advanceOf refusedWith

@@ -34,7 +34,8 @@ fn advance(version: u8, b: Battery, record: &mut [u8], call: &[u8], sheet: &mut 
     requires { ⌜ (recordLaid version (now «record») ≡ true) × (b ≡ recordOf version (now «record»)) × (batteryAccepted version b ≡ true) ⌝ }
     ensures { λ r. ⌜ WasAfter (entryRead version (now («record» .entry)) (now (call .entry)) (now (sheet .entry)) (callOf version (now (call .entry)))) r (now («record» .exit)) (now (sheet .exit)) ⌝ }
 {
-    let read = sheet_calls::read_call(version, call);
+    let kind = sheet_calls::kind_of(version, call);
+    let read = sheet_calls::call_by(version, kind, call);
     match read {
         ReadCall::Bad => refusals::BAD_CALL,
         ReadCall::Good(c) => {

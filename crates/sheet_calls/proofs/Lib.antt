@@ -1,3 +1,4 @@
 pub mod Places
 pub mod CallLaws
 pub mod CallExact
+pub mod ByKind

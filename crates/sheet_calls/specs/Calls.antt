@@ -97,6 +97,10 @@ callBy version kind bs =
     (cond (eqb kind 3) (Good (ChargeHydronic (hydronicAt version bs)))
     (cond (eqb kind 7) (chargeDemandCall version bs) (bareCall version kind))))
 
+-- the kind that a call's bytes begin with, or 0, which is no kind, where they have another length than its calls
+unfoldable pub kindOf : ℕ → List ℕ → ℕ
+kindOf version bs = cond (eqb (length bs) (callLength version (getD bs 0 0))) (getD bs 0 0) 0
+
 -- a call's bytes; bad ones are of another length, of an unknown kind, with a flag or mark other than 0 or 1, or with nonzero bytes under an absent mark
 unfoldable pub callOf : ℕ → List ℕ → ReadCall
 callOf version bs = cond (eqb (length bs) (callLength version (getD bs 0 0))) (callBy version (getD bs 0 0) bs) Bad

@@ -6,7 +6,7 @@ use battery::Hydronic;
 ghost use mathlib.Core.Path.{_≡_};
 ghost use Prim.Native.Nat.{_+_, _≤_};
 ghost use lib.ListN.{length};
-ghost use Rattle.sheet_calls.specs.Calls.{commitPlace, callLength, markOk, givenAt, demandAt, demandCall, hydronicAt, chargeDemandCall, bareCall, callBy, callOf};
+ghost use Rattle.sheet_calls.specs.Calls.{commitPlace, callLength, markOk, givenAt, demandAt, demandCall, hydronicAt, chargeDemandCall, bareCall, kindOf, callBy};
 
 // What the bytes of a call are: bad ones are refused with 10 by A's entry, with 42 by the auditor.
 pub enum ReadCall {
@@ -153,6 +153,19 @@ fn bare_call(version: u8, kind: u8) -> ReadCall
     ReadCall::Bad
 }
 
+// The kind of a call's bytes; 0, which no call has, where their length is another. `call_by` reads them then, Bad where refusal 10 applies to
+// them: two functions, so that a call's fields are written once and not copied.
+pub fn kind_of(version: u8, bytes: &[u8]) -> u8
+    ensures { λ r. ⌜ r ≡ kindOf version (now (bytes .entry)) ⌝ }
+{
+    let kind = codec::byte_or_zero(bytes, 0);
+    if bytes.len() == call_length(version, kind) {
+        kind
+    } else {
+        0
+    }
+}
+
 // The call of a kind, in no fewer bytes than it has.
 pub fn call_by(version: u8, kind: u8, bytes: &[u8]) -> ReadCall
     requires { ⌜ callLength version kind ≤ length (now bytes) ⌝ }
@@ -173,16 +186,4 @@ pub fn call_by(version: u8, kind: u8, bytes: &[u8]) -> ReadCall
         return charge_demand_call(version, bytes);
     }
     bare_call(version, kind)
-}
-
-// The call, or Bad where refusal 10 applies to its bytes.
-pub fn read_call(version: u8, bytes: &[u8]) -> ReadCall
-    ensures { λ r. ⌜ r ≡ callOf version (now (bytes .entry)) ⌝ }
-{
-    let kind = codec::byte_or_zero(bytes, 0);
-    if bytes.len() == call_length(version, kind) {
-        call_by(version, kind, bytes)
-    } else {
-        ReadCall::Bad
-    }
 }

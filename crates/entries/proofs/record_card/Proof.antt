@@ -1,6 +1,6 @@
 use mathlib.Core.Path.{_≡_, refl, sym, _∙_, ap}
 use mathlib.Core.Bool.{false}
-use borrow.Author.Tests.{ne-eqb, eqb-true, le-leb, lt-leb}
+use borrow.Author.Tests.{eq-eqb, ne-eqb, le-leb, lt-leb}
 use Rattle.logic.proofs.Branch.{via-true, via-false}
 use Rattle.entries.specs.Entry.{recordLaid, recordCard}
 use Rattle.entries.specs.declared.RecordCard.the-variants.{Good}
@@ -15,8 +15,8 @@ card-length-requires c κs = search needs
 read-card-requires : tie.Need-read-card-requires
 read-card-requires c κs = search needs
 
-is-accepted-requires : tie.Need-is-accepted-requires
-is-accepted-requires c κs = search needs
+refusal-requires : tie.Need-refusal-requires
+refusal-requires c κs = search needs
 
 record-length-requires : tie.Need-record-length-requires
 record-length-requires c κs = search needs
@@ -29,7 +29,7 @@ returns c =
     laid-record (a .version) (a .«record» .now)
     (record {
       card-there = rw (← (c .before .before .before .before .before .before .card-length .ensures)) (c .before .before .before .before .before .if1 .taken);
-      card-accepted = rw (← (c .before .before .before .before .read-card .ensures)) (eqb-true _ _ (sym (c .before .before .before .is-accepted .ensures) ∙ c .before .before .if2 .taken));
+      card-accepted = rw (← (c .before .before .before .before .read-card .ensures)) (sym (c .before .before .before .refusal .ensures) ∙ c .before .before .if2 .taken);
       long = rw (← (c .before .record-length .ensures)) (c .if3 .taken);
     }) in
     via-true _ _ l (ap Good (c .before .before .before .before .read-card .ensures))
@@ -40,8 +40,8 @@ returns-2 c =
     let a = c .before .before .before .before .before .before .before .before .args in
     let l : recordLaid (a .version) (a .«record» .now) ≡ false =
     sym
-    (rw (← (c .before .before .before .before .before .before .card-length .ensures), ← (c .before .before .before .before .read-card .ensures), ← (c .before .before .before .is-accepted .ensures), ← (c .before .record-length .ensures))
-    (via-true _ _ (le-leb _ _ (c .before .before .before .before .before .if1 .taken)) (via-true _ _ (c .before .before .if2 .taken) (sym (ne-eqb _ _ (c .if3 .left)))))) in
+    (rw (← (c .before .before .before .before .before .before .card-length .ensures), ← (c .before .before .before .before .read-card .ensures), ← (c .before .before .before .refusal .ensures), ← (c .before .record-length .ensures))
+    (via-true _ _ (le-leb _ _ (c .before .before .before .before .before .if1 .taken)) (via-true _ _ (eq-eqb _ _ (c .before .before .if2 .taken)) (sym (ne-eqb _ _ (c .if3 .left)))))) in
     via-false _ _ l refl
 
 returns-3 : tie.Need-returns-3
@@ -50,8 +50,8 @@ returns-3 c =
     let a = c .before .before .before .before .before .before .args in
     let l : recordLaid (a .version) (a .«record» .now) ≡ false =
     sym
-    (rw (← (c .before .before .before .before .card-length .ensures), ← (c .before .before .read-card .ensures), ← (c .before .is-accepted .ensures))
-    (via-true _ _ (le-leb _ _ (c .before .before .before .if1 .taken)) (via-false _ _ (c .if2 .left) refl))) in
+    (rw (← (c .before .before .before .before .card-length .ensures), ← (c .before .before .read-card .ensures), ← (c .before .refusal .ensures))
+    (via-true _ _ (le-leb _ _ (c .before .before .before .if1 .taken)) (via-false _ _ (ne-eqb _ _ (c .if2 .left)) refl))) in
     via-false _ _ l refl
 
 returns-4 : tie.Need-returns-4
@@ -67,7 +67,7 @@ record-card-spec =
     (tie.spec
     card-length-requires
     read-card-requires
-    is-accepted-requires
+    refusal-requires
     record-length-requires
     returns
     returns-2

@@ -8,6 +8,7 @@ use Rattle.sheet_calls.specs.Calls.{callOf}
 use Rattle.sheet_calls.specs.declared.ReadCall.the-variants.{Good}
 use Rattle.sheet_calls.proofs.CallLaws.{call-length}
 use Rattle.sheet_calls.proofs.Places.{call-short}
+use Rattle.sheet_calls.proofs.ByKind.{kind-fits, read-by-kind}
 use Rattle.engine.proofs.AdvanceKeeps.{advance-keeps-card}
 use Rattle.card.proofs.Accepted.{accepted-layers}
 use Rattle.battery.specs.declared.Battery.{Battery}
@@ -34,8 +35,11 @@ module _ (version : ℕ) where
   read-short : (call : List ℕ) (c : Call) → callOf version call ≡ Good c → length call < 65536
   read-short call c h = omega (arith, call-length version call c h, call-short version (getD call 0 0))
 
-read-call-requires : tie.Need-read-call-requires
-read-call-requires c κs = search needs
+kind-of-requires : tie.Need-kind-of-requires
+kind-of-requires c κs = search needs
+
+call-by-requires : tie.Need-call-by-requires
+call-by-requires c κs = let a = c .before .before .before .before .args in rw (c .kind-of .ensures) (kind-fits (a .version) (a .call .now))
 
 enum-told : tie.Need-enum-told
 enum-told c = search needs
@@ -44,23 +48,25 @@ enum-known-read : tie.Need-enum-known-read
 enum-known-read c = search needs
 
 advance-requires : tie.Need-advance-requires
-advance-requires c κs = c .before .before .before .before .before .before .before .pre .2
+advance-requires c κs = c .before .before .before .before .before .before .before .before .pre .2
 
 enter-requires : tie.Need-enter-requires
 unfolding recordLength
 enter-requires c κs =
-    let r = c .before .before .before .before .before .before .before .before .before .before in
+    let r = c .before .before .before .before .before .before .before .before .before .before .before in
     let rec = r .args .«record» .now in
     let l = record-laid (r .args .version) rec (r .pre .0) in
     let e = answer-card (r .args .version) rec (r .args .b) (c .before .before .advance .result) _ (r .pre .1) (c .before .before .advance .ensures) in (
       rw e (accepted-layers (r .args .version) (cardAt (r .args .version) rec) (l .card-accepted) .1),
-      read-short (r .args .version) (r .args .call .now) _ (sym (c .before .before .before .before .before .before .read-call .ensures) ∙ c .before .before .before .before .read .given .1),
+      read-short (r .args .version) (r .args .call .now) _ (sym (read-by-kind (r .args .version) (r .args .call .now) _ _ (c .before .before .before .before .before .before .before .kind-of .ensures) (c .before .before .before .before .before .before .call-by .ensures)) ∙ c .before .before .before .before .read .given .1),
       rw e (l .long),
     )
 
 returns : tie.Need-returns
 unfolding entryRead
-returns c = rw (← (c .before .before .read-call .ensures), c .enum-told .given .1) (record { code-is = refl; record-is = refl; sheet-is = refl })
+returns c =
+    let a = c .before .before .before .before .before .before .before .args in
+    rw (← (read-by-kind (a .version) (a .call .now) _ _ (c .before .before .before .kind-of .ensures) (c .before .before .call-by .ensures)), c .enum-told .given .1) (record { code-is = refl; record-is = refl; sheet-is = refl })
 
 same-length : tie.Need-same-length
 same-length c = search needs
@@ -71,15 +77,16 @@ same-length-2 c = search needs
 returns-2 : tie.Need-returns-2
 unfolding entryRead
 returns-2 c =
-    let r = c .before .before .before .before .before .before .before .before .before .before .before .before .before .before .before in
-    rw (← (c .before .before .before .before .before .before .before .before .before .before .before .read-call .ensures), c .before .before .before .before .before .before .before .before .before .read .given .1, ← (answer-is (r .args .version) (r .args .«record» .now) (r .args .b) (c .before .before .before .before .before .before .before .advance .result) _ (r .pre .1) (c .before .before .before .before .before .before .before .advance .ensures)))
+    let r = c .before .before .before .before .before .before .before .before .before .before .before .before .before .before .before .before in
+    rw (← (read-by-kind (r .args .version) (r .args .call .now) _ _ (c .before .before .before .before .before .before .before .before .before .before .before .before .kind-of .ensures) (c .before .before .before .before .before .before .before .before .before .before .before .call-by .ensures)), c .before .before .before .before .before .before .before .before .before .read .given .1, ← (answer-is (r .args .version) (r .args .«record» .now) (r .args .b) (c .before .before .before .before .before .before .before .advance .result) _ (r .pre .1) (c .before .before .before .before .before .before .before .advance .ensures)))
     (c .before .before .before .before .enter .ensures)
 
 pub advance-spec : {M : Type 1} → statement M
 advance-spec =
     tie.close
     (tie.spec
-    read-call-requires
+    kind-of-requires
+    call-by-requires
     enum-told
     enum-known-read
     advance-requires
