@@ -38,11 +38,11 @@ fn put_refused(out: &mut [u8], refusal: u64, index: u64) -> usize
     codec::put_bytes(out, t, b"\n")
 }
 
-fn put_verdict(out: &mut [u8], v: Verdict) -> usize
+fn put_verdict(out: &mut [u8], verdict: Verdict) -> usize
     requires { ⌜ 64 ≤ length (now out) ⌝ }
-    ensures { λ r. ⌜ (r ≡ length (says v)) × (now (out .exit) ≡ over (says v) (now (out .entry))) ⌝ }
+    ensures { λ r. ⌜ (r ≡ length (says verdict)) × (now (out .exit) ≡ over (says verdict) (now (out .entry))) ⌝ }
 {
-    match v {
+    match verdict {
         Verdict::Accepted(n) => put_accepted(out, n as u64),
         Verdict::Refused(r, k) => put_refused(out, r as u64, k as u64),
     }

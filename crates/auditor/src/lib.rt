@@ -83,11 +83,11 @@ pub fn audit_limited(sheet: &[u8]) -> Verdict
 }
 
 // Document 01: 'K × 256 + R, or N × 256 when it accepts'.
-fn verdict_word(v: Verdict) -> u64
-    requires { ⌜ IndexAtMost limit v ⌝ }
-    ensures { λ r. ⌜ r ≡ verdictWord v ⌝ }
+fn verdict_word(verdict: Verdict) -> u64
+    requires { ⌜ IndexAtMost limit verdict ⌝ }
+    ensures { λ r. ⌜ r ≡ verdictWord verdict ⌝ }
 {
-    match v {
+    match verdict {
         Verdict::Accepted(n) => (n as u64) * 256,
         Verdict::Refused(r, k) => (k as u64) * 256 + (r as u64),
     }
@@ -101,10 +101,10 @@ pub fn limited_audit_word(sheet: &[u8]) -> u64
 }
 
 // A verdict's refusal and line.
-fn verdict_fields(v: Verdict) -> AuditVerdict
-    ensures { λ r. ⌜ r ≡ verdictFields v ⌝ }
+fn verdict_fields(verdict: Verdict) -> AuditVerdict
+    ensures { λ r. ⌜ r ≡ verdictFields verdict ⌝ }
 {
-    match v {
+    match verdict {
         Verdict::Accepted(n) => AuditVerdict {
             refusal: 0,
             line: n as u64,

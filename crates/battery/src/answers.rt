@@ -12,8 +12,8 @@ ghost use Rattle.battery.specs.Answer.{refusedWith, answerFinite, answer
 const ABSENT: u8 = 0;
 
 // A refusal line: the battery stays.
-pub fn refused(refusal: u8, b: Battery) -> Answer
-    ensures { λ r. ⌜ r ≡ refusedWith refusal b ⌝ }
+pub fn refused(refusal: u8, battery: Battery) -> Answer
+    ensures { λ r. ⌜ r ≡ refusedWith refusal battery ⌝ }
 {
     Answer {
         refusal,
@@ -22,7 +22,7 @@ pub fn refused(refusal: u8, b: Battery) -> Answer
         outlet: 0.0,
         time: 0.0,
         substeps: 0,
-        battery: b,
+        battery: battery,
     }
 }
 
@@ -64,23 +64,23 @@ pub fn plain_reply(energy: f64, totals: Totals) -> Reply
 }
 
 // Whether every reported number and total is finite, but for the zones.
-pub fn numbers_finite(a: Reply) -> bool
-    ensures { λ r. ⌜ r ≡ numbersFinite a ⌝ }
+pub fn numbers_finite(reply: Reply) -> bool
+    ensures { λ r. ⌜ r ≡ numbersFinite reply ⌝ }
 {
-    let totals = a.totals;
+    let totals = reply.totals;
     logic::all_four(
-        floats::is_finite(a.energy),
-        floats::is_finite(a.outlet),
-        floats::is_finite(a.time),
+        floats::is_finite(reply.energy),
+        floats::is_finite(reply.outlet),
+        floats::is_finite(reply.time),
         crate::totals_finite(totals),
     )
 }
 
 // Whether every reported number and total is finite.
-pub fn reply_finite(l: Ledger, a: Reply, zones: &[f64; 64]) -> bool
-    requires { ⌜ l .card .layers ≤ 64 ⌝ }
-    ensures { λ r. ⌜ r ≡ answerFinite (answerWith l a (now (zones .entry))) ⌝ }
+pub fn reply_finite(ledger: Ledger, reply: Reply, zones: &[f64; 64]) -> bool
+    requires { ⌜ ledger .card .layers ≤ 64 ⌝ }
+    ensures { λ r. ⌜ r ≡ answerFinite (answerWith ledger reply (now (zones .entry))) ⌝ }
 {
-    let n = l.card.layers as usize;
-    logic::both(numbers_finite(a), crate::zones_finite(zones, n))
+    let n = ledger.card.layers as usize;
+    logic::both(numbers_finite(reply), crate::zones_finite(zones, n))
 }

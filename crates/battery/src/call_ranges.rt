@@ -22,33 +22,33 @@ fn is_given_temperature(given: Given) -> bool
     }
 }
 
-fn demand_in_range(card: Card, d: Demand) -> bool
-    ensures { λ r. ⌜ r ≡ demandInRange card d ⌝ }
+fn demand_in_range(card: Card, demand: Demand) -> bool
+    ensures { λ r. ⌜ r ≡ demandInRange card demand ⌝ }
 {
-    let feed = d.feed;
+    let feed = demand.feed;
     logic::all_four(
-        d.service <= 3,
-        card::ranges::within(-1000000.0, 1000000.0, d.required),
-        card::ranges::within(0.0, card.timestep, d.start),
+        demand.service <= 3,
+        card::ranges::within(-1000000.0, 1000000.0, demand.required),
+        card::ranges::within(0.0, card.timestep, demand.start),
         is_given_temperature(feed),
     )
 }
 
-fn hydronic_in_range(h: Hydronic) -> bool
-    ensures { λ r. ⌜ r ≡ hydronicInRange h ⌝ }
+fn hydronic_in_range(hydronic: Hydronic) -> bool
+    ensures { λ r. ⌜ r ≡ hydronicInRange hydronic ⌝ }
 {
     let exchanger = logic::all_four(
-        card::ranges::is_coefficient(h.a),
-        card::ranges::is_coefficient(h.b),
-        card::ranges::is_velocity(h.velocity),
-        card::ranges::within(0.00001, 1.0, h.diameter),
+        card::ranges::is_coefficient(hydronic.a),
+        card::ranges::is_coefficient(hydronic.b),
+        card::ranges::is_velocity(hydronic.velocity),
+        card::ranges::within(0.00001, 1.0, hydronic.diameter),
     );
     logic::all_six(
-        card::ranges::is_temperature(h.inlet),
-        card::ranges::within(0.0, 24.0, h.hours),
-        card::ranges::is_flow(h.flow),
-        is_level(h.target),
-        card::ranges::within(0.0, 1000000.0, h.limit),
+        card::ranges::is_temperature(hydronic.inlet),
+        card::ranges::within(0.0, 24.0, hydronic.hours),
+        card::ranges::is_flow(hydronic.flow),
+        is_level(hydronic.target),
+        card::ranges::within(0.0, 1000000.0, hydronic.limit),
         exchanger,
     )
 }

@@ -146,69 +146,69 @@ pub fn zones_finite(zones: &[f64; 64], n: usize) -> bool
     ok
 }
 
-pub fn totals_finite(t: Totals) -> bool
-    ensures { λ r. ⌜ r ≡ totalsFinite t ⌝ }
+pub fn totals_finite(totals: Totals) -> bool
+    ensures { λ r. ⌜ r ≡ totalsFinite totals ⌝ }
 {
     logic::all_five(
-        floats::is_finite(t.total),
-        floats::is_finite(t.pump),
-        floats::is_finite(t.direct),
-        floats::is_finite(t.charged),
-        floats::is_finite(t.electric),
+        floats::is_finite(totals.total),
+        floats::is_finite(totals.pump),
+        floats::is_finite(totals.direct),
+        floats::is_finite(totals.charged),
+        floats::is_finite(totals.electric),
     )
 }
 
 // The card field by field: the compiler then copies it in place and calls no copying routine.
-pub fn ledger_of(b: Battery) -> Ledger
-    ensures { λ r. ⌜ r ≡ ledgerOf b ⌝ }
+pub fn ledger_of(battery: Battery) -> Ledger
+    ensures { λ r. ⌜ r ≡ ledgerOf battery ⌝ }
 {
     let card = Card {
-        layers: b.card.layers,
-        units: b.card.units,
-        simultaneous: b.card.simultaneous,
-        budget: b.card.budget,
-        substep: b.card.substep,
-        timestep: b.card.timestep,
-        inlet: b.card.inlet,
-        outlet: b.card.outlet,
-        max: b.card.max,
-        reference: b.card.reference,
-        lower: b.card.lower,
-        upper: b.card.upper,
-        below: b.card.below,
-        during: b.card.during,
-        above: b.card.above,
-        velocity: b.card.velocity,
-        diameter: b.card.diameter,
-        a: b.card.a,
-        b: b.card.b,
-        flow: b.card.flow,
-        losses: b.card.losses,
-        start: b.card.start,
-        power: b.card.power,
+        layers: battery.card.layers,
+        units: battery.card.units,
+        simultaneous: battery.card.simultaneous,
+        budget: battery.card.budget,
+        substep: battery.card.substep,
+        timestep: battery.card.timestep,
+        inlet: battery.card.inlet,
+        outlet: battery.card.outlet,
+        max: battery.card.max,
+        reference: battery.card.reference,
+        lower: battery.card.lower,
+        upper: battery.card.upper,
+        below: battery.card.below,
+        during: battery.card.during,
+        above: battery.card.above,
+        velocity: battery.card.velocity,
+        diameter: battery.card.diameter,
+        a: battery.card.a,
+        b: battery.card.b,
+        flow: battery.card.flow,
+        losses: battery.card.losses,
+        start: battery.card.start,
+        power: battery.card.power,
     };
     let totals = Totals {
-        total: b.total,
-        pump: b.pump,
-        direct: b.direct,
-        charged: b.charged,
-        electric: b.electric,
+        total: battery.total,
+        pump: battery.pump,
+        direct: battery.direct,
+        charged: battery.charged,
+        electric: battery.electric,
     };
     Ledger {
         card,
-        count: b.count,
+        count: battery.count,
         totals,
     }
 }
 
 // Refusal 10's test of a battery: false where it is refused.
-pub fn is_accepted(version: u8, l: Ledger, zones: &[f64; 64]) -> bool
-    ensures { λ r. ⌜ r ≡ batteryAccepted version (whole l (now (zones .entry))) ⌝ }
+pub fn is_accepted(version: u8, ledger: Ledger, zones: &[f64; 64]) -> bool
+    ensures { λ r. ⌜ r ≡ batteryAccepted version (whole ledger (now (zones .entry))) ⌝ }
 {
-    let c = l.card;
-    let totals = l.totals;
+    let c = ledger.card;
+    let totals = ledger.totals;
     if card::is_accepted(version, c) {
-        if l.count == c.layers {
+        if ledger.count == c.layers {
             let n = c.layers as usize;
             return logic::both(zones_finite(zones, n), totals_finite(totals));
         }

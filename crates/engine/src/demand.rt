@@ -28,131 +28,138 @@ fn demand_power(card: Card, control: bool) -> f64
     0.0
 }
 
-fn demand_task(l: Ledger, d: Demand, feed: f64) -> DemandTask
-    ensures { λ r. ⌜ r ≡ demandTask l d feed ⌝ }
+fn demand_task(ledger: Ledger, demand: Demand, feed: f64) -> DemandTask
+    ensures { λ r. ⌜ r ≡ demandTask ledger demand feed ⌝ }
 {
-    let card = l.card;
+    let card = ledger.card;
     let pcm = card::pcm::derived(card);
-    let power = demand_power(card, d.control);
+    let power = demand_power(card, demand.control);
     let units = card.units as f64;
-    let hours = runs::time_available(l, d.start);
+    let hours = runs::time_available(ledger, demand.start);
     DemandTask {
         card,
         pcm,
         feed,
         power,
-        demand: KilowattHours(d.required / units),
+        demand: KilowattHours(demand.required / units),
         seconds: hours * floats::SECONDS_PER_HOUR,
     }
 }
 
 // The substeps of a demand.
 fn demand_stopped(
-    l: Ledger,
+    ledger: Ledger,
     salts: &[f64],
     step: usize,
-    d: Demand,
+    demand: Demand,
     feed: f64,
     zones: &mut [f64; 64],
 ) -> Stopped
-    requires { ⌜ (l .card .layers ≤ 64) × SaltsLent (l .card) (now salts) step ⌝ }
-    ensures { λ r. ⌜ AsDefined (endRefusal (r .end)) r (now (zones .exit)) (demandRan (whole l (now (zones .entry))) d feed) ⌝ }
+    requires { ⌜ (ledger .card .layers ≤ 64) × SaltsLent (ledger .card) (now salts) step ⌝ }
+    ensures { λ r. ⌜ AsDefined (endRefusal (r .end)) r (now (zones .exit)) (demandRan (whole ledger (now (zones .entry))) demand feed) ⌝ }
 {
-    let card = l.card;
-    let task = demand_task(l, d, feed);
-    let start = engine_replies::demand_start(l);
+    let card = ledger.card;
+    let task = demand_task(ledger, demand, feed);
+    let start = engine_replies::demand_start(ledger);
     let e = run_demand::demand_run(task, salts, step, card.budget, start, zones);
     run_demand::demand_ended(e)
 }
 
 // On the battery's own zones.
 fn committed(
-    l: Ledger,
+    ledger: Ledger,
     salts: &[f64],
     step: usize,
-    d: Demand,
+    demand: Demand,
     feed: f64,
     zones: &mut [f64; 64],
 ) -> Reply
-    requires { ⌜ (l .card .layers ≤ 64) × SaltsLent (l .card) (now salts) step × (zonesFinite (now zones) (l .card .layers) ≡ true) × (d .commit ≡ true) ⌝ }
-    ensures { λ r. ⌜ settled l (now (zones .entry)) r (now (zones .exit)) ≡ demandAnswered (whole l (now (zones .entry))) d feed ⌝ }
+    requires { ⌜ (ledger .card .layers ≤ 64) × SaltsLent (ledger .card) (now salts) step × (zonesFinite (now zones) (ledger .card .layers) ≡ true) × (demand .commit ≡ true) ⌝ }
+    ensures { λ r. ⌜ settled ledger (now (zones .entry)) r (now (zones .exit)) ≡ demandAnswered (whole ledger (now (zones .entry))) demand feed ⌝ }
 {
-    let s = demand_stopped(l, salts, step, d, feed, zones);
-    let card = l.card;
-    let class = engine_replies::totals::service_class(card, d.service);
-    let totals = engine_replies::totals::served_totals(l, class, s);
-    let a = engine_replies::demand_reply(l, s, totals);
+    let s = demand_stopped(ledger, salts, step, demand, feed, zones);
+    let card = ledger.card;
+    let class = engine_replies::totals::service_class(card, demand.service);
+    let totals = engine_replies::totals::served_totals(ledger, class, s);
+    let a = engine_replies::demand_reply(ledger, s, totals);
     let end = s.end;
     engine_replies::unless_refused(end, a)
 }
 
 // On a copy of the zones.
-fn trial(l: Ledger, salts: &[f64], step: usize, d: Demand, feed: f64, zones: &[f64; 64]) -> Reply
-    requires { ⌜ (l .card .layers ≤ 64) × SaltsLent (l .card) (now salts) step × (zonesFinite (now zones) (l .card .layers) ≡ true) × (d .commit ≡ false) ⌝ }
-    ensures { λ r. ⌜ settled l (now (zones .entry)) r (now (zones .entry)) ≡ demandAnswered (whole l (now (zones .entry))) d feed ⌝ }
+fn trial(
+    ledger: Ledger,
+    salts: &[f64],
+    step: usize,
+    demand: Demand,
+    feed: f64,
+    zones: &[f64; 64],
+) -> Reply
+    requires { ⌜ (ledger .card .layers ≤ 64) × SaltsLent (ledger .card) (now salts) step × (zonesFinite (now zones) (ledger .card .layers) ≡ true) × (demand .commit ≡ false) ⌝ }
+    ensures { λ r. ⌜ settled ledger (now (zones .entry)) r (now (zones .entry)) ≡ demandAnswered (whole ledger (now (zones .entry))) demand feed ⌝ }
 {
     let mut own = *zones;
-    let s = demand_stopped(l, salts, step, d, feed, &mut own);
-    let totals = l.totals;
-    let a = engine_replies::demand_reply(l, s, totals);
+    let s = demand_stopped(ledger, salts, step, demand, feed, &mut own);
+    let totals = ledger.totals;
+    let a = engine_replies::demand_reply(ledger, s, totals);
     let end = s.end;
     engine_replies::unless_refused(end, a)
 }
 
 fn demand_from(
-    l: Ledger,
+    ledger: Ledger,
     salts: &[f64],
     step: usize,
-    d: Demand,
+    demand: Demand,
     feed: f64,
     zones: &mut [f64; 64],
 ) -> Reply
-    requires { ⌜ (l .card .layers ≤ 64) × SaltsLent (l .card) (now salts) step × (zonesFinite (now zones) (l .card .layers) ≡ true) ⌝ }
-    ensures { λ r. ⌜ settled l (now (zones .entry)) r (now (zones .exit)) ≡ demandFrom (whole l (now (zones .entry))) d feed ⌝ }
+    requires { ⌜ (ledger .card .layers ≤ 64) × SaltsLent (ledger .card) (now salts) step × (zonesFinite (now zones) (ledger .card .layers) ≡ true) ⌝ }
+    ensures { λ r. ⌜ settled ledger (now (zones .entry)) r (now (zones .exit)) ≡ demandFrom (whole ledger (now (zones .entry))) demand feed ⌝ }
 {
-    let card = l.card;
-    let class = engine_replies::totals::service_class(card, d.service);
-    if logic::both(d.commit, engine_replies::totals::unserved(class)) {
+    let card = ledger.card;
+    let class = engine_replies::totals::service_class(card, demand.service);
+    if logic::both(demand.commit, engine_replies::totals::unserved(class)) {
         return battery::answers::refused_reply(refusals::NO_SERVICE);
     }
-    if d.commit {
-        return committed(l, salts, step, d, feed, zones);
+    if demand.commit {
+        return committed(ledger, salts, step, demand, feed, zones);
     }
-    trial(l, salts, step, d, feed, zones)
+    trial(ledger, salts, step, demand, feed, zones)
 }
 
 fn demand_given(
-    l: Ledger,
+    ledger: Ledger,
     salts: &[f64],
     step: usize,
-    d: Demand,
+    demand: Demand,
     given: Given,
     zones: &mut [f64; 64],
 ) -> Reply
-    requires { ⌜ (l .card .layers ≤ 64) × SaltsLent (l .card) (now salts) step × (zonesFinite (now zones) (l .card .layers) ≡ true) ⌝ }
-    ensures { λ r. ⌜ settled l (now (zones .entry)) r (now (zones .exit)) ≡ demandGiven (whole l (now (zones .entry))) d given ⌝ }
+    requires { ⌜ (ledger .card .layers ≤ 64) × SaltsLent (ledger .card) (now salts) step × (zonesFinite (now zones) (ledger .card .layers) ≡ true) ⌝ }
+    ensures { λ r. ⌜ settled ledger (now (zones .entry)) r (now (zones .exit)) ≡ demandGiven (whole ledger (now (zones .entry))) demand given ⌝ }
 {
     match given {
         Given::Absent => battery::answers::refused_reply(refusals::NO_RETURN),
-        Given::Value(feed) => demand_from(l, salts, step, d, feed, zones),
+        Given::Value(feed) => demand_from(ledger, salts, step, demand, feed, zones),
     }
 }
 
 pub fn demand_energy(
-    l: Ledger,
+    ledger: Ledger,
     salts: &[f64],
     step: usize,
-    d: Demand,
+    demand: Demand,
     zones: &mut [f64; 64],
 ) -> Reply
-    requires { ⌜ (l .card .layers ≤ 64) × SaltsLent (l .card) (now salts) step × (zonesFinite (now zones) (l .card .layers) ≡ true) ⌝ }
-    ensures { λ r. ⌜ settled l (now (zones .entry)) r (now (zones .exit)) ≡ demandEnergy (whole l (now (zones .entry))) d ⌝ }
+    requires { ⌜ (ledger .card .layers ≤ 64) × SaltsLent (ledger .card) (now salts) step × (zonesFinite (now zones) (ledger .card .layers) ≡ true) ⌝ }
+    ensures { λ r. ⌜ settled ledger (now (zones .entry)) r (now (zones .exit)) ≡ demandEnergy (whole ledger (now (zones .entry))) demand ⌝ }
 {
-    if d.required <= floats::TOLERANCE {
-        let totals = l.totals;
+    if demand.required <= floats::TOLERANCE {
+        let totals = ledger.totals;
         let a = battery::answers::plain_reply(0.0, totals);
-        return engine_replies::checked(l, a, zones);
+        return engine_replies::checked(ledger, a, zones);
     }
-    let given = d.feed;
-    demand_given(l, salts, step, d, given, zones)
+    let given = demand.feed;
+    demand_given(ledger, salts, step, demand, given, zones)
 }

@@ -27,61 +27,61 @@ ghost use Rattle.engine.specs.Operations.{operationOf, operationStep};
 ghost use Rattle.engine.specs.Steps.{charge as chargeOf, heatLoss, closed, level as levelOf, readLevel, demandToLevel, wetSource, advanceOf};
 
 fn charge(
-    l: Ledger,
+    ledger: Ledger,
     salts: &[f64],
     step: usize,
     source: Source,
     target: f64,
     zones: &mut [f64; 64],
 ) -> Reply
-    requires { ⌜ (l .card .layers ≤ 64) × SaltsLent (l .card) (now salts) step × (zonesFinite (now zones) (l .card .layers) ≡ true) ⌝ }
-    ensures { λ r. ⌜ settled l (now (zones .entry)) r (now (zones .exit)) ≡ chargeOf (whole l (now (zones .entry))) source target ⌝ }
+    requires { ⌜ (ledger .card .layers ≤ 64) × SaltsLent (ledger .card) (now salts) step × (zonesFinite (now zones) (ledger .card .layers) ≡ true) ⌝ }
+    ensures { λ r. ⌜ settled ledger (now (zones .entry)) r (now (zones .exit)) ≡ chargeOf (whole ledger (now (zones .entry))) source target ⌝ }
 {
-    let s = run_charges::charge_battery(l, salts, step, source, target, zones);
-    let totals = engine_replies::totals::charged_totals(l, s);
+    let s = run_charges::charge_battery(ledger, salts, step, source, target, zones);
+    let totals = engine_replies::totals::charged_totals(ledger, s);
     let a = engine_replies::run_reply(s, totals);
     let end = s.end;
     engine_replies::unless_refused(end, a)
 }
 
-fn heat_loss(l: Ledger, salts: &[f64], step: usize, zones: &mut [f64; 64]) -> Reply
-    requires { ⌜ (l .card .layers ≤ 64) × SaltsLent (l .card) (now salts) step × (lt (chargerHeat (lossInput (l .card)) .0) zero ≡ false) ⌝ }
-    ensures { λ r. ⌜ settled l (now (zones .entry)) r (now (zones .exit)) ≡ heatLoss (whole l (now (zones .entry))) ⌝ }
+fn heat_loss(ledger: Ledger, salts: &[f64], step: usize, zones: &mut [f64; 64]) -> Reply
+    requires { ⌜ (ledger .card .layers ≤ 64) × SaltsLent (ledger .card) (now salts) step × (lt (chargerHeat (lossInput (ledger .card)) .0) zero ≡ false) ⌝ }
+    ensures { λ r. ⌜ settled ledger (now (zones .entry)) r (now (zones .exit)) ≡ heatLoss (whole ledger (now (zones .entry))) ⌝ }
 {
-    let s = run_charges::battery_heat_loss(l, salts, step, zones);
-    let totals = l.totals;
+    let s = run_charges::battery_heat_loss(ledger, salts, step, zones);
+    let totals = ledger.totals;
     let a = engine_replies::run_reply(s, totals);
     let end = s.end;
     engine_replies::unless_refused(end, a)
 }
 
-fn level(l: Ledger, salts: &[f64], step: usize, zones: &[f64; 64]) -> StateOfCharge
-    requires { ⌜ (l .card .layers ≤ 64) × SaltsLent (l .card) (now salts) step ⌝ }
-    ensures { λ r. ⌜ r ≡ levelOf (whole l (now (zones .entry))) ⌝ }
+fn level(ledger: Ledger, salts: &[f64], step: usize, zones: &[f64; 64]) -> StateOfCharge
+    requires { ⌜ (ledger .card .layers ≤ 64) × SaltsLent (ledger .card) (now salts) step ⌝ }
+    ensures { λ r. ⌜ r ≡ levelOf (whole ledger (now (zones .entry))) ⌝ }
 {
-    let card = l.card;
+    let card = ledger.card;
     let stored = card::pcm::energy_at(card, salts, step, card.max);
     let n = card.layers as usize;
     let own = *zones;
     zone::layer::calc_state_of_charge(salts, step, card.reference, stored, own, n)
 }
 
-fn read_level(l: Ledger, level: StateOfCharge, zones: &[f64; 64]) -> Reply
-    requires { ⌜ l .card .layers ≤ 64 ⌝ }
-    ensures { λ r. ⌜ settled l (now (zones .entry)) r (now (zones .entry)) ≡ readLevel (whole l (now (zones .entry))) level ⌝ }
+fn read_level(ledger: Ledger, level: StateOfCharge, zones: &[f64; 64]) -> Reply
+    requires { ⌜ ledger .card .layers ≤ 64 ⌝ }
+    ensures { λ r. ⌜ settled ledger (now (zones .entry)) r (now (zones .entry)) ≡ readLevel (whole ledger (now (zones .entry))) level ⌝ }
 {
     match level {
         StateOfCharge::Above => battery::answers::refused_reply(refusals::OVER_FULL),
         StateOfCharge::Level(soc) => {
-            let totals = l.totals;
+            let totals = ledger.totals;
             let a = battery::answers::plain_reply(soc, totals);
-            engine_replies::checked(l, a, zones)
+            engine_replies::checked(ledger, a, zones)
         }
     }
 }
 
 fn demand_to_level(
-    l: Ledger,
+    ledger: Ledger,
     salts: &[f64],
     step: usize,
     most: Given,
@@ -89,39 +89,39 @@ fn demand_to_level(
     level: StateOfCharge,
     zones: &[f64; 64],
 ) -> Reply
-    requires { ⌜ (l .card .layers ≤ 64) × SaltsLent (l .card) (now salts) step ⌝ }
-    ensures { λ r. ⌜ settled l (now (zones .entry)) r (now (zones .entry)) ≡ demandToLevel (whole l (now (zones .entry))) most target level ⌝ }
+    requires { ⌜ (ledger .card .layers ≤ 64) × SaltsLent (ledger .card) (now salts) step ⌝ }
+    ensures { λ r. ⌜ settled ledger (now (zones .entry)) r (now (zones .entry)) ≡ demandToLevel (whole ledger (now (zones .entry))) most target level ⌝ }
 {
     match level {
         StateOfCharge::Above => battery::answers::refused_reply(refusals::OVER_FULL),
         StateOfCharge::Level(soc) => {
             let energy = run_charges::calculate_charge_energy_demand(
-                l,
+                ledger,
                 salts,
                 step,
                 most,
                 target,
                 soc,
             );
-            let totals = l.totals;
+            let totals = ledger.totals;
             let a = battery::answers::plain_reply(energy.0, totals);
-            engine_replies::checked(l, a, zones)
+            engine_replies::checked(ledger, a, zones)
         }
     }
 }
 
-fn wet_source(h: Hydronic) -> Source
-    ensures { λ r. ⌜ r ≡ wetSource h ⌝ }
+fn wet_source(hydronic: Hydronic) -> Source
+    ensures { λ r. ⌜ r ≡ wetSource hydronic ⌝ }
 {
     let wet = Exchanger {
-        inlet: h.inlet,
-        hours: h.hours,
-        flow: h.flow,
-        limit: h.limit,
-        a: h.a,
-        b: h.b,
-        velocity: h.velocity,
-        diameter: h.diameter,
+        inlet: hydronic.inlet,
+        hours: hydronic.hours,
+        flow: hydronic.flow,
+        limit: hydronic.limit,
+        a: hydronic.a,
+        b: hydronic.b,
+        velocity: hydronic.velocity,
+        diameter: hydronic.diameter,
     };
     Source::Wet(wet)
 }
@@ -144,57 +144,57 @@ fn operation(call: Call) -> Operation
     }
 }
 
-fn close_timestep(l: Ledger, zones: &[f64; 64]) -> Reply
-    requires { ⌜ l .card .layers ≤ 64 ⌝ }
-    ensures { λ r. ⌜ settled l (now (zones .entry)) r (now (zones .entry)) ≡ closed (whole l (now (zones .entry))) ⌝ }
+fn close_timestep(ledger: Ledger, zones: &[f64; 64]) -> Reply
+    requires { ⌜ ledger .card .layers ≤ 64 ⌝ }
+    ensures { λ r. ⌜ settled ledger (now (zones .entry)) r (now (zones .entry)) ≡ closed (whole ledger (now (zones .entry))) ⌝ }
 {
-    let totals = engine_replies::totals::closed_totals(l);
+    let totals = engine_replies::totals::closed_totals(ledger);
     let a = battery::answers::plain_reply(0.0, totals);
-    engine_replies::checked(l, a, zones)
+    engine_replies::checked(ledger, a, zones)
 }
 
-fn state_of_charge(l: Ledger, salts: &[f64], step: usize, zones: &[f64; 64]) -> Reply
-    requires { ⌜ (l .card .layers ≤ 64) × SaltsLent (l .card) (now salts) step ⌝ }
-    ensures { λ r. ⌜ settled l (now (zones .entry)) r (now (zones .entry)) ≡ readLevel (whole l (now (zones .entry))) (levelOf (whole l (now (zones .entry)))) ⌝ }
+fn state_of_charge(ledger: Ledger, salts: &[f64], step: usize, zones: &[f64; 64]) -> Reply
+    requires { ⌜ (ledger .card .layers ≤ 64) × SaltsLent (ledger .card) (now salts) step ⌝ }
+    ensures { λ r. ⌜ settled ledger (now (zones .entry)) r (now (zones .entry)) ≡ readLevel (whole ledger (now (zones .entry))) (levelOf (whole ledger (now (zones .entry)))) ⌝ }
 {
-    let soc = level(l, salts, step, zones);
-    read_level(l, soc, zones)
+    let soc = level(ledger, salts, step, zones);
+    read_level(ledger, soc, zones)
 }
 
 fn charge_energy_demand(
-    l: Ledger,
+    ledger: Ledger,
     salts: &[f64],
     step: usize,
     most: Given,
     target: f64,
     zones: &[f64; 64],
 ) -> Reply
-    requires { ⌜ (l .card .layers ≤ 64) × SaltsLent (l .card) (now salts) step ⌝ }
-    ensures { λ r. ⌜ settled l (now (zones .entry)) r (now (zones .entry)) ≡ demandToLevel (whole l (now (zones .entry))) most target (levelOf (whole l (now (zones .entry)))) ⌝ }
+    requires { ⌜ (ledger .card .layers ≤ 64) × SaltsLent (ledger .card) (now salts) step ⌝ }
+    ensures { λ r. ⌜ settled ledger (now (zones .entry)) r (now (zones .entry)) ≡ demandToLevel (whole ledger (now (zones .entry))) most target (levelOf (whole ledger (now (zones .entry)))) ⌝ }
 {
-    let soc = level(l, salts, step, zones);
-    demand_to_level(l, salts, step, most, target, soc, zones)
+    let soc = level(ledger, salts, step, zones);
+    demand_to_level(ledger, salts, step, most, target, soc, zones)
 }
 
 // The electric and the wet charge are one call of `charge`, so that one copy of it is compiled, in place.
 fn operation_step(
-    l: Ledger,
+    ledger: Ledger,
     salts: &[f64],
     step: usize,
     what: Operation,
     zones: &mut [f64; 64],
 ) -> Reply
-    requires { ⌜ (l .card .layers ≤ 64) × SaltsLent (l .card) (now salts) step × (zonesFinite (now zones) (l .card .layers) ≡ true) × (lt (chargerHeat (lossInput (l .card)) .0) zero ≡ false) ⌝ }
-    ensures { λ r. ⌜ settled l (now (zones .entry)) r (now (zones .exit)) ≡ operationStep (whole l (now (zones .entry))) what ⌝ }
+    requires { ⌜ (ledger .card .layers ≤ 64) × SaltsLent (ledger .card) (now salts) step × (zonesFinite (now zones) (ledger .card .layers) ≡ true) × (lt (chargerHeat (lossInput (ledger .card)) .0) zero ≡ false) ⌝ }
+    ensures { λ r. ⌜ settled ledger (now (zones .entry)) r (now (zones .exit)) ≡ operationStep (whole ledger (now (zones .entry))) what ⌝ }
 {
     match what {
-        Operation::DemandEnergy(d) => demand::demand_energy(l, salts, step, d, zones),
-        Operation::Charge(source, target) => charge(l, salts, step, source, target, zones),
-        Operation::HeatLoss => heat_loss(l, salts, step, zones),
-        Operation::CloseTimestep => close_timestep(l, zones),
-        Operation::ReadStateOfCharge => state_of_charge(l, salts, step, zones),
+        Operation::DemandEnergy(d) => demand::demand_energy(ledger, salts, step, d, zones),
+        Operation::Charge(source, target) => charge(ledger, salts, step, source, target, zones),
+        Operation::HeatLoss => heat_loss(ledger, salts, step, zones),
+        Operation::CloseTimestep => close_timestep(ledger, zones),
+        Operation::ReadStateOfCharge => state_of_charge(ledger, salts, step, zones),
         Operation::ChargeEnergyDemand(most, target) => {
-            charge_energy_demand(l, salts, step, most, target, zones)
+            charge_energy_demand(ledger, salts, step, most, target, zones)
         }
     }
 }
@@ -202,38 +202,38 @@ fn operation_step(
 // A call on an accepted battery, its zones and its salts apart: 10 where a field of the call is out of its range, or the steps.
 pub fn advance_accepted(
     version: u8,
-    l: Ledger,
+    ledger: Ledger,
     salts: &[f64],
     step: usize,
     call: Call,
     zones: &mut [f64; 64],
 ) -> Reply
-    requires { ⌜ SaltsLent (l .card) (now salts) step × (batteryAccepted version (whole l (now zones)) ≡ true) ⌝ }
-    ensures { λ r. ⌜ settled l (now (zones .entry)) r (now (zones .exit)) ≡ advanceOf version (whole l (now (zones .entry))) call ⌝ }
+    requires { ⌜ SaltsLent (ledger .card) (now salts) step × (batteryAccepted version (whole ledger (now zones)) ≡ true) ⌝ }
+    ensures { λ r. ⌜ settled ledger (now (zones .entry)) r (now (zones .exit)) ≡ advanceOf version (whole ledger (now (zones .entry))) call ⌝ }
 {
-    let card = l.card;
+    let card = ledger.card;
     if battery::call_ranges::call_in_range(version, card, call) {
         let what = operation(call);
-        return operation_step(l, salts, step, what, zones);
+        return operation_step(ledger, salts, step, what, zones);
     }
     battery::answers::refused_reply(refusals::BAD_CALL)
 }
 
 // A call on an accepted battery by value.
-pub fn advance(version: u8, b: Battery, call: Call) -> Answer
-    requires { ⌜ batteryAccepted version b ≡ true ⌝ }
-    ensures { λ r. ⌜ r ≡ advanceOf version b call ⌝ }
+pub fn advance(version: u8, battery: Battery, call: Call) -> Answer
+    requires { ⌜ batteryAccepted version battery ≡ true ⌝ }
+    ensures { λ r. ⌜ r ≡ advanceOf version battery call ⌝ }
 {
-    let l = battery::ledger_of(b);
-    let salts = card::pcm::figures_of(b.card);
-    let mut zones = b.zones;
+    let l = battery::ledger_of(battery);
+    let salts = card::pcm::figures_of(battery.card);
+    let mut zones = battery.zones;
     let a = advance_accepted(version, l, &salts, 0, call, &mut zones);
     if a.refusal == 0 {
-        let card = b.card;
-        let battery = Battery {
+        let card = battery.card;
+        let renewed = Battery {
             card,
             zones,
-            count: b.count,
+            count: battery.count,
             total: a.totals.total,
             pump: a.totals.pump,
             direct: a.totals.direct,
@@ -247,8 +247,8 @@ pub fn advance(version: u8, b: Battery, call: Call) -> Answer
             outlet: a.outlet,
             time: a.time,
             substeps: a.substeps,
-            battery,
+            battery: renewed,
         };
     }
-    battery::answers::refused(a.refusal, b)
+    battery::answers::refused(a.refusal, battery)
 }

@@ -64,37 +64,37 @@ pub fn direct_after(class: ServiceClass, direct: f64, hours: f64) -> f64
 }
 
 // Running hours by class, and charged electric.
-pub fn served_totals(l: Ledger, class: ServiceClass, s: Stopped) -> Totals
-    ensures { λ r. ⌜ r ≡ servedTotals l class s ⌝ }
+pub fn served_totals(ledger: Ledger, class: ServiceClass, stopped: Stopped) -> Totals
+    ensures { λ r. ⌜ r ≡ servedTotals ledger class stopped ⌝ }
 {
-    let hours = s.time / floats::SECONDS_PER_HOUR;
-    let pump = pump_after(class, l.totals.pump, hours);
-    let direct = direct_after(class, l.totals.direct, hours);
+    let hours = stopped.time / floats::SECONDS_PER_HOUR;
+    let pump = pump_after(class, ledger.totals.pump, hours);
+    let direct = direct_after(class, ledger.totals.direct, hours);
     Totals {
-        total: l.totals.total + hours,
+        total: ledger.totals.total + hours,
         pump,
         direct,
-        charged: l.totals.charged,
-        electric: s.electric.0,
+        charged: ledger.totals.charged,
+        electric: stopped.electric.0,
     }
 }
 
-pub fn charged_totals(l: Ledger, s: Stopped) -> Totals
-    ensures { λ r. ⌜ r ≡ chargedTotals l s ⌝ }
+pub fn charged_totals(ledger: Ledger, stopped: Stopped) -> Totals
+    ensures { λ r. ⌜ r ≡ chargedTotals ledger stopped ⌝ }
 {
     Totals {
-        total: l.totals.total,
-        pump: l.totals.pump,
-        direct: l.totals.direct,
-        charged: l.totals.charged + s.energy.0,
-        electric: s.electric.0,
+        total: ledger.totals.total,
+        pump: ledger.totals.pump,
+        direct: ledger.totals.direct,
+        charged: ledger.totals.charged + stopped.energy.0,
+        electric: stopped.electric.0,
     }
 }
 
-pub fn closed_totals(l: Ledger) -> Totals
-    ensures { λ r. ⌜ r ≡ closedTotals l ⌝ }
+pub fn closed_totals(ledger: Ledger) -> Totals
+    ensures { λ r. ⌜ r ≡ closedTotals ledger ⌝ }
 {
-    let mut next = l.totals;
+    let mut next = ledger.totals;
     next.total = 0.0;
     next.pump = 0.0;
     next.direct = 0.0;

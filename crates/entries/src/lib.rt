@@ -62,19 +62,19 @@ pub fn record_card(version: u8, record: &[u8]) -> RecordCard
 }
 
 // Whether a battery of an accepted card and its count is accepted: zones and totals decide.
-pub fn record_accepted(version: u8, b: Battery) -> bool
-    requires { ⌜ (cardRefusal version (b .card) ≡ 0) × (b .count ≡ b .card .layers) ⌝ }
-    ensures { λ r. ⌜ r ≡ batteryAccepted version b ⌝ }
+pub fn record_accepted(version: u8, battery: Battery) -> bool
+    requires { ⌜ (cardRefusal version (battery .card) ≡ 0) × (battery .count ≡ battery .card .layers) ⌝ }
+    ensures { λ r. ⌜ r ≡ batteryAccepted version battery ⌝ }
 {
     let totals = Totals {
-        total: b.total,
-        pump: b.pump,
-        direct: b.direct,
-        charged: b.charged,
-        electric: b.electric,
+        total: battery.total,
+        pump: battery.pump,
+        direct: battery.direct,
+        charged: battery.charged,
+        electric: battery.electric,
     };
-    let zones = b.zones;
-    let n = b.card.layers as usize;
+    let zones = battery.zones;
+    let n = battery.card.layers as usize;
     logic::both(
         battery::zones_finite(&zones, n),
         battery::totals_finite(totals),
@@ -82,22 +82,22 @@ pub fn record_accepted(version: u8, b: Battery) -> bool
 }
 
 // The line of an answer, and the record renewed; 10 and 11 leave every byte.
-pub fn enter(version: u8, record: &mut [u8], call: &[u8], sheet: &mut [u8], a: Answer) -> u8
-    requires { ⌜ (a .battery .card .layers ≤ 64) × (length (now call) < 65536) × (length (now «record») ≡ cardLength version (now «record») + stateLength version (a .battery .card)) ⌝ }
-    ensures { λ r. ⌜ WasAfter (lineAfter version (now («record» .entry)) (now (call .entry)) (now (sheet .entry)) a) r (now («record» .exit)) (now (sheet .exit)) ⌝ }
+pub fn enter(version: u8, record: &mut [u8], call: &[u8], sheet: &mut [u8], answer: Answer) -> u8
+    requires { ⌜ (answer .battery .card .layers ≤ 64) × (length (now call) < 65536) × (length (now «record») ≡ cardLength version (now «record») + stateLength version (answer .battery .card)) ⌝ }
+    ensures { λ r. ⌜ WasAfter (lineAfter version (now («record» .entry)) (now (call .entry)) (now (sheet .entry)) answer) r (now («record» .exit)) (now (sheet .exit)) ⌝ }
 {
-    if a.refusal == refusals::BAD_CALL {
+    if answer.refusal == refusals::BAD_CALL {
         return refusals::BAD_CALL;
     }
-    let card = a.battery.card;
+    let card = answer.battery.card;
     if sheet.len() < sheet_lines::lines::line_size(version, card, call.len()) {
         return refusals::NO_ROOM;
     }
-    sheet_lines::lines::put_line(version, sheet, call, a);
-    if a.refusal != 0 {
-        return a.refusal;
+    sheet_lines::lines::put_line(version, sheet, call, answer);
+    if answer.refusal != 0 {
+        return answer.refusal;
     }
-    let b = a.battery;
+    let b = answer.battery;
     sheet_records::renew_record(version, record, b);
     0
 }

@@ -33,16 +33,16 @@ pub struct Renewed {
 }
 
 // What an answer shows.
-fn reply_shown(a: Reply) -> Shown
-    ensures { λ r. ⌜ r ≡ replyShown a ⌝ }
+fn reply_shown(reply: Reply) -> Shown
+    ensures { λ r. ⌜ r ≡ replyShown reply ⌝ }
 {
     Shown {
-        refusal: a.refusal,
-        mark: a.mark,
-        substeps: a.substeps,
-        energy: a.energy,
-        outlet: a.outlet,
-        time: a.time,
+        refusal: reply.refusal,
+        mark: reply.mark,
+        substeps: reply.substeps,
+        energy: reply.energy,
+        outlet: reply.outlet,
+        time: reply.time,
     }
 }
 
@@ -74,22 +74,22 @@ fn renew_zones(zones: &mut [f64; 64], own: &[f64; 64], n: usize)
 // read, so that the call goes to the step from where it was read, without a copy.
 fn advance_read(
     version: u8,
-    l: Ledger,
+    ledger: Ledger,
     salts: &[f64],
     step: usize,
     call: &[u8],
     zones: &mut [f64; 64],
 ) -> Reply
-    requires { ⌜ SaltsLent (l .card) (now salts) step ⌝ }
-    ensures { λ r. ⌜ settled l (now (zones .entry)) r (now (zones .exit)) ≡ advanceRead version (whole l (now (zones .entry))) (callOf version (now (call .entry))) ⌝ }
+    requires { ⌜ SaltsLent (ledger .card) (now salts) step ⌝ }
+    ensures { λ r. ⌜ settled ledger (now (zones .entry)) r (now (zones .exit)) ≡ advanceRead version (whole ledger (now (zones .entry))) (callOf version (now (call .entry))) ⌝ }
 {
-    if battery::is_accepted(version, l, zones) {
+    if battery::is_accepted(version, ledger, zones) {
         let kind = sheet_calls::kind_of(version, call);
         let read = sheet_calls::call_by(version, kind, call);
         match read {
             ReadCall::Bad => battery::answers::refused_reply(refusals::BAD_CALL),
             ReadCall::Good(c) => {
-                engine::steps::advance_accepted(version, l, salts, step, c, zones)
+                engine::steps::advance_accepted(version, ledger, salts, step, c, zones)
             }
         }
     } else {
@@ -98,20 +98,20 @@ fn advance_read(
 }
 
 // A call's bytes on a battery whose zones lie apart. It runs on a copy of them: answered, the first `count` are stored, and refused, none.
-pub fn advance_apart(version: u8, l: Ledger, call: &[u8], zones: &mut [f64; 64]) -> Renewed
-    ensures { λ r. ⌜ renewedWith l r (now (zones .exit)) ≡ advancedOf version (whole l (now (zones .entry))) (now (call .entry)) ⌝ }
+pub fn advance_apart(version: u8, ledger: Ledger, call: &[u8], zones: &mut [f64; 64]) -> Renewed
+    ensures { λ r. ⌜ renewedWith ledger r (now (zones .exit)) ≡ advancedOf version (whole ledger (now (zones .entry))) (now (call .entry)) ⌝ }
 {
-    let salts = card::pcm::figures_of(l.card);
+    let salts = card::pcm::figures_of(ledger.card);
     let mut own = *zones;
-    let a = advance_read(version, l, &salts, 0, call, &mut own);
+    let a = advance_read(version, ledger, &salts, 0, call, &mut own);
     if a.refusal == 0 {
-        let n = l.count as usize;
+        let n = ledger.count as usize;
         renew_zones(zones, &own, n);
         let totals = a.totals;
         let shown = reply_shown(a);
         return Renewed { totals, shown };
     }
-    let totals = l.totals;
+    let totals = ledger.totals;
     let shown = refused_shown(a.refusal);
     Renewed { totals, shown }
 }

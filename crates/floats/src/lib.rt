@@ -103,14 +103,14 @@ pub struct Sum2 {
     pub c: f64,
 }
 
-pub fn sum2_step(a: Sum2, p: f64) -> Sum2
-    ensures { λ r. ⌜ r ≡ sum2Step a p ⌝ }
+pub fn sum2_step(sum: Sum2, p: f64) -> Sum2
+    ensures { λ r. ⌜ r ≡ sum2Step sum p ⌝ }
 {
-    let t = a.s + p;
-    let z = t - a.s;
+    let t = sum.s + p;
+    let z = t - sum.s;
     Sum2 {
         s: t,
-        c: a.c + ((a.s - (t - z)) + (p - z)),
+        c: sum.c + ((sum.s - (t - z)) + (p - z)),
     }
 }
 

@@ -30,8 +30,8 @@ pub extern "C" fn heat_battery_open(card: &[u8], record: &mut [u8], sheet: &mut 
 }
 
 // A call on a record's accepted battery: read, advanced, entered.
-fn advance(version: u8, b: Battery, record: &mut [u8], call: &[u8], sheet: &mut [u8]) -> u8
-    requires { ⌜ (recordLaid version (now «record») ≡ true) × (b ≡ recordOf version (now «record»)) × (batteryAccepted version b ≡ true) ⌝ }
+fn advance(version: u8, battery: Battery, record: &mut [u8], call: &[u8], sheet: &mut [u8]) -> u8
+    requires { ⌜ (recordLaid version (now «record») ≡ true) × (battery ≡ recordOf version (now «record»)) × (batteryAccepted version battery ≡ true) ⌝ }
     ensures { λ r. ⌜ WasAfter (entryRead version (now («record» .entry)) (now (call .entry)) (now (sheet .entry)) (callOf version (now (call .entry)))) r (now («record» .exit)) (now (sheet .exit)) ⌝ }
 {
     let kind = sheet_calls::kind_of(version, call);
@@ -39,7 +39,7 @@ fn advance(version: u8, b: Battery, record: &mut [u8], call: &[u8], sheet: &mut 
     match read {
         ReadCall::Bad => refusals::BAD_CALL,
         ReadCall::Good(c) => {
-            let a = engine::steps::advance(version, b, c);
+            let a = engine::steps::advance(version, battery, c);
             entries::enter(version, record, call, sheet, a)
         }
     }
@@ -87,17 +87,17 @@ pub extern "C" fn heat_battery_audit_whole(sheet: &[u8]) -> AuditVerdict
 
 // Advances the caller's own battery by a call: 10, or the steps. Answered, its first `count` zones and five totals are stored; refused, nothing is.
 #[no_mangle]
-pub extern "C" fn heat_battery_advance(b: &mut Battery, call: &[u8]) -> Shown
-    ensures { λ r. ⌜ (r ≡ advancedOf onlyVersion (now (b .entry)) (now (call .entry)) .shown) × (now (b .exit) ≡ advancedOf onlyVersion (now (b .entry)) (now (call .entry)) .battery) ⌝ }
+pub extern "C" fn heat_battery_advance(battery: &mut Battery, call: &[u8]) -> Shown
+    ensures { λ r. ⌜ (r ≡ advancedOf onlyVersion (now (battery .entry)) (now (call .entry)) .shown) × (now (battery .exit) ≡ advancedOf onlyVersion (now (battery .entry)) (now (call .entry)) .battery) ⌝ }
 {
-    let l = battery::ledger_of(*b);
-    let out = entries::own_record::advance_apart(ONLY_VERSION, l, call, &mut b.zones);
+    let l = battery::ledger_of(*battery);
+    let out = entries::own_record::advance_apart(ONLY_VERSION, l, call, &mut battery.zones);
     if out.shown.refusal == 0 {
-        b.total = out.totals.total;
-        b.pump = out.totals.pump;
-        b.direct = out.totals.direct;
-        b.charged = out.totals.charged;
-        b.electric = out.totals.electric;
+        battery.total = out.totals.total;
+        battery.pump = out.totals.pump;
+        battery.direct = out.totals.direct;
+        battery.charged = out.totals.charged;
+        battery.electric = out.totals.electric;
     }
     out.shown
 }

@@ -26,11 +26,11 @@ ghost use Rattle.runs.specs.Zoned.{AsDefined};
 ghost use Rattle.runs.specs.Charge.{electricInput, electricEnded, chargeElectric, hydronicTask, hydronicStart, chargeHydronic, chargeBattery, lossInput, lossEnded, batteryHeatLoss, energyDeficit, chargeEnergyDemand};
 
 // The call's power over the time left.
-fn electric_input(l: Ledger, power: f64, target: f64) -> SubstepInput
-    ensures { λ r. ⌜ r ≡ electricInput l power target ⌝ }
+fn electric_input(ledger: Ledger, power: f64, target: f64) -> SubstepInput
+    ensures { λ r. ⌜ r ≡ electricInput ledger power target ⌝ }
 {
-    let card = l.card;
-    let left = floats::max_zero(runs::time_available(l, 0.0));
+    let card = ledger.card;
+    let left = floats::max_zero(runs::time_available(ledger, 0.0));
     SubstepInput {
         mode: Mode::OnlyCharging,
         inlet: 0.0,
@@ -44,15 +44,15 @@ fn electric_input(l: Ledger, power: f64, target: f64) -> SubstepInput
     }
 }
 
-fn electric_ended(l: Ledger, u: Outcome) -> Stopped
-    ensures { λ r. ⌜ r ≡ electricEnded l u ⌝ }
+fn electric_ended(ledger: Ledger, outcome: Outcome) -> Stopped
+    ensures { λ r. ⌜ r ≡ electricEnded ledger outcome ⌝ }
 {
-    let energy = u.charged;
-    let fault = u.fault;
+    let energy = outcome.charged;
+    let fault = outcome.fault;
     let end = runs::fault_end(fault);
     Stopped {
         energy,
-        electric: KilowattHours(l.totals.electric + energy.0),
+        electric: KilowattHours(ledger.totals.electric + energy.0),
         outlet: 0.0,
         time: 0.0,
         end,
@@ -61,27 +61,27 @@ fn electric_ended(l: Ledger, u: Outcome) -> Stopped
 }
 
 pub fn charge_battery_electric(
-    l: Ledger,
+    ledger: Ledger,
     salts: &[f64],
     step: usize,
     power: f64,
     target: f64,
     zones: &mut [f64; 64],
 ) -> Stopped
-    requires { ⌜ (l .card .layers ≤ 64) × SaltsLent (l .card) (now salts) step ⌝ }
-    ensures { λ r. ⌜ AsDefined (endRefusal (r .end)) r (now (zones .exit)) (chargeElectric (whole l (now (zones .entry))) power target) ⌝ }
+    requires { ⌜ (ledger .card .layers ≤ 64) × SaltsLent (ledger .card) (now salts) step ⌝ }
+    ensures { λ r. ⌜ AsDefined (endRefusal (r .end)) r (now (zones .exit)) (chargeElectric (whole ledger (now (zones .entry))) power target) ⌝ }
 {
-    let card = l.card;
+    let card = ledger.card;
     let pcm = card::pcm::derived(card);
-    let input = electric_input(l, power, target);
+    let input = electric_input(ledger, power, target);
     let u = substep_loops::charging_alone::charge_in_place(card, pcm, salts, step, input, zones);
-    electric_ended(l, u)
+    electric_ended(ledger, u)
 }
 
-fn hydronic_task(l: Ledger, wet: Exchanger, target: f64) -> HydronicTask
-    ensures { λ r. ⌜ r ≡ hydronicTask (l .card) wet target ⌝ }
+fn hydronic_task(ledger: Ledger, wet: Exchanger, target: f64) -> HydronicTask
+    ensures { λ r. ⌜ r ≡ hydronicTask (ledger .card) wet target ⌝ }
 {
-    let card = l.card;
+    let card = ledger.card;
     let pcm = card::pcm::derived(card);
     let limit = KilowattHours(wet.limit).kilojoules();
     HydronicTask {
@@ -93,10 +93,10 @@ fn hydronic_task(l: Ledger, wet: Exchanger, target: f64) -> HydronicTask
     }
 }
 
-fn hydronic_start(l: Ledger, wet: Exchanger) -> HydronicState
-    ensures { λ r. ⌜ r ≡ hydronicStart (l .card) wet ⌝ }
+fn hydronic_start(ledger: Ledger, wet: Exchanger) -> HydronicState
+    ensures { λ r. ⌜ r ≡ hydronicStart (ledger .card) wet ⌝ }
 {
-    let card = l.card;
+    let card = ledger.card;
     let reynold = runs::reynold_between(card.inlet, card.outlet, wet.velocity, wet.diameter);
     HydronicState {
         absorbed: Kilojoules(0.0),
@@ -106,46 +106,48 @@ fn hydronic_start(l: Ledger, wet: Exchanger) -> HydronicState
 }
 
 pub fn charge_battery_hydronic(
-    l: Ledger,
+    ledger: Ledger,
     salts: &[f64],
     step: usize,
     wet: Exchanger,
     target: f64,
     zones: &mut [f64; 64],
 ) -> Stopped
-    requires { ⌜ (l .card .layers ≤ 64) × SaltsLent (l .card) (now salts) step ⌝ }
-    ensures { λ r. ⌜ AsDefined (endRefusal (r .end)) r (now (zones .exit)) (chargeHydronic (whole l (now (zones .entry))) wet target) ⌝ }
+    requires { ⌜ (ledger .card .layers ≤ 64) × SaltsLent (ledger .card) (now salts) step ⌝ }
+    ensures { λ r. ⌜ AsDefined (endRefusal (r .end)) r (now (zones .exit)) (chargeHydronic (whole ledger (now (zones .entry))) wet target) ⌝ }
 {
-    let task = hydronic_task(l, wet, target);
+    let task = hydronic_task(ledger, wet, target);
     let steps = run_hydronic::whole_substeps(task);
-    let start = hydronic_start(l, wet);
+    let start = hydronic_start(ledger, wet);
     let e = run_hydronic::hydronic_run(task, salts, step, steps, start, zones);
-    run_hydronic::hydronic_ended(KilowattHours(l.totals.electric), e)
+    run_hydronic::hydronic_ended(KilowattHours(ledger.totals.electric), e)
 }
 
 // The charge step: by the source.
 pub fn charge_battery(
-    l: Ledger,
+    ledger: Ledger,
     salts: &[f64],
     step: usize,
     source: Source,
     target: f64,
     zones: &mut [f64; 64],
 ) -> Stopped
-    requires { ⌜ (l .card .layers ≤ 64) × SaltsLent (l .card) (now salts) step ⌝ }
-    ensures { λ r. ⌜ AsDefined (endRefusal (r .end)) r (now (zones .exit)) (chargeBattery (whole l (now (zones .entry))) source target) ⌝ }
+    requires { ⌜ (ledger .card .layers ≤ 64) × SaltsLent (ledger .card) (now salts) step ⌝ }
+    ensures { λ r. ⌜ AsDefined (endRefusal (r .end)) r (now (zones .exit)) (chargeBattery (whole ledger (now (zones .entry))) source target) ⌝ }
 {
     match source {
-        Source::Electric(power) => { charge_battery_electric(l, salts, step, power, target, zones) }
-        Source::Wet(wet) => charge_battery_hydronic(l, salts, step, wet, target, zones),
+        Source::Electric(power) => {
+            charge_battery_electric(ledger, salts, step, power, target, zones)
+        }
+        Source::Wet(wet) => charge_battery_hydronic(ledger, salts, step, wet, target, zones),
     }
 }
 
 // The rated losses over the whole timestep.
-fn loss_input(l: Ledger) -> SubstepInput
-    ensures { λ r. ⌜ r ≡ lossInput (l .card) ⌝ }
+fn loss_input(ledger: Ledger) -> SubstepInput
+    ensures { λ r. ⌜ r ≡ lossInput (ledger .card) ⌝ }
 {
-    let card = l.card;
+    let card = ledger.card;
     SubstepInput {
         mode: Mode::Losses,
         inlet: floats::DEFAULT_AMBIENT_TEMPERATURE,
@@ -159,16 +161,16 @@ fn loss_input(l: Ledger) -> SubstepInput
     }
 }
 
-fn loss_ended(l: Ledger, u: Outcome) -> Stopped
-    ensures { λ r. ⌜ r ≡ lossEnded l u ⌝ }
+fn loss_ended(ledger: Ledger, outcome: Outcome) -> Stopped
+    ensures { λ r. ⌜ r ≡ lossEnded ledger outcome ⌝ }
 {
-    let delivered = u.delivered;
+    let delivered = outcome.delivered;
     let energy = delivered.kilowatt_hours();
-    let fault = u.fault;
+    let fault = outcome.fault;
     let end = runs::fault_end(fault);
     Stopped {
         energy,
-        electric: KilowattHours(l.totals.electric),
+        electric: KilowattHours(ledger.totals.electric),
         outlet: 0.0,
         time: 0.0,
         end,
@@ -177,15 +179,20 @@ fn loss_ended(l: Ledger, u: Outcome) -> Stopped
 }
 
 // No loss has heat of a charger.
-pub fn battery_heat_loss(l: Ledger, salts: &[f64], step: usize, zones: &mut [f64; 64]) -> Stopped
-    requires { ⌜ (l .card .layers ≤ 64) × SaltsLent (l .card) (now salts) step × (lt (chargerHeat (lossInput (l .card)) .0) zero ≡ false) ⌝ }
-    ensures { λ r. ⌜ AsDefined (endRefusal (r .end)) r (now (zones .exit)) (batteryHeatLoss (whole l (now (zones .entry)))) ⌝ }
+pub fn battery_heat_loss(
+    ledger: Ledger,
+    salts: &[f64],
+    step: usize,
+    zones: &mut [f64; 64],
+) -> Stopped
+    requires { ⌜ (ledger .card .layers ≤ 64) × SaltsLent (ledger .card) (now salts) step × (lt (chargerHeat (lossInput (ledger .card)) .0) zero ≡ false) ⌝ }
+    ensures { λ r. ⌜ AsDefined (endRefusal (r .end)) r (now (zones .exit)) (batteryHeatLoss (whole ledger (now (zones .entry)))) ⌝ }
 {
-    let card = l.card;
+    let card = ledger.card;
     let pcm = card::pcm::derived(card);
-    let input = loss_input(l);
+    let input = loss_input(ledger);
     let u = substep_loops::losses::lose_in_place(card, pcm, salts, step, input, zones);
-    loss_ended(l, u)
+    loss_ended(ledger, u)
 }
 
 // The energy to the target, or to the flow maximum where that is less.
@@ -213,17 +220,17 @@ fn energy_deficit(
 
 // `soc` is the battery's state of charge.
 pub fn calculate_charge_energy_demand(
-    l: Ledger,
+    ledger: Ledger,
     salts: &[f64],
     step: usize,
     most: Given,
     target: f64,
     soc: f64,
 ) -> KilowattHours
-    requires { ⌜ (l .card .layers ≤ 64) × SaltsLent (l .card) (now salts) step ⌝ }
-    ensures { λ r. ⌜ r ≡ chargeEnergyDemand (l .card) most target soc ⌝ }
+    requires { ⌜ (ledger .card .layers ≤ 64) × SaltsLent (ledger .card) (now salts) step ⌝ }
+    ensures { λ r. ⌜ r ≡ chargeEnergyDemand (ledger .card) most target soc ⌝ }
 {
-    let card = l.card;
+    let card = ledger.card;
     if soc > target {
         return KilowattHours(0.0);
     }

@@ -52,17 +52,17 @@ pub struct DemandEnd {
     pub substeps: u16,
 }
 
-fn demand_input(x: DemandTask, s: DemandState) -> SubstepInput
-    ensures { λ r. ⌜ r ≡ demandInput x s ⌝ }
+fn demand_input(task: DemandTask, state: DemandState) -> SubstepInput
+    ensures { λ r. ⌜ r ≡ demandInput task state ⌝ }
 {
-    let card = x.card;
+    let card = task.card;
     SubstepInput {
         mode: Mode::Normal,
-        inlet: x.feed,
-        seconds: s.step,
-        reynold: s.reynold,
+        inlet: task.feed,
+        seconds: state.step,
+        reynold: state.reynold,
         flow: card.flow,
-        power: x.power,
+        power: task.power,
         target: 0.0,
         a: card.a,
         b: card.b,
@@ -70,28 +70,28 @@ fn demand_input(x: DemandTask, s: DemandState) -> SubstepInput
 }
 
 // At most the card's substep.
-fn capped(x: DemandTask, step: f64) -> f64
-    ensures { λ r. ⌜ r ≡ cappedOf x step ⌝ }
+fn capped(task: DemandTask, step: f64) -> f64
+    ensures { λ r. ⌜ r ≡ cappedOf task step ⌝ }
 {
-    let longest = x.card.substep;
+    let longest = task.card.substep;
     if step > longest { longest } else { step }
 }
 
 // The step that meets the demand at the power of this substep.
-fn next_step(x: DemandTask, heat: KilowattHours, delivered: KilowattHours, step: f64) -> f64
-    ensures { λ r. ⌜ r ≡ nextStep x heat delivered step ⌝ }
+fn next_step(task: DemandTask, heat: KilowattHours, delivered: KilowattHours, step: f64) -> f64
+    ensures { λ r. ⌜ r ≡ nextStep task heat delivered step ⌝ }
 {
     let power = heat.0 / step;
     if power > 0.0 {
-        return capped(x, (x.demand.0 - delivered.0) / power);
+        return capped(task, (task.demand.0 - delivered.0) / power);
     }
-    capped(x, step)
+    capped(task, step)
 }
 
-fn demand_met(x: DemandTask, delivered: KilowattHours) -> bool
-    ensures { λ r. ⌜ r ≡ demandMet x delivered ⌝ }
+fn demand_met(task: DemandTask, delivered: KilowattHours) -> bool
+    ensures { λ r. ⌜ r ≡ demandMet task delivered ⌝ }
 {
-    let demand = x.demand.0;
+    let demand = task.demand.0;
     if floats::nearly_equal(
         demand,
         delivered.0,
@@ -104,60 +104,65 @@ fn demand_met(x: DemandTask, delivered: KilowattHours) -> bool
 }
 
 // Cut to the time left.
-fn cut(x: DemandTask, running: f64, step: f64) -> f64
-    ensures { λ r. ⌜ r ≡ cutOf x running step ⌝ }
+fn cut(task: DemandTask, running: f64, step: f64) -> f64
+    ensures { λ r. ⌜ r ≡ cutOf task running step ⌝ }
 {
-    if running + step > x.seconds {
-        return x.seconds - running;
+    if running + step > task.seconds {
+        return task.seconds - running;
     }
     step
 }
 
 fn demand_state_after(
-    x: DemandTask,
-    s: DemandState,
-    u: Outcome,
+    task: DemandTask,
+    state: DemandState,
+    outcome: Outcome,
     step: f64,
     delivered: KilowattHours,
 ) -> DemandState
-    ensures { λ r. ⌜ r ≡ demandStateAfter x s u step delivered ⌝ }
+    ensures { λ r. ⌜ r ≡ demandStateAfter task state outcome step delivered ⌝ }
 {
-    let card = x.card;
-    let reynold = runs::reynold_between(x.feed, u.outlet, card.velocity, x.pcm.diameter);
+    let card = task.card;
+    let reynold = runs::reynold_between(
+        task.feed,
+        outcome.outlet,
+        card.velocity,
+        task.pcm.diameter,
+    );
     DemandState {
         step,
-        running: s.running + s.step,
+        running: state.running + state.step,
         delivered,
-        electric: KilowattHours(s.electric.0 + u.charged.0),
-        outlet: u.outlet,
+        electric: KilowattHours(state.electric.0 + outcome.charged.0),
+        outlet: outcome.outlet,
         reynold,
     }
 }
 
-fn demand_delivered(x: DemandTask, s: DemandState, u: Outcome) -> DemandTurn
-    ensures { λ r. ⌜ r ≡ demandDelivered x s u ⌝ }
+fn demand_delivered(task: DemandTask, last: DemandState, outcome: Outcome) -> DemandTurn
+    ensures { λ r. ⌜ r ≡ demandDelivered task last outcome ⌝ }
 {
-    if u.delivered.0 < 0.0 {
-        let before = s.delivered;
-        let state = demand_state_after(x, s, u, s.step, before);
+    if outcome.delivered.0 < 0.0 {
+        let before = last.delivered;
+        let state = demand_state_after(task, last, outcome, last.step, before);
         return DemandTurn {
             state,
             next: Next::Stop(End::Negative),
         };
     }
-    let energy = u.delivered;
+    let energy = outcome.delivered;
     let heat = energy.kilowatt_hours();
-    let delivered = KilowattHours(s.delivered.0 + heat.0);
-    let step = next_step(x, heat, delivered, s.step);
-    if demand_met(x, delivered) {
-        let state = demand_state_after(x, s, u, step, delivered);
+    let delivered = KilowattHours(last.delivered.0 + heat.0);
+    let step = next_step(task, heat, delivered, last.step);
+    if demand_met(task, delivered) {
+        let state = demand_state_after(task, last, outcome, step, delivered);
         return DemandTurn {
             state,
             next: Next::Stop(End::Met),
         };
     }
-    let shorter = cut(x, s.running + s.step, step);
-    let state = demand_state_after(x, s, u, shorter, delivered);
+    let shorter = cut(task, last.running + last.step, step);
+    let state = demand_state_after(task, last, outcome, shorter, delivered);
     DemandTurn {
         state,
         next: Next::On,
@@ -166,18 +171,18 @@ fn demand_delivered(x: DemandTask, s: DemandState, u: Outcome) -> DemandTurn
 
 // A demand charges to level 0, which is the reference by any salt.
 fn demand_substep(
-    x: DemandTask,
+    task: DemandTask,
     salts: &[f64],
     step: usize,
-    s: DemandState,
+    state: DemandState,
     zones: &mut [f64; 64],
 ) -> DemandTurn
-    requires { ⌜ (x .card .layers ≤ 64) × Salted (now salts) step (x .card .layers) ⌝ }
-    ensures { λ r. ⌜ AsDefined (nextRefusal (r .next)) r (now (zones .exit)) (demandSubstep x (zoneSalt (now (salts .entry)) step) (zoned s (now (zones .entry)))) ⌝ }
+    requires { ⌜ (task .card .layers ≤ 64) × Salted (now salts) step (task .card .layers) ⌝ }
+    ensures { λ r. ⌜ AsDefined (nextRefusal (r .next)) r (now (zones .exit)) (demandSubstep task (zoneSalt (now (salts .entry)) step) (zoned state (now (zones .entry)))) ⌝ }
 {
-    let input = demand_input(x, s);
-    let card = x.card;
-    let pcm = x.pcm;
+    let input = demand_input(task, state);
+    let card = task.card;
+    let pcm = task.pcm;
     let u = substep_loops::with_water::process_in_place(
         card,
         pcm,
@@ -189,13 +194,13 @@ fn demand_substep(
     );
     let fault = u.fault;
     match fault {
-        Fault::Nothing => demand_delivered(x, s, u),
+        Fault::Nothing => demand_delivered(task, state, u),
         Fault::Logarithm => DemandTurn {
-            state: s,
+            state: state,
             next: Next::Stop(End::NoLogarithm),
         },
         Fault::NotFinite => DemandTurn {
-            state: s,
+            state: state,
             next: Next::Stop(End::NotFiniteRun),
         },
     }
@@ -203,15 +208,15 @@ fn demand_substep(
 
 // The substeps from `start` on, at most `budget` of them.
 pub fn demand_run(
-    x: DemandTask,
+    task: DemandTask,
     salts: &[f64],
     step: usize,
     budget: u16,
     start: DemandState,
     zones: &mut [f64; 64],
 ) -> DemandEnd
-    requires { ⌜ (x .card .layers ≤ 64) × Salted (now salts) step (x .card .layers) ⌝ }
-    ensures { λ r. ⌜ AsDefined (endRefusal (r .end)) r (now (zones .exit)) (demandRun x (zoneSalt (now (salts .entry)) step) budget 0 (zoned start (now (zones .entry)))) ⌝ }
+    requires { ⌜ (task .card .layers ≤ 64) × Salted (now salts) step (task .card .layers) ⌝ }
+    ensures { λ r. ⌜ AsDefined (endRefusal (r .end)) r (now (zones .exit)) (demandRun task (zoneSalt (now (salts .entry)) step) budget 0 (zoned start (now (zones .entry)))) ⌝ }
     ensures { λ r. ⌜ r .substeps ≤ budget ⌝ }
 {
     let mut state = start;
@@ -223,7 +228,7 @@ pub fn demand_run(
         if substeps == budget {
             break End::OverBudget;
         }
-        let turn = demand_substep(x, salts, step, state, zones);
+        let turn = demand_substep(task, salts, step, state, zones);
         substeps += 1;
         state = turn.state;
         let next = turn.next;
@@ -238,19 +243,19 @@ pub fn demand_run(
     }
 }
 
-pub fn demand_ended(e: DemandEnd) -> Stopped
-    ensures { λ r. ⌜ r ≡ demandEnded e ⌝ }
+pub fn demand_ended(ended: DemandEnd) -> Stopped
+    ensures { λ r. ⌜ r ≡ demandEnded ended ⌝ }
 {
-    let state = e.state;
+    let state = ended.state;
     let energy = state.delivered;
     let electric = state.electric;
-    let end = e.end;
+    let end = ended.end;
     Stopped {
         energy,
         electric,
         outlet: state.outlet,
         time: state.running,
         end,
-        substeps: e.substeps as u32,
+        substeps: ended.substeps as u32,
     }
 }

@@ -22,10 +22,10 @@ ghost use Rattle.runs.specs.Zoned.{zoned, AsDefined};
 ghost use Prim.Native.Nat.{_+_, _≤_, _<_};
 ghost use Rattle.runs.specs.Hydronic.{wetInput, clearlyBelow, limitReached, replayBy, replayed as replayedOf, fractionSeconds, hydronicWhole, hydronicStep, hydronicRun, hydronicEnded, wholeSubsteps};
 
-fn wet_input(x: HydronicTask, seconds: f64, reynold: f64) -> SubstepInput
-    ensures { λ r. ⌜ r ≡ wetInput x seconds reynold ⌝ }
+fn wet_input(task: HydronicTask, seconds: f64, reynold: f64) -> SubstepInput
+    ensures { λ r. ⌜ r ≡ wetInput task seconds reynold ⌝ }
 {
-    let wet = x.wet;
+    let wet = task.wet;
     SubstepInput {
         mode: Mode::Normal,
         inlet: wet.inlet,
@@ -33,7 +33,7 @@ fn wet_input(x: HydronicTask, seconds: f64, reynold: f64) -> SubstepInput
         reynold,
         flow: wet.flow,
         power: 0.0,
-        target: x.target,
+        target: task.target,
         a: wet.a,
         b: wet.b,
     }
@@ -58,23 +58,23 @@ fn limit_reached(absorbed: Kilojoules, limit: Kilojoules) -> bool
 
 // What the fractional substep u leaves.
 fn replay_by(
-    x: HydronicTask,
+    task: HydronicTask,
     n: u32,
-    s: HydronicState,
+    last: HydronicState,
     seconds: f64,
     reynold: f64,
-    u: Outcome,
+    outcome: Outcome,
     fault: Fault,
 ) -> HydronicTurn
-    ensures { λ r. ⌜ ((before zones : List Float) → AsDefined (nextRefusal (r .next)) r zones (replayBy x n (zoned s before) seconds reynold (zoned u zones) fault)) ⌝ }
+    ensures { λ r. ⌜ ((before zones : List Float) → AsDefined (nextRefusal (r .next)) r zones (replayBy task n (zoned last before) seconds reynold (zoned outcome zones) fault)) ⌝ }
 {
     match fault {
         Fault::Nothing => {
-            let absorbed = x.limit;
+            let absorbed = task.limit;
             let state = HydronicState {
                 absorbed,
                 reynold,
-                time: s.time + seconds,
+                time: last.time + seconds,
             };
             HydronicTurn {
                 state,
@@ -83,12 +83,12 @@ fn replay_by(
             }
         }
         Fault::Logarithm => HydronicTurn {
-            state: s,
+            state: last,
             next: Next::Stop(End::NoLogarithm),
             substeps: n,
         },
         Fault::NotFinite => HydronicTurn {
-            state: s,
+            state: last,
             next: Next::Stop(End::NotFiniteRun),
             substeps: n,
         },
@@ -97,61 +97,61 @@ fn replay_by(
 
 // The fractional substep, from the zones before the whole one and with the Reynolds number after it.
 fn replayed(
-    x: HydronicTask,
+    task: HydronicTask,
     salts: &[f64],
     step: usize,
     n: u32,
-    s: HydronicState,
+    state: HydronicState,
     seconds: f64,
     reynold: f64,
     zones: &mut [f64; 64],
 ) -> HydronicTurn
-    requires { ⌜ (x .card .layers ≤ 64) × ((n ≤ 65535) × Salted (now salts) step (x .card .layers)) ⌝ }
-    ensures { λ r. ⌜ AsDefined (nextRefusal (r .next)) r (now (zones .exit)) (replayedOf x (zoneSalt (now (salts .entry)) step) n (zoned s (now (zones .entry))) seconds reynold) ⌝ }
+    requires { ⌜ (task .card .layers ≤ 64) × ((n ≤ 65535) × Salted (now salts) step (task .card .layers)) ⌝ }
+    ensures { λ r. ⌜ AsDefined (nextRefusal (r .next)) r (now (zones .exit)) (replayedOf task (zoneSalt (now (salts .entry)) step) n (zoned state (now (zones .entry))) seconds reynold) ⌝ }
 {
-    let card = x.card;
+    let card = task.card;
     if n == card.budget as u32 {
         return HydronicTurn {
-            state: s,
+            state: state,
             next: Next::Stop(End::OverBudget),
             substeps: n,
         };
     }
-    let input = wet_input(x, seconds, reynold);
-    let pcm = x.pcm;
+    let input = wet_input(task, seconds, reynold);
+    let pcm = task.pcm;
     let u = substep_loops::with_water::process_in_place(card, pcm, salts, step, input, 0.0, zones);
     let fault = u.fault;
-    replay_by(x, n + 1, s, seconds, reynold, u, fault)
+    replay_by(task, n + 1, state, seconds, reynold, u, fault)
 }
 
-fn fraction_seconds(x: HydronicTask, absorbed: Kilojoules, this: Kilojoules) -> f64
-    ensures { λ r. ⌜ r ≡ fractionSeconds x absorbed this ⌝ }
+fn fraction_seconds(task: HydronicTask, absorbed: Kilojoules, this: Kilojoules) -> f64
+    ensures { λ r. ⌜ r ≡ fractionSeconds task absorbed this ⌝ }
 {
-    let allowed = x.limit.0 - (absorbed.0 - this.0);
-    x.card.substep * (allowed / this.0)
+    let allowed = task.limit.0 - (absorbed.0 - this.0);
+    task.card.substep * (allowed / this.0)
 }
 
 // What the whole substep u leads to. `before` are the zones that it began with.
 fn hydronic_whole(
-    x: HydronicTask,
+    task: HydronicTask,
     salts: &[f64],
     step: usize,
     n: u32,
-    s: HydronicState,
-    u: Outcome,
+    last: HydronicState,
+    outcome: Outcome,
     before: [f64; 64],
     zones: &mut [f64; 64],
 ) -> HydronicTurn
-    requires { ⌜ (x .card .layers ≤ 64) × ((n ≤ 65535) × Salted (now salts) step (x .card .layers)) ⌝ }
-    ensures { λ r. ⌜ AsDefined (nextRefusal (r .next)) r (now (zones .exit)) (hydronicWhole x (zoneSalt (now (salts .entry)) step) n (zoned s before) (zoned u (now (zones .entry)))) ⌝ }
+    requires { ⌜ (task .card .layers ≤ 64) × ((n ≤ 65535) × Salted (now salts) step (task .card .layers)) ⌝ }
+    ensures { λ r. ⌜ AsDefined (nextRefusal (r .next)) r (now (zones .exit)) (hydronicWhole task (zoneSalt (now (salts .entry)) step) n (zoned last before) (zoned outcome (now (zones .entry)))) ⌝ }
 {
-    let wet = x.wet;
-    let limit = x.limit;
-    let reynold = runs::reynold_between(wet.inlet, u.outlet, wet.velocity, wet.diameter);
-    let this = Kilojoules(-u.delivered.0);
-    let absorbed = Kilojoules(s.absorbed.0 + this.0);
-    let time = s.time + x.card.substep;
-    if clearly_below(u.outlet, wet.inlet) {
+    let wet = task.wet;
+    let limit = task.limit;
+    let reynold = runs::reynold_between(wet.inlet, outcome.outlet, wet.velocity, wet.diameter);
+    let this = Kilojoules(-outcome.delivered.0);
+    let absorbed = Kilojoules(last.absorbed.0 + this.0);
+    let time = last.time + task.card.substep;
+    if clearly_below(outcome.outlet, wet.inlet) {
         let state = HydronicState {
             absorbed,
             reynold,
@@ -159,9 +159,9 @@ fn hydronic_whole(
         };
         if limit_reached(absorbed, limit) {
             if this.0 > 0.0 {
-                let seconds = fraction_seconds(x, absorbed, this);
+                let seconds = fraction_seconds(task, absorbed, this);
                 *zones = before;
-                return replayed(x, salts, step, n, s, seconds, reynold, zones);
+                return replayed(task, salts, step, n, last, seconds, reynold, zones);
             }
             return HydronicTurn {
                 state,
@@ -175,7 +175,7 @@ fn hydronic_whole(
             substeps: n,
         };
     }
-    let absorbed_before = s.absorbed;
+    let absorbed_before = last.absorbed;
     let state = HydronicState {
         absorbed: absorbed_before,
         reynold,
@@ -190,56 +190,56 @@ fn hydronic_whole(
 
 // One turn after n substeps.
 fn hydronic_step(
-    x: HydronicTask,
+    task: HydronicTask,
     salts: &[f64],
     step: usize,
     n: u32,
-    s: HydronicState,
+    state: HydronicState,
     zones: &mut [f64; 64],
 ) -> HydronicTurn
-    requires { ⌜ (x .card .layers ≤ 64) × ((n < 65535) × Salted (now salts) step (x .card .layers)) ⌝ }
-    ensures { λ r. ⌜ AsDefined (nextRefusal (r .next)) r (now (zones .exit)) (hydronicStep x (zoneSalt (now (salts .entry)) step) n (zoned s (now (zones .entry)))) ⌝ }
+    requires { ⌜ (task .card .layers ≤ 64) × ((n < 65535) × Salted (now salts) step (task .card .layers)) ⌝ }
+    ensures { λ r. ⌜ AsDefined (nextRefusal (r .next)) r (now (zones .exit)) (hydronicStep task (zoneSalt (now (salts .entry)) step) n (zoned state (now (zones .entry)))) ⌝ }
 {
-    let card = x.card;
-    let input = wet_input(x, card.substep, s.reynold);
-    let pcm = x.pcm;
+    let card = task.card;
+    let input = wet_input(task, card.substep, state.reynold);
+    let pcm = task.pcm;
     let before = *zones;
     let u = substep_loops::with_water::process_in_place(card, pcm, salts, step, input, 0.0, zones);
     let fault = u.fault;
     match fault {
-        Fault::Nothing => hydronic_whole(x, salts, step, n + 1, s, u, before, zones),
+        Fault::Nothing => hydronic_whole(task, salts, step, n + 1, state, u, before, zones),
         Fault::Logarithm => HydronicTurn {
-            state: s,
+            state: state,
             next: Next::Stop(End::NoLogarithm),
             substeps: n + 1,
         },
         Fault::NotFinite => HydronicTurn {
-            state: s,
+            state: state,
             next: Next::Stop(End::NotFiniteRun),
             substeps: n + 1,
         },
     }
 }
 
-pub fn whole_substeps(x: HydronicTask) -> u64
-    ensures { λ r. ⌜ r ≡ wholeSubsteps x ⌝ }
+pub fn whole_substeps(task: HydronicTask) -> u64
+    ensures { λ r. ⌜ r ≡ wholeSubsteps task ⌝ }
 {
-    floats::bits::truncate(x.wet.hours * floats::SECONDS_PER_HOUR / x.card.substep)
+    floats::bits::truncate(task.wet.hours * floats::SECONDS_PER_HOUR / task.card.substep)
 }
 
 // At most `steps` whole substeps from `start` on.
 pub fn hydronic_run(
-    x: HydronicTask,
+    task: HydronicTask,
     salts: &[f64],
     step: usize,
     steps: u64,
     start: HydronicState,
     zones: &mut [f64; 64],
 ) -> HydronicEnd
-    requires { ⌜ (x .card .layers ≤ 64) × Salted (now salts) step (x .card .layers) ⌝ }
-    ensures { λ r. ⌜ AsDefined (endRefusal (r .end)) r (now (zones .exit)) (hydronicRun x (zoneSalt (now (salts .entry)) step) steps 0 (zoned start (now (zones .entry)))) ⌝ }
+    requires { ⌜ (task .card .layers ≤ 64) × Salted (now salts) step (task .card .layers) ⌝ }
+    ensures { λ r. ⌜ AsDefined (endRefusal (r .end)) r (now (zones .exit)) (hydronicRun task (zoneSalt (now (salts .entry)) step) steps 0 (zoned start (now (zones .entry)))) ⌝ }
 {
-    let card = x.card;
+    let card = task.card;
     let budget = card.budget as u32;
     let mut state = start;
     let mut substeps: u32 = 0;
@@ -250,7 +250,7 @@ pub fn hydronic_run(
         if substeps == budget {
             break End::OverBudget;
         }
-        let turn = hydronic_step(x, salts, step, substeps, state, zones);
+        let turn = hydronic_step(task, salts, step, substeps, state, zones);
         substeps = turn.substeps;
         state = turn.state;
         let next = turn.next;
@@ -265,19 +265,19 @@ pub fn hydronic_run(
     }
 }
 
-pub fn hydronic_ended(electric: KilowattHours, e: HydronicEnd) -> Stopped
-    ensures { λ r. ⌜ r ≡ hydronicEnded electric e ⌝ }
+pub fn hydronic_ended(electric: KilowattHours, ended: HydronicEnd) -> Stopped
+    ensures { λ r. ⌜ r ≡ hydronicEnded electric ended ⌝ }
 {
-    let state = e.state;
+    let state = ended.state;
     let absorbed = state.absorbed;
     let energy = absorbed.kilowatt_hours();
-    let end = e.end;
+    let end = ended.end;
     Stopped {
         energy,
         electric,
         outlet: 0.0,
         time: state.time,
         end,
-        substeps: e.substeps,
+        substeps: ended.substeps,
     }
 }

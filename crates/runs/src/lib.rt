@@ -125,9 +125,9 @@ pub fn reynold_between(inlet: f64, outlet: f64, velocity: f64, diameter: f64) ->
 }
 
 // Hours.
-pub fn time_available(l: battery::Ledger, start: f64) -> f64
-    ensures { λ r. ⌜ r ≡ timeAvailable l start ⌝ }
+pub fn time_available(ledger: battery::Ledger, start: f64) -> f64
+    ensures { λ r. ⌜ r ≡ timeAvailable ledger start ⌝ }
 {
-    let timestep = l.card.timestep;
-    (timestep - l.totals.total) * (1.0 - start / timestep)
+    let timestep = ledger.card.timestep;
+    (timestep - ledger.totals.total) * (1.0 - start / timestep)
 }

@@ -48,26 +48,26 @@ pub fn marks_ok(version: u8, bytes: &[u8]) -> bool
     sheet_calls::mark_ok(bytes, MARK)
 }
 
-fn put_head(version: u8, s: &mut [u8], at: usize, a: Answer) -> usize
-    requires { ⌜ at + headLength version ≤ length (now s) ⌝ }
-    ensures { λ r. ⌜ (r ≡ at + headLength version) × (now (s .exit) ≡ sets (now (s .entry)) at (headBytes a)) ⌝ }
+fn put_head(version: u8, bytes: &mut [u8], at: usize, answer: Answer) -> usize
+    requires { ⌜ at + headLength version ≤ length (now bytes) ⌝ }
+    ensures { λ r. ⌜ (r ≡ at + headLength version) × (now (bytes .exit) ≡ sets (now (bytes .entry)) at (headBytes answer)) ⌝ }
 {
-    let p1 = codec::put_u8(s, at, a.refusal);
-    let p2 = codec::put_f64(s, p1, a.energy);
-    let p3 = codec::put_u8(s, p2, a.mark);
-    let p4 = codec::put_f64(s, p3, a.outlet);
-    let p5 = codec::put_f64(s, p4, a.time);
-    codec::put_u32(s, p5, a.substeps)
+    let p1 = codec::put_u8(bytes, at, answer.refusal);
+    let p2 = codec::put_f64(bytes, p1, answer.energy);
+    let p3 = codec::put_u8(bytes, p2, answer.mark);
+    let p4 = codec::put_f64(bytes, p3, answer.outlet);
+    let p5 = codec::put_f64(bytes, p4, answer.time);
+    codec::put_u32(bytes, p5, answer.substeps)
 }
 
 // Writes an answer from a place on, and returns the place after it.
-pub fn put_answer(version: u8, s: &mut [u8], at: usize, a: Answer) -> usize
-    requires { ⌜ (a .battery .card .layers ≤ 64) × (at + answerLength version (a .battery .card) ≤ length (now s)) ⌝ }
-    ensures { λ r. ⌜ (r ≡ at + answerLength version (a .battery .card)) × (now (s .exit) ≡ sets (now (s .entry)) at (answerBytes version a)) ⌝ }
+pub fn put_answer(version: u8, bytes: &mut [u8], at: usize, answer: Answer) -> usize
+    requires { ⌜ (answer .battery .card .layers ≤ 64) × (at + answerLength version (answer .battery .card) ≤ length (now bytes)) ⌝ }
+    ensures { λ r. ⌜ (r ≡ at + answerLength version (answer .battery .card)) × (now (bytes .exit) ≡ sets (now (bytes .entry)) at (answerBytes version answer)) ⌝ }
 {
-    let b = a.battery;
-    let p = put_head(version, s, at, a);
-    sheet_records::put_state(version, s, p, b)
+    let b = answer.battery;
+    let p = put_head(version, bytes, at, answer);
+    sheet_records::put_state(version, bytes, p, b)
 }
 
 // Document 01: 'Numbers agree when f64 equality holds'.

@@ -25,15 +25,15 @@ pub fn line_size(version: u8, card: Card, n: usize) -> usize
 }
 
 // A call line, with the call's own bytes, at the front of a memory that has room for it.
-pub fn put_line(version: u8, sheet: &mut [u8], call: &[u8], a: Answer)
-    requires { ⌜ (a .battery .card .layers ≤ 64) × (length (now call) < 65536) × (lineSize version (a .battery .card) (length (now call)) ≤ length (now sheet)) ⌝ }
-    ensures { λ r. ⌜ now (sheet .exit) ≡ over (lineBytes version (now (call .entry)) a) (now (sheet .entry)) ⌝ }
+pub fn put_line(version: u8, sheet: &mut [u8], call: &[u8], answer: Answer)
+    requires { ⌜ (answer .battery .card .layers ≤ 64) × (length (now call) < 65536) × (lineSize version (answer .battery .card) (length (now call)) ≤ length (now sheet)) ⌝ }
+    ensures { λ r. ⌜ now (sheet .exit) ≡ over (lineBytes version (now (call .entry)) answer) (now (sheet .entry)) ⌝ }
 {
-    let card = a.battery.card;
+    let card = answer.battery.card;
     let n = line_length(version, card, call.len());
     let p1 = codec::put_be(sheet, 0, 2, n as u64);
     let p2 = codec::put_bytes(sheet, p1, call);
-    crate::answers::put_answer(version, sheet, p2, a);
+    crate::answers::put_answer(version, sheet, p2, answer);
 }
 
 // The bytes of the version and line 0, with the card at the front of the bytes.

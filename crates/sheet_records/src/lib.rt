@@ -67,55 +67,55 @@ pub fn read_record(version: u8, card: Card, bytes: &[u8]) -> Battery
     read_state(version, card, bytes, at)
 }
 
-fn put_zones(s: &mut [u8], at: usize, n: usize, zones: [f64; 64]) -> usize
-    requires { ⌜ (n ≤ 64) × (at + 8 * n ≤ length (now s)) ⌝ }
-    ensures { λ r. ⌜ (r ≡ at + 8 * n) × (now (s .exit) ≡ sets (now (s .entry)) at (zonesBytes zones n)) ⌝ }
+fn put_zones(bytes: &mut [u8], at: usize, n: usize, zones: [f64; 64]) -> usize
+    requires { ⌜ (n ≤ 64) × (at + 8 * n ≤ length (now bytes)) ⌝ }
+    ensures { λ r. ⌜ (r ≡ at + 8 * n) × (now (bytes .exit) ≡ sets (now (bytes .entry)) at (zonesBytes zones n)) ⌝ }
 {
     let mut p = at;
     let mut k = 0;
     while k < n {
-        p = codec::put_f64(s, p, zones[k]);
+        p = codec::put_f64(bytes, p, zones[k]);
         k += 1;
     }
     p
 }
 
-fn put_totals(s: &mut [u8], at: usize, b: Battery) -> usize
-    requires { ⌜ at + totalsLength ≤ length (now s) ⌝ }
-    ensures { λ r. ⌜ (r ≡ at + totalsLength) × (now (s .exit) ≡ sets (now (s .entry)) at (totalsBytes b)) ⌝ }
+fn put_totals(bytes: &mut [u8], at: usize, battery: Battery) -> usize
+    requires { ⌜ at + totalsLength ≤ length (now bytes) ⌝ }
+    ensures { λ r. ⌜ (r ≡ at + totalsLength) × (now (bytes .exit) ≡ sets (now (bytes .entry)) at (totalsBytes battery)) ⌝ }
 {
-    let p1 = codec::put_f64(s, at, b.total);
-    let p2 = codec::put_f64(s, p1, b.pump);
-    let p3 = codec::put_f64(s, p2, b.direct);
-    let p4 = codec::put_f64(s, p3, b.charged);
-    codec::put_f64(s, p4, b.electric)
+    let p1 = codec::put_f64(bytes, at, battery.total);
+    let p2 = codec::put_f64(bytes, p1, battery.pump);
+    let p3 = codec::put_f64(bytes, p2, battery.direct);
+    let p4 = codec::put_f64(bytes, p3, battery.charged);
+    codec::put_f64(bytes, p4, battery.electric)
 }
 
 // Writes zones and totals from a place on, and returns the place after them.
-pub fn put_state(version: u8, s: &mut [u8], at: usize, b: Battery) -> usize
-    requires { ⌜ (b .card .layers ≤ 64) × (at + stateLength version (b .card) ≤ length (now s)) ⌝ }
-    ensures { λ r. ⌜ (r ≡ at + stateLength version (b .card)) × (now (s .exit) ≡ sets (now (s .entry)) at (stateBytes version b)) ⌝ }
+pub fn put_state(version: u8, bytes: &mut [u8], at: usize, battery: Battery) -> usize
+    requires { ⌜ (battery .card .layers ≤ 64) × (at + stateLength version (battery .card) ≤ length (now bytes)) ⌝ }
+    ensures { λ r. ⌜ (r ≡ at + stateLength version (battery .card)) × (now (bytes .exit) ≡ sets (now (bytes .entry)) at (stateBytes version battery)) ⌝ }
 {
-    let zones = b.zones;
-    let n = b.card.layers as usize;
-    let p = put_zones(s, at, n, zones);
-    put_totals(s, p, b)
+    let zones = battery.zones;
+    let n = battery.card.layers as usize;
+    let p = put_zones(bytes, at, n, zones);
+    put_totals(bytes, p, battery)
 }
 
 // Writes a whole record, with the caller's own card bytes.
-pub fn put_record(version: u8, bytes: &mut [u8], card: &[u8], b: Battery)
-    requires { ⌜ (b .card .layers ≤ 64) × (length (now bytes) ≡ length (now card) + stateLength version (b .card)) ⌝ }
-    ensures { λ r. ⌜ now (bytes .exit) ≡ recordBytes version (now (card .entry)) b ⌝ }
+pub fn put_record(version: u8, bytes: &mut [u8], card: &[u8], battery: Battery)
+    requires { ⌜ (battery .card .layers ≤ 64) × (length (now bytes) ≡ length (now card) + stateLength version (battery .card)) ⌝ }
+    ensures { λ r. ⌜ now (bytes .exit) ≡ recordBytes version (now (card .entry)) battery ⌝ }
 {
     let p = codec::put_bytes(bytes, 0, card);
-    put_state(version, bytes, p, b);
+    put_state(version, bytes, p, battery);
 }
 
 // Writes zones and totals into a record; its card's bytes stay.
-pub fn renew_record(version: u8, bytes: &mut [u8], b: Battery)
-    requires { ⌜ (b .card .layers ≤ 64) × (length (now bytes) ≡ cardLength version (now bytes) + stateLength version (b .card)) ⌝ }
-    ensures { λ r. ⌜ now (bytes .exit) ≡ recordBytes version (take (cardLength version (now (bytes .entry))) (now (bytes .entry))) b ⌝ }
+pub fn renew_record(version: u8, bytes: &mut [u8], battery: Battery)
+    requires { ⌜ (battery .card .layers ≤ 64) × (length (now bytes) ≡ cardLength version (now bytes) + stateLength version (battery .card)) ⌝ }
+    ensures { λ r. ⌜ now (bytes .exit) ≡ recordBytes version (take (cardLength version (now (bytes .entry))) (now (bytes .entry))) battery ⌝ }
 {
     let at = cards::card_length(version, bytes);
-    put_state(version, bytes, at, b);
+    put_state(version, bytes, at, battery);
 }

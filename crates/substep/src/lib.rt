@@ -170,14 +170,19 @@ pub fn zone_step(
 }
 
 // A zone's share of the heat transfer; a logarithm is taken in the normal mode alone.
-pub fn zone_transfer(mode: Mode, card: Card, d: SubstepInput) -> Log
-    ensures { λ r. ⌜ r ≡ zoneTransfer mode card d ⌝ }
+pub fn zone_transfer(mode: Mode, card: Card, input: SubstepInput) -> Log
+    ensures { λ r. ⌜ r ≡ zoneTransfer mode card input ⌝ }
 {
     match mode {
         Mode::OnlyCharging => Log::Value(0.0),
         Mode::Losses => Log::Value(0.0),
         Mode::Normal => {
-            let whole = zone_water::calculate_heat_transfer_kw_per_k(d.a, d.b, d.flow, d.reynold);
+            let whole = zone_water::calculate_heat_transfer_kw_per_k(
+                input.a,
+                input.b,
+                input.flow,
+                input.reynold,
+            );
             per_layer(card, whole)
         }
     }
@@ -206,35 +211,35 @@ pub fn common_of(
     mode: Mode,
     card: Card,
     pcm: HeatBatteryPcm,
-    d: SubstepInput,
+    input: SubstepInput,
     transfer: f64,
 ) -> Common
-    requires { ⌜ mode ≡ d .mode ⌝ }
-    ensures { λ r. ⌜ r ≡ commonOf card pcm d transfer ⌝ }
+    requires { ⌜ mode ≡ input .mode ⌝ }
+    ensures { λ r. ⌜ r ≡ commonOf card pcm input transfer ⌝ }
 {
-    let mass = zone_water::mass_flow(d.flow);
+    let mass = zone_water::mass_flow(input.flow);
     let shared = Shared {
         layers: card.layers,
-        inlet: d.inlet,
+        inlet: input.inlet,
         rated: pcm.rated,
         transfer,
         mass,
-        seconds: d.seconds,
+        seconds: input.seconds,
     };
     Common {
         mode,
         shared,
         reference: card.reference,
         max: card.max,
-        level: d.target,
+        level: input.target,
     }
 }
 
 // The charger's heat over the substep, at first: kilowatts times hours.
-pub fn charger_heat(d: SubstepInput) -> Kilojoules
-    ensures { λ r. ⌜ r ≡ chargerHeat d ⌝ }
+pub fn charger_heat(input: SubstepInput) -> Kilojoules
+    ensures { λ r. ⌜ r ≡ chargerHeat input ⌝ }
 {
-    KilowattHours(-d.power * d.seconds / floats::SECONDS_PER_HOUR).kilojoules()
+    KilowattHours(-input.power * input.seconds / floats::SECONDS_PER_HOUR).kilojoules()
 }
 
 pub fn progress_fault(zones: bool, outlet: f64, sum: Kilojoules, charged: KilowattHours) -> Fault

@@ -60,17 +60,17 @@ fn charge_zones(
     common: Common,
     salts: &[f64],
     step: usize,
-    d: SubstepInput,
+    input: SubstepInput,
     target: f64,
     zones: &mut [f64; 64],
 ) -> Outcome
     requires { ⌜ (card .layers ≤ 64) × (Salted (now salts) step (card .layers) × ((common .mode ≡ Mode.OnlyCharging) × (target ≡ targetAt common (zoneSalt (now salts) step 0)))) ⌝ }
-    ensures { λ r. ⌜ (now (zones .exit) ≡ zonesAfter common (zoneSalt (now (salts .entry)) step) (card .layers) (card .layers) (progressFrom d (now (zones .entry))) .zones) × (r ≡ outcomeOf (substepFrom card (zonesAfter common (zoneSalt (now (salts .entry)) step) (card .layers) (card .layers) (progressFrom d (now (zones .entry)))))) ⌝ }
+    ensures { λ r. ⌜ (now (zones .exit) ≡ zonesAfter common (zoneSalt (now (salts .entry)) step) (card .layers) (card .layers) (progressFrom input (now (zones .entry))) .zones) × (r ≡ outcomeOf (substepFrom card (zonesAfter common (zoneSalt (now (salts .entry)) step) (card .layers) (card .layers) (progressFrom input (now (zones .entry)))))) ⌝ }
 {
     let n = card.layers as usize;
     let mode = common.mode;
-    let mut outlet = d.inlet;
-    let mut left = substep::charger_heat(d);
+    let mut outlet = input.inlet;
+    let mut left = substep::charger_heat(input);
     let mut charged = KilowattHours(0.0);
     // equals 0 as long as each zone is finite
     let mut spread = 0.0;
@@ -99,13 +99,13 @@ pub fn charge_in_place(
     pcm: HeatBatteryPcm,
     salts: &[f64],
     step: usize,
-    d: SubstepInput,
+    input: SubstepInput,
     zones: &mut [f64; 64],
 ) -> Outcome
-    requires { ⌜ (card .layers ≤ 64) × (Salted (now salts) step (card .layers) × (d .mode ≡ Mode.OnlyCharging)) ⌝ }
-    ensures { λ r. ⌜ (now (zones .exit) ≡ processHeatBatteryZones card pcm (zoneSalt (now (salts .entry)) step) d (now (zones .entry)) .zones) × (r ≡ outcomeOf (processHeatBatteryZones card pcm (zoneSalt (now (salts .entry)) step) d (now (zones .entry)))) ⌝ }
+    requires { ⌜ (card .layers ≤ 64) × (Salted (now salts) step (card .layers) × (input .mode ≡ Mode.OnlyCharging)) ⌝ }
+    ensures { λ r. ⌜ (now (zones .exit) ≡ processHeatBatteryZones card pcm (zoneSalt (now (salts .entry)) step) input (now (zones .entry)) .zones) × (r ≡ outcomeOf (processHeatBatteryZones card pcm (zoneSalt (now (salts .entry)) step) input (now (zones .entry)))) ⌝ }
 {
-    let target = substep::target_of(card, salts, step, d.target);
-    let common = substep::common_of(Mode::OnlyCharging, card, pcm, d, 0.0);
-    charge_zones(card, common, salts, step, d, target, zones)
+    let target = substep::target_of(card, salts, step, input.target);
+    let common = substep::common_of(Mode::OnlyCharging, card, pcm, input, 0.0);
+    charge_zones(card, common, salts, step, input, target, zones)
 }

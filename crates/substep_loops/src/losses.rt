@@ -49,17 +49,17 @@ fn lose_zones(
     common: Common,
     salts: &[f64],
     step: usize,
-    d: SubstepInput,
+    input: SubstepInput,
     zones: &mut [f64; 64],
 ) -> Outcome
-    requires { ⌜ (card .layers ≤ 64) × (Salted (now salts) step (card .layers) × ((common .mode ≡ Mode.Losses) × (lt (chargerHeat d .0) zero ≡ false))) ⌝ }
-    ensures { λ r. ⌜ (now (zones .exit) ≡ zonesAfter common (zoneSalt (now (salts .entry)) step) (card .layers) (card .layers) (progressFrom d (now (zones .entry))) .zones) × (r ≡ outcomeOf (substepFrom card (zonesAfter common (zoneSalt (now (salts .entry)) step) (card .layers) (card .layers) (progressFrom d (now (zones .entry)))))) ⌝ }
+    requires { ⌜ (card .layers ≤ 64) × (Salted (now salts) step (card .layers) × ((common .mode ≡ Mode.Losses) × (lt (chargerHeat input .0) zero ≡ false))) ⌝ }
+    ensures { λ r. ⌜ (now (zones .exit) ≡ zonesAfter common (zoneSalt (now (salts .entry)) step) (card .layers) (card .layers) (progressFrom input (now (zones .entry))) .zones) × (r ≡ outcomeOf (substepFrom card (zonesAfter common (zoneSalt (now (salts .entry)) step) (card .layers) (card .layers) (progressFrom input (now (zones .entry)))))) ⌝ }
 {
     let n = card.layers as usize;
-    let left = substep::charger_heat(d);
+    let left = substep::charger_heat(input);
     let charged = KilowattHours(0.0);
     let share = left.0 / (common.shared.layers as f64);
-    let mut outlet = d.inlet;
+    let mut outlet = input.inlet;
     let mut sum = Sum2 { s: 0.0, c: 0.0 };
     // equals 0 as long as each zone is finite
     let mut spread = 0.0;
@@ -87,12 +87,12 @@ pub fn lose_in_place(
     pcm: HeatBatteryPcm,
     salts: &[f64],
     step: usize,
-    d: SubstepInput,
+    input: SubstepInput,
     zones: &mut [f64; 64],
 ) -> Outcome
-    requires { ⌜ (card .layers ≤ 64) × (Salted (now salts) step (card .layers) × ((d .mode ≡ Mode.Losses) × (lt (chargerHeat d .0) zero ≡ false))) ⌝ }
-    ensures { λ r. ⌜ (now (zones .exit) ≡ processHeatBatteryZones card pcm (zoneSalt (now (salts .entry)) step) d (now (zones .entry)) .zones) × (r ≡ outcomeOf (processHeatBatteryZones card pcm (zoneSalt (now (salts .entry)) step) d (now (zones .entry)))) ⌝ }
+    requires { ⌜ (card .layers ≤ 64) × (Salted (now salts) step (card .layers) × ((input .mode ≡ Mode.Losses) × (lt (chargerHeat input .0) zero ≡ false))) ⌝ }
+    ensures { λ r. ⌜ (now (zones .exit) ≡ processHeatBatteryZones card pcm (zoneSalt (now (salts .entry)) step) input (now (zones .entry)) .zones) × (r ≡ outcomeOf (processHeatBatteryZones card pcm (zoneSalt (now (salts .entry)) step) input (now (zones .entry)))) ⌝ }
 {
-    let common = substep::common_of(Mode::Losses, card, pcm, d, 0.0);
-    lose_zones(card, common, salts, step, d, zones)
+    let common = substep::common_of(Mode::Losses, card, pcm, input, 0.0);
+    lose_zones(card, common, salts, step, input, zones)
 }

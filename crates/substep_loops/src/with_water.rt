@@ -38,19 +38,19 @@ pub fn zones_in_place(
     common: Common,
     salts: &[f64],
     step: usize,
-    d: SubstepInput,
+    input: SubstepInput,
     alike: bool,
     target: f64,
     zones: &mut [f64; 64],
 ) -> Outcome
-    requires { ⌜ (card .layers ≤ 64) × (Salted (now salts) step (card .layers) × (lt (chargerHeat d .0) zero ≡ true → alike ≡ true → (j : ℕ) → j < card .layers → target ≡ targetAt common (zoneSalt (now salts) step j))) ⌝ }
-    ensures { λ r. ⌜ (now (zones .exit) ≡ zonesAfter common (zoneSalt (now (salts .entry)) step) (card .layers) (card .layers) (progressFrom d (now (zones .entry))) .zones) × (r ≡ outcomeOf (substepFrom card (zonesAfter common (zoneSalt (now (salts .entry)) step) (card .layers) (card .layers) (progressFrom d (now (zones .entry)))))) ⌝ }
+    requires { ⌜ (card .layers ≤ 64) × (Salted (now salts) step (card .layers) × (lt (chargerHeat input .0) zero ≡ true → alike ≡ true → (j : ℕ) → j < card .layers → target ≡ targetAt common (zoneSalt (now salts) step j))) ⌝ }
+    ensures { λ r. ⌜ (now (zones .exit) ≡ zonesAfter common (zoneSalt (now (salts .entry)) step) (card .layers) (card .layers) (progressFrom input (now (zones .entry))) .zones) × (r ≡ outcomeOf (substepFrom card (zonesAfter common (zoneSalt (now (salts .entry)) step) (card .layers) (card .layers) (progressFrom input (now (zones .entry)))))) ⌝ }
 {
     let n = card.layers as usize;
     let mode = common.mode;
     let first = zone::layer::zone_salt(salts, step, 0);
-    let mut outlet = d.inlet;
-    let mut left = substep::charger_heat(d);
+    let mut outlet = input.inlet;
+    let mut left = substep::charger_heat(input);
     let mut charged = KilowattHours(0.0);
     let mut sum = Sum2 { s: 0.0, c: 0.0 };
     // equals 0 as long as each zone is finite
@@ -84,17 +84,17 @@ pub fn process_in_place(
     pcm: HeatBatteryPcm,
     salts: &[f64],
     step: usize,
-    d: SubstepInput,
+    input: SubstepInput,
     target: f64,
     zones: &mut [f64; 64],
 ) -> Outcome
-    requires { ⌜ (card .layers ≤ 64) × (Salted (now salts) step (card .layers) × ((d .mode ≡ Mode.Normal) × (lt (chargerHeat d .0) zero ≡ true → (j : ℕ) → j < card .layers → target ≡ targetOf card (zoneSalt (now salts) step j) (d .target)))) ⌝ }
-    ensures { λ r. ⌜ (now (zones .exit) ≡ processHeatBatteryZones card pcm (zoneSalt (now (salts .entry)) step) d (now (zones .entry)) .zones) × (r ≡ outcomeOf (processHeatBatteryZones card pcm (zoneSalt (now (salts .entry)) step) d (now (zones .entry)))) ⌝ }
+    requires { ⌜ (card .layers ≤ 64) × (Salted (now salts) step (card .layers) × ((input .mode ≡ Mode.Normal) × (lt (chargerHeat input .0) zero ≡ true → (j : ℕ) → j < card .layers → target ≡ targetOf card (zoneSalt (now salts) step j) (input .target)))) ⌝ }
+    ensures { λ r. ⌜ (now (zones .exit) ≡ processHeatBatteryZones card pcm (zoneSalt (now (salts .entry)) step) input (now (zones .entry)) .zones) × (r ≡ outcomeOf (processHeatBatteryZones card pcm (zoneSalt (now (salts .entry)) step) input (now (zones .entry)))) ⌝ }
 {
-    let transfer = substep::zone_transfer(Mode::Normal, card, d);
+    let transfer = substep::zone_transfer(Mode::Normal, card, input);
     let Log::Value(u) = transfer else {
         return substep::without_logarithm();
     };
-    let common = substep::common_of(Mode::Normal, card, pcm, d, u);
-    zones_in_place(card, common, salts, step, d, true, target, zones)
+    let common = substep::common_of(Mode::Normal, card, pcm, input, u);
+    zones_in_place(card, common, salts, step, input, true, target, zones)
 }

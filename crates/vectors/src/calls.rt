@@ -2,9 +2,9 @@
 use battery::Answer;
 use vectors_words::cards::VERSION;
 
-fn advanced(s: &[u8], held: &[u8]) -> Answer {
+fn advanced(bytes: &[u8], held: &[u8]) -> Answer {
     let b = vectors_lists::battery(held);
-    let call = vectors_lists::calls::read(s);
+    let call = vectors_lists::calls::read(bytes);
     let l = battery::ledger_of(b);
     let zones = b.zones;
     if battery::is_accepted(VERSION, l, &zones) {
@@ -13,13 +13,13 @@ fn advanced(s: &[u8], held: &[u8]) -> Answer {
     battery::answers::refused(refusals::BAD_CALL, b)
 }
 
-pub fn call(s: &[u8], held: &mut [u8]) -> bool {
-    let at = vectors_lists::calls::answer_at(s);
+pub fn call(bytes: &[u8], held: &mut [u8]) -> bool {
+    let at = vectors_lists::calls::answer_at(bytes);
     if at == 0 {
         return false;
     }
-    let a = advanced(s, held);
+    let a = advanced(bytes, held);
     let b = a.battery;
     vectors_lists::hold(held, b);
-    vectors_lists::answer_is(s, at, a)
+    vectors_lists::answer_is(bytes, at, a)
 }

@@ -20,18 +20,18 @@ fn zone_energies(
     common: Common,
     salts: &[f64],
     step: usize,
-    d: SubstepInput,
+    input: SubstepInput,
     zones: [f64; 64],
 ) -> [f64; 64]
     requires { ⌜ (card .layers ≤ 64) × Salted (now salts) step (card .layers) ⌝ }
-    ensures { λ r. ⌜ r ≡ zonesAfter common (zoneSalt (now (salts .entry)) step) (card .layers) (card .layers) (progressFrom d zones) .energies ⌝ }
+    ensures { λ r. ⌜ r ≡ zonesAfter common (zoneSalt (now (salts .entry)) step) (card .layers) (card .layers) (progressFrom input zones) .energies ⌝ }
 {
     let n = card.layers as usize;
     let mode = common.mode;
     let mut after = zones;
     let mut energies = [0.0; 64];
-    let mut outlet = d.inlet;
-    let mut left = substep::charger_heat(d);
+    let mut outlet = input.inlet;
+    let mut left = substep::charger_heat(input);
     let mut charged = KilowattHours(0.0);
     for k in 0..n {
         let j = substep::zone_index(mode, n, k);
@@ -46,16 +46,16 @@ fn zone_energies(
     energies
 }
 
-fn with_arrays(o: Outcome, zones: [f64; 64], energies: [f64; 64]) -> Substep
-    ensures { λ r. ⌜ r ≡ substepWith o zones energies ⌝ }
+fn with_arrays(outcome: Outcome, zones: [f64; 64], energies: [f64; 64]) -> Substep
+    ensures { λ r. ⌜ r ≡ substepWith outcome zones energies ⌝ }
 {
-    let delivered = o.delivered;
-    let charged = o.charged;
-    let fault = o.fault;
+    let delivered = outcome.delivered;
+    let charged = outcome.charged;
+    let fault = outcome.fault;
     Substep {
         zones,
         energies,
-        outlet: o.outlet,
+        outlet: outcome.outlet,
         delivered,
         charged,
         fault,
@@ -63,11 +63,11 @@ fn with_arrays(o: Outcome, zones: [f64; 64], energies: [f64; 64]) -> Substep
 }
 
 // What a substep in place hands out, with its zones and zeros for the energies.
-fn bare(o: Outcome, zones: [f64; 64]) -> Substep
-    ensures { λ r. ⌜ r ≡ substepWith o zones (replicate 64 zero) ⌝ }
+fn bare(outcome: Outcome, zones: [f64; 64]) -> Substep
+    ensures { λ r. ⌜ r ≡ substepWith outcome zones (replicate 64 zero) ⌝ }
 {
     let energies = [0.0; 64];
-    with_arrays(o, zones, energies)
+    with_arrays(outcome, zones, energies)
 }
 
 // In any mode, by value and with each zone's energy.
@@ -76,30 +76,30 @@ pub fn process_heat_battery_zones(
     pcm: HeatBatteryPcm,
     salts: &[f64],
     step: usize,
-    d: SubstepInput,
+    input: SubstepInput,
     zones: [f64; 64],
 ) -> Substep
     requires { ⌜ (card .layers ≤ 64) × Salted (now salts) step (card .layers) ⌝ }
-    ensures { λ r. ⌜ r ≡ processHeatBatteryZones card pcm (zoneSalt (now (salts .entry)) step) d zones ⌝ }
+    ensures { λ r. ⌜ r ≡ processHeatBatteryZones card pcm (zoneSalt (now (salts .entry)) step) input zones ⌝ }
 {
-    let mode = d.mode;
-    let share = substep::zone_transfer(mode, card, d);
+    let mode = input.mode;
+    let share = substep::zone_transfer(mode, card, input);
     let Log::Value(u) = share else {
         let o = substep::without_logarithm();
         return bare(o, zones);
     };
-    let common = substep::common_of(mode, card, pcm, d, u);
+    let common = substep::common_of(mode, card, pcm, input, u);
     let mut after = zones;
     let o = substep_loops::with_water::zones_in_place(
         card,
         common,
         salts,
         step,
-        d,
+        input,
         false,
         0.0,
         &mut after,
     );
-    let energies = zone_energies(card, common, salts, step, d, zones);
+    let energies = zone_energies(card, common, salts, step, input, zones);
     with_arrays(o, after, energies)
 }

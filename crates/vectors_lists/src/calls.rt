@@ -6,52 +6,52 @@ use battery::Hydronic;
 ghost use Prim.Native.Nat.{_≤_};
 
 // A mark and a value.
-pub fn given(s: &[u8], i: usize) -> Given
+pub fn given(bytes: &[u8], i: usize) -> Given
     requires { ⌜ i ≤ 512 ⌝ }
 {
-    if vectors_words::word_is(s, i, 0) {
+    if vectors_words::word_is(bytes, i, 0) {
         Given::Absent
     } else {
-        Given::Value(vectors_words::number(s, i + 1))
+        Given::Value(vectors_words::number(bytes, i + 1))
     }
 }
 
-fn demand(s: &[u8]) -> Call {
-    let feed = given(s, 6);
+fn demand(bytes: &[u8]) -> Call {
+    let feed = given(bytes, 6);
     Call::DemandEnergy(Demand {
-        service: vectors_words::small(s, 1),
-        commit: vectors_words::word_is(s, 2, 1),
-        control: vectors_words::word_is(s, 3, 1),
-        required: vectors_words::number(s, 4),
-        start: vectors_words::number(s, 5),
+        service: vectors_words::small(bytes, 1),
+        commit: vectors_words::word_is(bytes, 2, 1),
+        control: vectors_words::word_is(bytes, 3, 1),
+        required: vectors_words::number(bytes, 4),
+        start: vectors_words::number(bytes, 5),
         feed,
     })
 }
 
-fn hydronic(s: &[u8]) -> Call {
+fn hydronic(bytes: &[u8]) -> Call {
     Call::ChargeHydronic(Hydronic {
-        inlet: vectors_words::number(s, 1),
-        hours: vectors_words::number(s, 2),
-        flow: vectors_words::number(s, 3),
-        target: vectors_words::number(s, 4),
-        limit: vectors_words::number(s, 5),
-        a: vectors_words::number(s, 6),
-        b: vectors_words::number(s, 7),
-        velocity: vectors_words::number(s, 8),
-        diameter: vectors_words::number(s, 9),
+        inlet: vectors_words::number(bytes, 1),
+        hours: vectors_words::number(bytes, 2),
+        flow: vectors_words::number(bytes, 3),
+        target: vectors_words::number(bytes, 4),
+        limit: vectors_words::number(bytes, 5),
+        a: vectors_words::number(bytes, 6),
+        b: vectors_words::number(bytes, 7),
+        velocity: vectors_words::number(bytes, 8),
+        diameter: vectors_words::number(bytes, 9),
     })
 }
 
-fn energy_demand(s: &[u8]) -> Call {
-    let most = given(s, 1);
-    Call::ChargeEnergyDemand(most, vectors_words::number(s, 3))
+fn energy_demand(bytes: &[u8]) -> Call {
+    let most = given(bytes, 1);
+    Call::ChargeEnergyDemand(most, vectors_words::number(bytes, 3))
 }
 
 // The answer's first word; 0 where no kind is known.
-pub fn answer_at(s: &[u8]) -> usize
+pub fn answer_at(bytes: &[u8]) -> usize
     ensures { λ r. ⌜ r ≤ 16 ⌝ }
 {
-    match vectors_words::word(s, 0) {
+    match vectors_words::word(bytes, 0) {
         1 => 8,
         2 => 3,
         3 => 10,
@@ -62,14 +62,17 @@ pub fn answer_at(s: &[u8]) -> usize
 }
 
 // A call of a known kind.
-pub fn read(s: &[u8]) -> Call {
-    match vectors_words::word(s, 0) {
-        1 => demand(s),
-        2 => Call::ChargeElectric(vectors_words::number(s, 1), vectors_words::number(s, 2)),
-        3 => hydronic(s),
+pub fn read(bytes: &[u8]) -> Call {
+    match vectors_words::word(bytes, 0) {
+        1 => demand(bytes),
+        2 => Call::ChargeElectric(
+            vectors_words::number(bytes, 1),
+            vectors_words::number(bytes, 2),
+        ),
+        3 => hydronic(bytes),
         4 => Call::HeatLoss,
         5 => Call::CloseTimestep,
-        7 => energy_demand(s),
+        7 => energy_demand(bytes),
         _ => Call::ReadStateOfCharge,
     }
 }

@@ -2,29 +2,29 @@
 use card::Card;
 use vectors_words::cards::VERSION;
 
-fn derived_is(s: &[u8], card: Card) -> bool {
+fn derived_is(bytes: &[u8], card: Card) -> bool {
     if card.layers <= 64 {
         let salt = card::pcm::salt_of(card);
         let salts = card::pcm::figures_of(card);
         let stored = card::pcm::energy_at(card, &salts, 0, card.max);
         let pcm = card::pcm::derived(card);
         return logic::both(
-            vectors_words::three_are(s, 24, salt.below, salt.during, salt.above),
-            vectors_words::three_are(s, 27, stored.0, pcm.rated, pcm.diameter),
+            vectors_words::three_are(bytes, 24, salt.below, salt.during, salt.above),
+            vectors_words::three_are(bytes, 27, stored.0, pcm.rated, pcm.diameter),
         );
     }
     false
 }
 
-pub fn card(s: &[u8]) -> bool {
-    let card = vectors_words::cards::read(s);
+pub fn card(bytes: &[u8]) -> bool {
+    let card = vectors_words::cards::read(bytes);
     let refusal = card::verdict::refusal(VERSION, card);
     let first = logic::both(
-        vectors_words::has(s, 30),
-        vectors_words::word_is(s, 23, refusal as u64),
+        vectors_words::has(bytes, 30),
+        vectors_words::word_is(bytes, 23, refusal as u64),
     );
     if refusal == 0 {
-        return logic::both(first, derived_is(s, card));
+        return logic::both(first, derived_is(bytes, card));
     }
-    logic::both(first, vectors_words::numbers_are(s, 24, [0.0; 64], 6))
+    logic::both(first, vectors_words::numbers_are(bytes, 24, [0.0; 64], 6))
 }

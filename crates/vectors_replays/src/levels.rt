@@ -6,11 +6,11 @@ use zone::StateOfCharge;
 ghost use Prim.Native.Nat.{_≤_};
 
 // From a state of charge to the level asked after n zones.
-fn energy(s: &[u8], card: Card, n: usize, soc: f64) -> f64
+fn energy(bytes: &[u8], card: Card, n: usize, soc: f64) -> f64
     requires { ⌜ (n ≤ 64) × (card .layers ≤ 64) ⌝ }
 {
-    let most = vectors_lists::calls::given(s, n + 24);
-    let target = vectors_words::number(s, n + 26);
+    let most = vectors_lists::calls::given(bytes, n + 24);
+    let target = vectors_words::number(bytes, n + 26);
     let totals = Totals {
         total: 0.0,
         pump: 0.0,
@@ -29,29 +29,29 @@ fn energy(s: &[u8], card: Card, n: usize, soc: f64) -> f64
 }
 
 // A mark and a value; both 0 where 25 refuses.
-fn energy_is(s: &[u8], card: Card, n: usize, level: StateOfCharge) -> bool
+fn energy_is(bytes: &[u8], card: Card, n: usize, level: StateOfCharge) -> bool
     requires { ⌜ (n ≤ 64) × (card .layers ≤ 64) ⌝ }
 {
     match level {
         StateOfCharge::Level(soc) => vectors_words::marked_is(
-            s,
+            bytes,
             n + 27,
             1,
-            energy(s, card, n, soc),
+            energy(bytes, card, n, soc),
         ),
-        StateOfCharge::Above => vectors_words::marked_is(s, n + 27, 0, 0.0),
+        StateOfCharge::Above => vectors_words::marked_is(bytes, n + 27, 0, 0.0),
     }
 }
 
-pub fn charge_energy_demand(s: &[u8]) -> bool {
-    let card = vectors_words::cards::read(s);
+pub fn charge_energy_demand(bytes: &[u8]) -> bool {
+    let card = vectors_words::cards::read(bytes);
     if card.layers <= 64 {
         let n = card.layers as usize;
-        let level = crate::zones::level(s, card);
+        let level = crate::zones::level(bytes, card);
         return logic::all_three(
-            vectors_words::has(s, n + 29),
-            vectors_words::word_is(s, 23, n as u64),
-            energy_is(s, card, n, level),
+            vectors_words::has(bytes, n + 29),
+            vectors_words::word_is(bytes, 23, n as u64),
+            energy_is(bytes, card, n, level),
         );
     }
     false

@@ -18,14 +18,14 @@ fn mode_of(word: u64) -> Mode {
 }
 
 // Whether a record agrees, of which s has the words; none of another id does.
-pub fn replay(id: u64, s: &[u8]) -> bool {
+pub fn replay(id: u64, bytes: &[u8]) -> bool {
     match id {
-        1..=8 => standins::replay(id, s),
-        20..=25 => zones::replay(id, s),
-        26..=30 => exchanger::replay(id, s),
-        31 => cards::card(s),
-        40 => substeps::substep(s),
-        41 => levels::charge_energy_demand(s),
+        1..=8 => standins::replay(id, bytes),
+        20..=25 => zones::replay(id, bytes),
+        26..=30 => exchanger::replay(id, bytes),
+        31 => cards::card(bytes),
+        40 => substeps::substep(bytes),
+        41 => levels::charge_energy_demand(bytes),
         _ => false,
     }
 }

@@ -7,74 +7,80 @@ ghost use Prim.Native.Nat.{_≤_};
 const FIRST_ZONE: usize = 24;
 
 // What the substep is asked, after n zones.
-fn input(s: &[u8], n: usize) -> SubstepInput
+fn input(bytes: &[u8], n: usize) -> SubstepInput
     requires { ⌜ n ≤ 64 ⌝ }
 {
     let at = n + FIRST_ZONE;
-    let mode = crate::mode_of(vectors_words::word(s, at));
+    let mode = crate::mode_of(vectors_words::word(bytes, at));
     SubstepInput {
         mode,
-        inlet: vectors_words::number(s, at + 1),
-        seconds: vectors_words::number(s, at + 2),
-        reynold: vectors_words::number(s, at + 3),
-        flow: vectors_words::number(s, at + 4),
-        power: vectors_words::number(s, at + 5),
-        target: vectors_words::number(s, at + 6),
-        a: vectors_words::number(s, at + 7),
-        b: vectors_words::number(s, at + 8),
+        inlet: vectors_words::number(bytes, at + 1),
+        seconds: vectors_words::number(bytes, at + 2),
+        reynold: vectors_words::number(bytes, at + 3),
+        flow: vectors_words::number(bytes, at + 4),
+        power: vectors_words::number(bytes, at + 5),
+        target: vectors_words::number(bytes, at + 6),
+        a: vectors_words::number(bytes, at + 7),
+        b: vectors_words::number(bytes, at + 8),
     }
 }
 
 // The outputs from word `at` on.
-fn answer_is(s: &[u8], at: usize, n: usize, r: Substep) -> bool
+fn answer_is(bytes: &[u8], at: usize, n: usize, substep: Substep) -> bool
     requires { ⌜ (at ≤ 256) × (n ≤ 64) ⌝ }
 {
-    let zones = r.zones;
-    let energies = r.energies;
+    let zones = substep.zones;
+    let energies = substep.energies;
     logic::all_four(
-        vectors_words::word_is(s, at, 0),
-        vectors_words::three_are(s, at + 1, r.outlet, r.delivered.0, r.charged.0),
-        vectors_words::numbers_are(s, at + 4, zones, n),
-        vectors_words::numbers_are(s, at + 4 + n, energies, n),
+        vectors_words::word_is(bytes, at, 0),
+        vectors_words::three_are(
+            bytes,
+            at + 1,
+            substep.outlet,
+            substep.delivered.0,
+            substep.charged.0,
+        ),
+        vectors_words::numbers_are(bytes, at + 4, zones, n),
+        vectors_words::numbers_are(bytes, at + 4 + n, energies, n),
     )
 }
 
 // A refusal, and zeros after it.
-fn refusal_is(s: &[u8], at: usize, n: usize, refusal: u64) -> bool
+fn refusal_is(bytes: &[u8], at: usize, n: usize, refusal: u64) -> bool
     requires { ⌜ (at ≤ 256) × (n ≤ 64) ⌝ }
 {
     logic::all_four(
-        vectors_words::word_is(s, at, refusal),
-        vectors_words::numbers_are(s, at + 1, [0.0; 64], 3),
-        vectors_words::numbers_are(s, at + 4, [0.0; 64], n),
-        vectors_words::numbers_are(s, at + 4 + n, [0.0; 64], n),
+        vectors_words::word_is(bytes, at, refusal),
+        vectors_words::numbers_are(bytes, at + 1, [0.0; 64], 3),
+        vectors_words::numbers_are(bytes, at + 4, [0.0; 64], n),
+        vectors_words::numbers_are(bytes, at + 4 + n, [0.0; 64], n),
     )
 }
 
-fn outputs_are(s: &[u8], at: usize, n: usize, r: Substep) -> bool
+fn outputs_are(bytes: &[u8], at: usize, n: usize, substep: Substep) -> bool
     requires { ⌜ (at ≤ 256) × (n ≤ 64) ⌝ }
 {
-    let fault = r.fault;
+    let fault = substep.fault;
     match fault {
-        Fault::Nothing => answer_is(s, at, n, r),
-        Fault::Logarithm => refusal_is(s, at, n, 24),
-        Fault::NotFinite => refusal_is(s, at, n, 23),
+        Fault::Nothing => answer_is(bytes, at, n, substep),
+        Fault::Logarithm => refusal_is(bytes, at, n, 24),
+        Fault::NotFinite => refusal_is(bytes, at, n, 23),
     }
 }
 
-pub fn substep(s: &[u8]) -> bool {
-    let card = vectors_words::cards::read(s);
+pub fn substep(bytes: &[u8]) -> bool {
+    let card = vectors_words::cards::read(bytes);
     if card.layers <= 64 {
         let n = card.layers as usize;
-        let zones = vectors_words::numbers(s, FIRST_ZONE, n);
-        let d = input(s, n);
+        let zones = vectors_words::numbers(bytes, FIRST_ZONE, n);
+        let d = input(bytes, n);
         let pcm = card::pcm::derived(card);
         let salts = card::pcm::figures_of(card);
         let r = vectors_by_value::process_heat_battery_zones(card, pcm, &salts, 0, d, zones);
         return logic::all_three(
-            vectors_words::has(s, 37 + 3 * n),
-            vectors_words::word_is(s, 23, n as u64),
-            outputs_are(s, n + 33, n, r),
+            vectors_words::has(bytes, 37 + 3 * n),
+            vectors_words::word_is(bytes, 23, n as u64),
+            outputs_are(bytes, n + 33, n, r),
         );
     }
     false

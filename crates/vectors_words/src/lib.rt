@@ -5,26 +5,26 @@ use floats::Log;
 ghost use Prim.Native.Nat.{_≤_};
 
 // Whether the record has n words.
-pub fn has(s: &[u8], n: usize) -> bool {
-    s.len() / 8 == n
+pub fn has(bytes: &[u8], n: usize) -> bool {
+    bytes.len() / 8 == n
 }
 
-pub fn word(s: &[u8], i: usize) -> u64 {
-    if i < s.len() / 8 {
-        return codec::read_be(s, 8 * i, 8);
+pub fn word(bytes: &[u8], i: usize) -> u64 {
+    if i < bytes.len() / 8 {
+        return codec::read_be(bytes, 8 * i, 8);
     }
     0
 }
 
-pub fn number(s: &[u8], i: usize) -> f64 {
-    codec::f64_of(word(s, i))
+pub fn number(bytes: &[u8], i: usize) -> f64 {
+    codec::f64_of(word(bytes, i))
 }
 
 // A count of at most 64; 65 stands for each larger one.
-pub fn count(s: &[u8], i: usize) -> usize
+pub fn count(bytes: &[u8], i: usize) -> usize
     ensures { λ r. ⌜ r ≤ 65 ⌝ }
 {
-    let w = word(s, i);
+    let w = word(bytes, i);
     if w <= 64 {
         return w as usize;
     }
@@ -32,8 +32,8 @@ pub fn count(s: &[u8], i: usize) -> usize
 }
 
 // The largest u8 stands for each larger number.
-pub fn small(s: &[u8], i: usize) -> u8 {
-    let w = word(s, i);
+pub fn small(bytes: &[u8], i: usize) -> u8 {
+    let w = word(bytes, i);
     if w < 256 {
         return w as u8;
     }
@@ -41,8 +41,8 @@ pub fn small(s: &[u8], i: usize) -> u8 {
 }
 
 // The largest u16 stands for each larger number.
-pub fn medium(s: &[u8], i: usize) -> u16 {
-    let w = word(s, i);
+pub fn medium(bytes: &[u8], i: usize) -> u16 {
+    let w = word(bytes, i);
     if w < 65536 {
         return w as u16;
     }
@@ -50,96 +50,96 @@ pub fn medium(s: &[u8], i: usize) -> u16 {
 }
 
 // The n numbers from word `at` on, and 0 above them.
-pub fn numbers(s: &[u8], at: usize, n: usize) -> [f64; 64]
+pub fn numbers(bytes: &[u8], at: usize, n: usize) -> [f64; 64]
     requires { ⌜ (at ≤ 512) × (n ≤ 64) ⌝ }
 {
     let mut xs = [0.0; 64];
     for k in 0..n {
-        xs[k] = number(s, at + k);
+        xs[k] = number(bytes, at + k);
     }
     xs
 }
 
-pub fn word_is(s: &[u8], i: usize, x: u64) -> bool {
-    word(s, i) == x
+pub fn word_is(bytes: &[u8], i: usize, x: u64) -> bool {
+    word(bytes, i) == x
 }
 
-pub fn flag_is(s: &[u8], i: usize, x: bool) -> bool {
+pub fn flag_is(bytes: &[u8], i: usize, x: bool) -> bool {
     if x {
-        word_is(s, i, 1)
+        word_is(bytes, i, 1)
     } else {
-        word_is(s, i, 0)
+        word_is(bytes, i, 0)
     }
 }
 
 // All 64 bits agree. A NaN agrees with each NaN.
-pub fn number_is(s: &[u8], i: usize, x: f64) -> bool {
-    codec::bits_of(x) == codec::bits_of(number(s, i))
+pub fn number_is(bytes: &[u8], i: usize, x: f64) -> bool {
+    codec::bits_of(x) == codec::bits_of(number(bytes, i))
 }
 
 // A mark and a value.
-pub fn marked_is(s: &[u8], i: usize, mark: u64, x: f64) -> bool
+pub fn marked_is(bytes: &[u8], i: usize, mark: u64, x: f64) -> bool
     requires { ⌜ i ≤ 1024 ⌝ }
 {
-    logic::both(word_is(s, i, mark), number_is(s, i + 1, x))
+    logic::both(word_is(bytes, i, mark), number_is(bytes, i + 1, x))
 }
 
 // A mark and a value; both 0 where the logarithm is refused.
-pub fn log_is(s: &[u8], i: usize, log: Log) -> bool
+pub fn log_is(bytes: &[u8], i: usize, log: Log) -> bool
     requires { ⌜ i ≤ 512 ⌝ }
 {
     match log {
-        Log::Value(x) => marked_is(s, i, 1, x),
-        Log::Refused => marked_is(s, i, 0, 0.0),
+        Log::Value(x) => marked_is(bytes, i, 1, x),
+        Log::Refused => marked_is(bytes, i, 0, 0.0),
     }
 }
 
-pub fn three_are(s: &[u8], i: usize, x: f64, y: f64, z: f64) -> bool
+pub fn three_are(bytes: &[u8], i: usize, x: f64, y: f64, z: f64) -> bool
     requires { ⌜ i ≤ 512 ⌝ }
 {
     logic::all_three(
-        number_is(s, i, x),
-        number_is(s, i + 1, y),
-        number_is(s, i + 2, z),
+        number_is(bytes, i, x),
+        number_is(bytes, i + 1, y),
+        number_is(bytes, i + 2, z),
     )
 }
 
 // The record ends with word i, and that is x.
-pub fn ends_with(s: &[u8], i: usize, x: f64) -> bool
+pub fn ends_with(bytes: &[u8], i: usize, x: f64) -> bool
     requires { ⌜ i ≤ 512 ⌝ }
 {
-    logic::both(has(s, i + 1), number_is(s, i, x))
+    logic::both(has(bytes, i + 1), number_is(bytes, i, x))
 }
 
 // The n words from `at` on are the first n of xs.
-pub fn numbers_are(s: &[u8], at: usize, xs: [f64; 64], n: usize) -> bool
+pub fn numbers_are(bytes: &[u8], at: usize, xs: [f64; 64], n: usize) -> bool
     requires { ⌜ (at ≤ 512) × (n ≤ 64) ⌝ }
 {
     let mut same = true;
     for k in 0..n {
-        same = logic::both(same, number_is(s, at + k, xs[k]));
+        same = logic::both(same, number_is(bytes, at + k, xs[k]));
     }
     same
 }
 
 // All words of a record that is not longer than s, from the first on.
-pub fn set(s: &mut [u8], record: &[u8]) {
-    if record.len() <= s.len() {
-        codec::put_bytes(s, 0, record);
+pub fn set(bytes: &mut [u8], record: &[u8]) {
+    if record.len() <= bytes.len() {
+        codec::put_bytes(bytes, 0, record);
     }
 }
 
-pub fn set_number(s: &mut [u8], i: usize, x: f64) {
-    if i < s.len() / 8 {
-        codec::put_f64(s, 8 * i, x);
+pub fn set_number(bytes: &mut [u8], i: usize, x: f64) {
+    if i < bytes.len() / 8 {
+        codec::put_f64(bytes, 8 * i, x);
     }
 }
 
 // The first n of xs, from word `at` on.
-pub fn set_numbers(s: &mut [u8], at: usize, xs: [f64; 64], n: usize)
+pub fn set_numbers(bytes: &mut [u8], at: usize, xs: [f64; 64], n: usize)
     requires { ⌜ (at ≤ 512) × (n ≤ 64) ⌝ }
 {
     for k in 0..n {
-        set_number(s, at + k, xs[k]);
+        set_number(bytes, at + k, xs[k]);
     }
 }

@@ -15,10 +15,10 @@ pub struct Charged {
 }
 
 // The energy charged so far and the heat q, counted in kilowatt-hours.
-fn counted(charged: KilowattHours, q: Kilojoules) -> KilowattHours
-    ensures { λ r. ⌜ r ≡ countedOf charged q ⌝ }
+fn counted(charged: KilowattHours, energy: Kilojoules) -> KilowattHours
+    ensures { λ r. ⌜ r ≡ countedOf charged energy ⌝ }
 {
-    let more = q.kilowatt_hours();
+    let more = energy.kilowatt_hours();
     KilowattHours(charged.0 + more.0)
 }
 
@@ -26,14 +26,14 @@ fn counted(charged: KilowattHours, q: Kilojoules) -> KilowattHours
 fn charging_withdrawn(
     required: Kilojoules,
     left: Kilojoules,
-    e: Kilojoules,
+    energy: Kilojoules,
     charged: KilowattHours,
 ) -> Charged
-    ensures { λ r. ⌜ r ≡ chargingWithdrawn required left e charged ⌝ }
+    ensures { λ r. ⌜ r ≡ chargingWithdrawn required left energy charged ⌝ }
 {
-    if -left.0 >= e.0 {
-        let rest = left.0 + e.0;
-        let recovered = counted(charged, e);
+    if -left.0 >= energy.0 {
+        let rest = left.0 + energy.0;
+        let recovered = counted(charged, energy);
         if rest > required.0 {
             let all = counted(recovered, Kilojoules(-rest));
             return Charged {
@@ -53,7 +53,7 @@ fn charging_withdrawn(
     Charged {
         left: Kilojoules(0.0),
         charged: part,
-        heat: Kilojoules(e.0 + left.0),
+        heat: Kilojoules(energy.0 + left.0),
     }
 }
 
@@ -61,23 +61,23 @@ fn charging_withdrawn(
 fn charging_added(
     required: Kilojoules,
     left: Kilojoules,
-    e: Kilojoules,
+    energy: Kilojoules,
     charged: KilowattHours,
 ) -> Charged
-    ensures { λ r. ⌜ r ≡ chargingAdded required left e charged ⌝ }
+    ensures { λ r. ⌜ r ≡ chargingAdded required left energy charged ⌝ }
 {
-    if left.0 + e.0 > required.0 {
+    if left.0 + energy.0 > required.0 {
         let all = counted(charged, Kilojoules(-left.0));
         return Charged {
             left: Kilojoules(0.0),
             charged: all,
-            heat: Kilojoules(left.0 + e.0),
+            heat: Kilojoules(left.0 + energy.0),
         };
     }
-    if e.0 >= required.0 {
-        let some = counted(charged, Kilojoules(-(required.0 - e.0)));
+    if energy.0 >= required.0 {
+        let some = counted(charged, Kilojoules(-(required.0 - energy.0)));
         return Charged {
-            left: Kilojoules(left.0 - (required.0 - e.0)),
+            left: Kilojoules(left.0 - (required.0 - energy.0)),
             charged: some,
             heat: required,
         };
@@ -85,19 +85,19 @@ fn charging_added(
     Charged {
         left,
         charged,
-        heat: e,
+        heat: energy,
     }
 }
 
 // A zone at its target or above.
-fn charging_full(left: Kilojoules, e: Kilojoules, charged: KilowattHours) -> Charged
-    ensures { λ r. ⌜ r ≡ chargingFull left e charged ⌝ }
+fn charging_full(left: Kilojoules, energy: Kilojoules, charged: KilowattHours) -> Charged
+    ensures { λ r. ⌜ r ≡ chargingFull left energy charged ⌝ }
 {
-    if e.0 >= 0.0 {
-        if -left.0 > e.0 {
-            let recovered = counted(charged, e);
+    if energy.0 >= 0.0 {
+        if -left.0 > energy.0 {
+            let recovered = counted(charged, energy);
             return Charged {
-                left: Kilojoules(left.0 + e.0),
+                left: Kilojoules(left.0 + energy.0),
                 charged: recovered,
                 heat: Kilojoules(0.0),
             };
@@ -106,13 +106,13 @@ fn charging_full(left: Kilojoules, e: Kilojoules, charged: KilowattHours) -> Cha
         return Charged {
             left: Kilojoules(0.0),
             charged: part,
-            heat: Kilojoules(e.0 + left.0),
+            heat: Kilojoules(energy.0 + left.0),
         };
     }
     Charged {
         left,
         charged,
-        heat: e,
+        heat: energy,
     }
 }
 
@@ -121,19 +121,19 @@ pub fn process_zone_simultaneous_charging(
     zone: f64,
     target: f64,
     left: Kilojoules,
-    e: Kilojoules,
+    energy: Kilojoules,
     charged: KilowattHours,
 ) -> Charged
-    ensures { λ r. ⌜ r ≡ zoneSimultaneousCharging salt zone target left e charged ⌝ }
+    ensures { λ r. ⌜ r ≡ zoneSimultaneousCharging salt zone target left energy charged ⌝ }
 {
     if zone < target {
         let required = zone::layer::calculate_zone_energy_required(salt, zone, target);
-        if e.0 >= 0.0 {
-            return charging_withdrawn(required, left, e, charged);
+        if energy.0 >= 0.0 {
+            return charging_withdrawn(required, left, energy, charged);
         }
-        return charging_added(required, left, e, charged);
+        return charging_added(required, left, energy, charged);
     }
-    charging_full(left, e, charged)
+    charging_full(left, energy, charged)
 }
 
 // The same in charging alone, where no water runs: short enough to be compiled in place in a loop of its own.

@@ -3,14 +3,14 @@ use Rattle.audit_report.proofs.Texts.{says-accepted, says-refused}
 use Rattle.audit_report.proofs.put_verdict.Statement.{statement}
 use Rattle.audit_report.proofs.put_verdict.Tie as tie
 
-enum-known-v : tie.Need-enum-known-v
-enum-known-v c = search needs
+enum-known-verdict : tie.Need-enum-known-verdict
+enum-known-verdict c = search needs
 
 put-accepted-requires : tie.Need-put-accepted-requires
 put-accepted-requires c κs = search needs
 
-enum-known-v-2 : tie.Need-enum-known-v-2
-enum-known-v-2 c = search needs
+enum-known-verdict-2 : tie.Need-enum-known-verdict-2
+enum-known-verdict-2 c = search needs
 
 cast-put-refused : tie.Need-cast-put-refused
 cast-put-refused c = search needs
@@ -22,21 +22,21 @@ same-length : tie.Need-same-length
 same-length c = search needs
 
 returns : tie.Need-returns
-returns c = says-accepted (c .before .before .before .before .before .before .before .before .args .v) _ _ _ _ (c .before .before .before .before .before .v .given .1) (c .before .before .put-accepted .ensures)
+returns c = says-accepted (c .before .before .before .before .before .before .before .before .args .verdict) _ _ _ _ (c .before .before .before .before .before .verdict .given .1) (c .before .before .put-accepted .ensures)
 
 same-length-2 : tie.Need-same-length-2
 same-length-2 c = search needs
 
 returns-2 : tie.Need-returns-2
-returns-2 c = says-refused (c .before .before .before .before .before .before .before .before .args .v) _ _ _ _ _ (c .before .before .before .before .before .v2 .given .1) (c .before .before .put-refused .ensures)
+returns-2 c = says-refused (c .before .before .before .before .before .before .before .before .args .verdict) _ _ _ _ _ (c .before .before .before .before .before .verdict2 .given .1) (c .before .before .put-refused .ensures)
 
 pub put-verdict-spec : {M : Type 1} → statement M
 put-verdict-spec =
     tie.close
     (tie.spec
-    enum-known-v
+    enum-known-verdict
     put-accepted-requires
-    enum-known-v-2
+    enum-known-verdict-2
     cast-put-refused
     put-refused-requires
     same-length

@@ -11,7 +11,7 @@ returns : tie.Need-returns
 returns c = search needs
 
 returns-2 : tie.Need-returns-2
-returns-2 c = sym (List·getD-eq-default (c .before .args .s .now) 0 (c .if1 .left))
+returns-2 c = sym (List·getD-eq-default (c .before .args .bytes .now) 0 (c .if1 .left))
 
 pub byte-or-zero-spec : {M : Type 1} → statement M
 byte-or-zero-spec = tie.close (tie.spec shared-slice-read-result returns returns-2)

@@ -29,14 +29,14 @@ loop-holds c = (omega arith, refl, refl)
 sub-i : tie.Need-sub-i Inv-loop μ-loop
 sub-i c = omega arith
 
-cast-s : tie.Need-cast-s Inv-loop μ-loop
-cast-s c = omega arith
+cast-bytes : tie.Need-cast-bytes Inv-loop μ-loop
+cast-bytes c = omega arith
 
-add-s : tie.Need-add-s Inv-loop μ-loop
-add-s c = omega arith
+add-bytes : tie.Need-add-bytes Inv-loop μ-loop
+add-bytes c = omega arith
 
-slice-write-s : tie.Need-slice-write-s Inv-loop μ-loop
-slice-write-s c = omega arith
+slice-write-bytes : tie.Need-slice-write-bytes Inv-loop μ-loop
+slice-write-bytes c = omega arith
 
 loop-less : tie.Need-loop-less Inv-loop μ-loop
 loop-less c = omega arith
@@ -44,7 +44,7 @@ loop-less c = omega arith
 loop-again : tie.Need-loop-again Inv-loop μ-loop
 loop-again c =
     let l = c .before .loop in
-    (omega arith, (simp length-set (l .inv .1)), (l .inv .2 ∙ turn (l .s) (c .before .before .args .at) (l .y) (l .i) (omega arith)))
+    (omega arith, (simp length-set (l .inv .1)), (l .inv .2 ∙ turn (l .bytes) (c .before .before .args .at) (l .y) (l .i) (omega arith)))
 
 add-result : tie.Need-add-result Inv-loop μ-loop
 add-result c = omega arith
@@ -57,7 +57,7 @@ unfolding beBytes
 returns c =
     let l = c .before .loop in
     let z : l .i ≡ 0 = omega arith in
-    (refl, sym (l .inv .2 ∙ ap (λ (n : ℕ). sets (l .s) (c .before .before .args .at) (beBytes n (l .y))) z))
+    (refl, sym (l .inv .2 ∙ ap (λ (n : ℕ). sets (l .bytes) (c .before .before .args .at) (beBytes n (l .y))) z))
 
 pub put-be-spec : {M : Type 1} → statement M
 put-be-spec =
@@ -67,9 +67,9 @@ put-be-spec =
     μ-loop
     loop-holds
     sub-i
-    cast-s
-    add-s
-    slice-write-s
+    cast-bytes
+    add-bytes
+    slice-write-bytes
     loop-less
     loop-again
     add-result

@@ -17,14 +17,14 @@ abbrev μ-loop : tie.MeasureT-loop
 loop-holds : tie.Need-loop-holds Inv-loop μ-loop
 loop-holds c = (omega arith, refl, refl)
 
-shared-slice-read-s : tie.Need-shared-slice-read-s Inv-loop μ-loop
-shared-slice-read-s c = omega arith
+shared-slice-read-bytes : tie.Need-shared-slice-read-bytes Inv-loop μ-loop
+shared-slice-read-bytes c = omega arith
 
-add-s : tie.Need-add-s Inv-loop μ-loop
-add-s c = omega arith
+add-bytes : tie.Need-add-bytes Inv-loop μ-loop
+add-bytes c = omega arith
 
-slice-write-s : tie.Need-slice-write-s Inv-loop μ-loop
-slice-write-s c = omega arith
+slice-write-bytes : tie.Need-slice-write-bytes Inv-loop μ-loop
+slice-write-bytes c = omega arith
 
 add-i : tie.Need-add-i Inv-loop μ-loop
 add-i c = omega arith
@@ -42,7 +42,7 @@ same-length : tie.Need-same-length Inv-loop μ-loop
 same-length c = c .before .loop .inv .1
 
 returns : tie.Need-returns Inv-loop μ-loop
-returns c = let e : c .before .loop .i ≡ length (c .before .before .args .src .now) = omega arith in let t : take (c .before .loop .i) (c .before .before .args .src .now) ≡ c .before .before .args .src .now = rw e (take-length (c .before .before .args .src .now)) in (omega arith, c .before .loop .inv .2 ∙ ap (sets (c .before .before .args .s .now) (c .before .before .args .at)) t)
+returns c = let e : c .before .loop .i ≡ length (c .before .before .args .src .now) = omega arith in let t : take (c .before .loop .i) (c .before .before .args .src .now) ≡ c .before .before .args .src .now = rw e (take-length (c .before .before .args .src .now)) in (omega arith, c .before .loop .inv .2 ∙ ap (sets (c .before .before .args .bytes .now) (c .before .before .args .at)) t)
 
 pub put-bytes-spec : {M : Type 1} → statement M
 put-bytes-spec =
@@ -51,9 +51,9 @@ put-bytes-spec =
     Inv-loop
     μ-loop
     loop-holds
-    shared-slice-read-s
-    add-s
-    slice-write-s
+    shared-slice-read-bytes
+    add-bytes
+    slice-write-bytes
     add-i
     loop-less
     loop-again

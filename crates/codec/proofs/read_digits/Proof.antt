@@ -81,7 +81,7 @@ loop-again c =
     let a = c .before .before .before .before .before .args in (
       omega arith,
       more c .0,
-      l .inv .2 ∙ turn (a .s .now) (a .at) (a .w) (l .x) (l .i) (omega arith) (omega arith)
+      l .inv .2 ∙ turn (a .bytes .now) (a .at) (a .w) (l .x) (l .i) (omega arith) (omega arith)
           ∙ rw (← c .wide .ensures),
     )
 

@@ -56,7 +56,7 @@ enter-requires c κs =
     let r = c .before .before .before .before .before .before .before .before .before .before .before in
     let rec = r .args .«record» .now in
     let l = record-laid (r .args .version) rec (r .pre .0) in
-    let e = answer-card (r .args .version) rec (r .args .b) (c .before .before .advance .result) _ (r .pre .1) (c .before .before .advance .ensures) in (
+    let e = answer-card (r .args .version) rec (r .args .battery) (c .before .before .advance .result) _ (r .pre .1) (c .before .before .advance .ensures) in (
       rw e (accepted-layers (r .args .version) (cardAt (r .args .version) rec) (l .card-accepted) .1),
       read-short (r .args .version) (r .args .call .now) _ (sym (read-by-kind (r .args .version) (r .args .call .now) _ _ (c .before .before .before .before .before .before .before .kind-of .ensures) (c .before .before .before .before .before .before .call-by .ensures)) ∙ c .before .before .before .before .read .given .1),
       rw e (l .long),
@@ -78,7 +78,7 @@ returns-2 : tie.Need-returns-2
 unfolding entryRead
 returns-2 c =
     let r = c .before .before .before .before .before .before .before .before .before .before .before .before .before .before .before .before in
-    rw (← (read-by-kind (r .args .version) (r .args .call .now) _ _ (c .before .before .before .before .before .before .before .before .before .before .before .before .kind-of .ensures) (c .before .before .before .before .before .before .before .before .before .before .before .call-by .ensures)), c .before .before .before .before .before .before .before .before .before .read .given .1, ← (answer-is (r .args .version) (r .args .«record» .now) (r .args .b) (c .before .before .before .before .before .before .before .advance .result) _ (r .pre .1) (c .before .before .before .before .before .before .before .advance .ensures)))
+    rw (← (read-by-kind (r .args .version) (r .args .call .now) _ _ (c .before .before .before .before .before .before .before .before .before .before .before .before .kind-of .ensures) (c .before .before .before .before .before .before .before .before .before .before .before .call-by .ensures)), c .before .before .before .before .before .before .before .before .before .read .given .1, ← (answer-is (r .args .version) (r .args .«record» .now) (r .args .battery) (c .before .before .before .before .before .before .before .advance .result) _ (r .pre .1) (c .before .before .before .before .before .before .before .advance .ensures)))
     (c .before .before .before .before .enter .ensures)
 
 pub advance-spec : {M : Type 1} → statement M

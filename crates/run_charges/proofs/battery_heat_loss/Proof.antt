@@ -27,7 +27,7 @@ returns : tie.Need-returns
 unfolding batteryHeatLoss
 returns c =
     let b = c .before .before .before .before .before .before .before in
-    rw (← (salts-at _ _ _ (b .pre .1 .1)), ← (c .before .before .before .before .derived .ensures), ← (c .before .before .before .loss-input .ensures)) (one-substep (lossEnded (b .args .l)) _ _ _ _ _ _ _ _ (c .before .lose-in-place .ensures) (c .loss-ended .ensures))
+    rw (← (salts-at _ _ _ (b .pre .1 .1)), ← (c .before .before .before .before .derived .ensures), ← (c .before .before .before .loss-input .ensures)) (one-substep (lossEnded (b .args .ledger)) _ _ _ _ _ _ _ _ (c .before .lose-in-place .ensures) (c .loss-ended .ensures))
 
 pub battery-heat-loss-spec : {M : Type 1} → statement M
 battery-heat-loss-spec =

@@ -24,7 +24,7 @@ returns : tie.Need-returns
 unfolding chargeElectric
 returns c =
     let b = c .before .before .before .before .before .before .before in
-    rw (← (salts-at _ _ _ (b .pre .1 .1)), ← (c .before .before .before .before .derived .ensures), ← (c .before .before .before .electric-input .ensures)) (one-substep (electricEnded (b .args .l)) _ _ _ _ _ _ _ _ (c .before .charge-in-place .ensures) (c .electric-ended .ensures))
+    rw (← (salts-at _ _ _ (b .pre .1 .1)), ← (c .before .before .before .before .derived .ensures), ← (c .before .before .before .electric-input .ensures)) (one-substep (electricEnded (b .args .ledger)) _ _ _ _ _ _ _ _ (c .before .charge-in-place .ensures) (c .electric-ended .ensures))
 
 pub charge-battery-electric-spec : {M : Type 1} → statement M
 charge-battery-electric-spec =

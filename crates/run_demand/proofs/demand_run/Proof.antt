@@ -39,7 +39,7 @@ loop-less c = search needs
 loop-again : tie.Need-loop-again Inv-loop μ-loop
 loop-again c =
     let l = c .before .before .before .before .before .before .before .before .loop in
-    (omega arith, run-on (c .before .before .before .before .before .before .before .before .before .before .args .x) _ _ _ _ _ _ (l .inv .0) (c .before .before .before .before .before .if2 .left) (c .before .before .before .before .before .before .if1 .left) (c .before .before .before .demand-substep .ensures) (c .enum-told .given .1) ∙ l .inv .1)
+    (omega arith, run-on (c .before .before .before .before .before .before .before .before .before .before .args .task) _ _ _ _ _ _ (l .inv .0) (c .before .before .before .before .before .if2 .left) (c .before .before .before .before .before .before .if1 .left) (c .before .before .before .demand-substep .ensures) (c .enum-told .given .1) ∙ l .inv .1)
 
 returns : tie.Need-returns Inv-loop μ-loop
 returns c = (as-defined _ _ _ _ (demand-no-step _ _ _ _ _ (c .if1 .taken) ∙ c .before .before .loop .inv .1), omega arith)
@@ -50,7 +50,7 @@ returns-2 c = (as-defined _ _ _ _ (demand-over-budget _ _ _ _ _ (c .if2 .taken) 
 returns-3 : tie.Need-returns-3 Inv-loop μ-loop
 returns-3 c =
     let l = c .before .before .before .before .before .before .before .before .before .loop in
-    (run-stops (c .before .before .before .before .before .before .before .before .before .before .before .args .x) _ _ _ _ _ _ (l .inv .0) (c .before .before .before .before .before .before .if2 .left) (c .before .before .before .before .before .before .before .if1 .left) (c .before .before .before .before .demand-substep .ensures) _ _ (c .before .next .given .1) (l .inv .1), omega arith)
+    (run-stops (c .before .before .before .before .before .before .before .before .before .before .before .args .task) _ _ _ _ _ _ (l .inv .0) (c .before .before .before .before .before .before .if2 .left) (c .before .before .before .before .before .before .before .if1 .left) (c .before .before .before .before .demand-substep .ensures) _ _ (c .before .next .given .1) (l .inv .1), omega arith)
 
 pub demand-run-spec : {M : Type 1} → statement M
 demand-run-spec =

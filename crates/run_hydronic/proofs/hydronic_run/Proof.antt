@@ -40,7 +40,7 @@ enum-told c = search needs
 
 took : (c : tie.After-enum-told Inv-loop μ-loop) → c .before .before .before .hydronic-step .result .substeps ≡ c .before .before .before .before .before .before .before .loop .substeps + 1
 took c =
-    wet-took (c .before .before .before .before .before .before .before .before .before .before .before .args .x) _ _ _ _ (c .before .before .before .before .before .before .before .loop .inv .0) (c .before .before .before .before .before .before .if1 .left) _ _ (c .before .before .before .before .before .if2 .left) (c .before .before .before .hydronic-step .ensures) (c .enum-told .given .1)
+    wet-took (c .before .before .before .before .before .before .before .before .before .before .before .args .task) _ _ _ _ (c .before .before .before .before .before .before .before .loop .inv .0) (c .before .before .before .before .before .before .if1 .left) _ _ (c .before .before .before .before .before .if2 .left) (c .before .before .before .hydronic-step .ensures) (c .enum-told .given .1)
 
 loop-less : tie.Need-loop-less Inv-loop μ-loop
 loop-less c = let n = took c in omega arith
@@ -48,7 +48,7 @@ loop-less c = let n = took c in omega arith
 loop-again : tie.Need-loop-again Inv-loop μ-loop
 loop-again c =
     let n = took c in
-    (omega arith, omega arith, wet-on (c .before .before .before .before .before .before .before .before .before .before .before .args .x) _ _ _ _ (c .before .before .before .before .before .before .before .loop .inv .0) (c .before .before .before .before .before .before .if1 .left) _ _ (c .before .before .before .before .before .if2 .left) (c .before .before .before .hydronic-step .ensures) (c .enum-told .given .1) ∙ c .before .before .before .before .before .before .before .loop .inv .2)
+    (omega arith, omega arith, wet-on (c .before .before .before .before .before .before .before .before .before .before .before .args .task) _ _ _ _ (c .before .before .before .before .before .before .before .loop .inv .0) (c .before .before .before .before .before .before .if1 .left) _ _ (c .before .before .before .before .before .if2 .left) (c .before .before .before .hydronic-step .ensures) (c .enum-told .given .1) ∙ c .before .before .before .before .before .before .before .loop .inv .2)
 
 returns : tie.Need-returns Inv-loop μ-loop
 returns c = as-defined _ _ _ _ (hydronic-time _ _ _ _ _ (c .if1 .taken) ∙ c .before .loop .inv .2)
@@ -58,7 +58,7 @@ returns-2 c = as-defined _ _ _ _ (hydronic-over-budget _ _ _ _ _ (c .before .bef
 
 returns-3 : tie.Need-returns-3 Inv-loop μ-loop
 returns-3 c =
-    wet-stop (c .before .before .before .before .before .before .before .before .before .before .before .before .args .x) _ _ _ _ (c .before .before .before .before .before .before .before .before .loop .inv .0) (c .before .before .before .before .before .before .before .if1 .left) _ _ (c .before .before .before .before .before .before .if2 .left) (c .before .before .before .before .hydronic-step .ensures) _ _ (c .before .next .given .1) (c .before .before .before .before .before .before .before .before .loop .inv .2)
+    wet-stop (c .before .before .before .before .before .before .before .before .before .before .before .before .args .task) _ _ _ _ (c .before .before .before .before .before .before .before .before .loop .inv .0) (c .before .before .before .before .before .before .before .if1 .left) _ _ (c .before .before .before .before .before .before .if2 .left) (c .before .before .before .before .hydronic-step .ensures) _ _ (c .before .next .given .1) (c .before .before .before .before .before .before .before .before .loop .inv .2)
 
 pub hydronic-run-spec : {M : Type 1} → statement M
 hydronic-run-spec =

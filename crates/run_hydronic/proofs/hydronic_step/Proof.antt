@@ -42,15 +42,15 @@ add-t22 c = search needs
 
 returns : tie.Need-returns
 unfolding hydronicBy
-returns c = hydronic-turn (c .before .before .before .before .before .before .before .before .before .before .before .args .x) _ _ _ _ _ _ _ _ _ (c .before .before .before .before .process-in-place .ensures) (c .before .before .enum-told .given .1) _ (c .before .before .before .before .before .before .before .before .wet-input .ensures) (c .hydronic-whole .ensures)
+returns c = hydronic-turn (c .before .before .before .before .before .before .before .before .before .before .before .args .task) _ _ _ _ _ _ _ _ _ (c .before .before .before .before .process-in-place .ensures) (c .before .before .enum-told .given .1) _ (c .before .before .before .before .before .before .before .before .wet-input .ensures) (c .hydronic-whole .ensures)
 
 returns-2 : tie.Need-returns-2
 unfolding hydronicBy
-returns-2 c = hydronic-turn (c .before .before .before .before .before .before .before .before .before .args .x) _ _ _ _ _ _ _ _ _ (c .before .before .process-in-place .ensures) (c .enum-told2 .given .1) _ (c .before .before .before .before .before .before .wet-input .ensures) (refl, λ h. absurd (log-refused h))
+returns-2 c = hydronic-turn (c .before .before .before .before .before .before .before .before .before .args .task) _ _ _ _ _ _ _ _ _ (c .before .before .process-in-place .ensures) (c .enum-told2 .given .1) _ (c .before .before .before .before .before .before .wet-input .ensures) (refl, λ h. absurd (log-refused h))
 
 returns-3 : tie.Need-returns-3
 unfolding hydronicBy
-returns-3 c = hydronic-turn (c .before .before .before .before .before .before .before .before .before .args .x) _ _ _ _ _ _ _ _ _ (c .before .before .process-in-place .ensures) (c .enum-told3 .given .1) _ (c .before .before .before .before .before .before .wet-input .ensures) (refl, λ h. absurd (finite-refused h))
+returns-3 c = hydronic-turn (c .before .before .before .before .before .before .before .before .before .args .task) _ _ _ _ _ _ _ _ _ (c .before .before .process-in-place .ensures) (c .enum-told3 .given .1) _ (c .before .before .before .before .before .before .wet-input .ensures) (refl, λ h. absurd (finite-refused h))
 
 pub hydronic-step-spec : {M : Type 1} → statement M
 hydronic-step-spec =

@@ -22,16 +22,16 @@ replayed-requires : tie.Need-replayed-requires
 replayed-requires c κs = search needs
 
 returns : tie.Need-returns
-returns c = subst (AsDefined _ _ _) (whole-replayed (c .before .before .before .before .before .before .before .before .before .before .before .before .before .before .before .before .before .before .args .x) _ _ _ _ _ _ (c .before .before .before .before .before .before .before .before .before .before .before .before .before .before .reynold-between .ensures) (c .before .before .before .before .before .before .before .before .clearly-below .ensures) (c .before .before .before .before .before .before .before .if1 .taken) _ (c .before .before .before .before .before .before .limit-reached .ensures) (c .before .before .before .before .before .if2 .taken) _ (c .before .before .before .if3 .taken) (c .before .before .fraction-seconds .ensures)) (c .replayed .ensures)
+returns c = subst (AsDefined _ _ _) (whole-replayed (c .before .before .before .before .before .before .before .before .before .before .before .before .before .before .before .before .before .before .args .task) _ _ _ _ _ _ (c .before .before .before .before .before .before .before .before .before .before .before .before .before .before .reynold-between .ensures) (c .before .before .before .before .before .before .before .before .clearly-below .ensures) (c .before .before .before .before .before .before .before .if1 .taken) _ (c .before .before .before .before .before .before .limit-reached .ensures) (c .before .before .before .before .before .if2 .taken) _ (c .before .before .before .if3 .taken) (c .before .before .fraction-seconds .ensures)) (c .replayed .ensures)
 
 returns-2 : tie.Need-returns-2
-returns-2 c = as-defined _ _ _ _ (whole-limit (c .before .before .before .before .before .before .before .before .before .before .before .before .before .before .before .args .x) _ _ _ _ _ _ (c .before .before .before .before .before .before .before .before .before .before .before .reynold-between .ensures) (c .before .before .before .before .before .clearly-below .ensures) (c .before .before .before .before .if1 .taken) _ (c .before .before .before .limit-reached .ensures) (c .before .before .if2 .taken) (c .if3 .left))
+returns-2 c = as-defined _ _ _ _ (whole-limit (c .before .before .before .before .before .before .before .before .before .before .before .before .before .before .before .args .task) _ _ _ _ _ _ (c .before .before .before .before .before .before .before .before .before .before .before .reynold-between .ensures) (c .before .before .before .before .before .clearly-below .ensures) (c .before .before .before .before .if1 .taken) _ (c .before .before .before .limit-reached .ensures) (c .before .before .if2 .taken) (c .if3 .left))
 
 returns-3 : tie.Need-returns-3
-returns-3 c = as-defined _ _ _ _ (whole-on (c .before .before .before .before .before .before .before .before .before .before .before .before .before .args .x) _ _ _ _ _ _ (c .before .before .before .before .before .before .before .before .before .reynold-between .ensures) (c .before .before .before .clearly-below .ensures) (c .before .before .if1 .taken) _ (c .before .limit-reached .ensures) (c .if2 .left))
+returns-3 c = as-defined _ _ _ _ (whole-on (c .before .before .before .before .before .before .before .before .before .before .before .before .before .args .task) _ _ _ _ _ _ (c .before .before .before .before .before .before .before .before .before .reynold-between .ensures) (c .before .before .before .clearly-below .ensures) (c .before .before .if1 .taken) _ (c .before .limit-reached .ensures) (c .if2 .left))
 
 returns-4 : tie.Need-returns-4
-returns-4 c = as-defined _ _ _ _ (whole-level (c .before .before .before .before .before .before .before .before .before .before .before .before .args .x) _ _ _ _ _ _ (c .before .before .before .before .before .before .before .before .reynold-between .ensures) (c .before .before .clearly-below .ensures) (c .before .if1 .left))
+returns-4 c = as-defined _ _ _ _ (whole-level (c .before .before .before .before .before .before .before .before .before .before .before .before .args .task) _ _ _ _ _ _ (c .before .before .before .before .before .before .before .before .reynold-between .ensures) (c .before .before .clearly-below .ensures) (c .before .if1 .left))
 
 pub hydronic-whole-spec : {M : Type 1} → statement M
 hydronic-whole-spec =

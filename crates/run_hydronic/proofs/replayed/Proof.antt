@@ -35,7 +35,7 @@ replay-by-requires c κs = search needs
 
 returns-2 : tie.Need-returns-2
 returns-2 c =
-    replayed-turn (c .before .before .before .before .before .before .before .before .before .args .x) _ _ _ _ _ _ _ _ _ (c .before .process-in-place .ensures) refl _ _ (c .before .before .before .before .before .if1 .left) (c .before .before .before .before .wet-input .ensures) (c .replay-by .ensures _ _)
+    replayed-turn (c .before .before .before .before .before .before .before .before .before .args .task) _ _ _ _ _ _ _ _ _ (c .before .process-in-place .ensures) refl _ _ (c .before .before .before .before .before .if1 .left) (c .before .before .before .before .wet-input .ensures) (c .replay-by .ensures _ _)
 
 pub replayed-spec : {M : Type 1} → statement M
 replayed-spec =

@@ -20,8 +20,8 @@ unfolding recordBytes
 returns c =
     let a = c .before .before .before .before .before .before .before .before .before .before .args in
     let w1 = then-sized (a .card .now) refl (nothing-written (a .bytes .now) 0) (c .before .before .before .before .before .before .put-bytes .ensures) in
-    let w2 = then-sized (stateBytes (a .version) (a .b)) (length-stateBytes _ _) w1 (c .before .before .put-state .ensures) in
-    written-whole w2 (length-recordBytes (a .version) (a .card .now) (a .b) ∙ sym (c .before .before .before .before .before .before .before .before .before .before .pre .1))
+    let w2 = then-sized (stateBytes (a .version) (a .battery)) (length-stateBytes _ _) w1 (c .before .before .put-state .ensures) in
+    written-whole w2 (length-recordBytes (a .version) (a .card .now) (a .battery) ∙ sym (c .before .before .before .before .before .before .before .before .before .before .pre .1))
 
 pub put-record-spec : {M : Type 1} → statement M
 put-record-spec = tie.close (tie.spec put-bytes-requires put-state-requires same-length returns)

@@ -23,9 +23,9 @@ returns : tie.Need-returns
 unfolding stateBytes
 returns c =
     let a = c .before .before .before .before .before .before .before .before .before .before .before .args in
-    let w1 = then-sized (zonesBytes (a .b .zones) (a .b .card .layers)) (length-zonesBytes _ _) (nothing-written (a .s .now) (a .at)) (c .before .before .before .before .before .before .put-zones .ensures) in
-    let w2 = then-sized (totalsBytes (a .b)) (length-totalsBytes _) w1 (c .before .before .put-totals .ensures) in
-    written w2 (unfold stateBytes in length-stateBytes (a .version) (a .b))
+    let w1 = then-sized (zonesBytes (a .battery .zones) (a .battery .card .layers)) (length-zonesBytes _ _) (nothing-written (a .bytes .now) (a .at)) (c .before .before .before .before .before .before .put-zones .ensures) in
+    let w2 = then-sized (totalsBytes (a .battery)) (length-totalsBytes _) w1 (c .before .before .put-totals .ensures) in
+    written w2 (unfold stateBytes in length-stateBytes (a .version) (a .battery))
 
 pub put-state-spec : {M : Type 1} → statement M
 put-state-spec =

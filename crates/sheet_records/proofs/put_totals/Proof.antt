@@ -27,12 +27,12 @@ returns : tie.Need-returns
 unfolding totalsBytes
 returns c =
     let a = c .before .before .before .before .before .before .before .before .before .before .before .before .before .before .before .before .before .before .before .before .before .args in
-    let w0 = nothing-written (a .s .now) (a .at) in
-    let w1 = then-f64 (a .b .total) w0 (c .before .before .before .before .before .before .before .before .before .before .before .before .before .before .before .before .before .before .put-f64 .ensures) in
-    let w2 = then-f64 (a .b .pump) w1 (c .before .before .before .before .before .before .before .before .before .before .before .before .before .before .put-f642 .ensures) in
-    let w3 = then-f64 (a .b .direct) w2 (c .before .before .before .before .before .before .before .before .before .before .put-f643 .ensures) in
-    let w4 = then-f64 (a .b .charged) w3 (c .before .before .before .before .before .before .put-f644 .ensures) in
-    let w5 = then-f64 (a .b .electric) w4 (c .before .before .put-f645 .ensures) in
+    let w0 = nothing-written (a .bytes .now) (a .at) in
+    let w1 = then-f64 (a .battery .total) w0 (c .before .before .before .before .before .before .before .before .before .before .before .before .before .before .before .before .before .before .put-f64 .ensures) in
+    let w2 = then-f64 (a .battery .pump) w1 (c .before .before .before .before .before .before .before .before .before .before .before .before .before .before .put-f642 .ensures) in
+    let w3 = then-f64 (a .battery .direct) w2 (c .before .before .before .before .before .before .before .before .before .before .put-f643 .ensures) in
+    let w4 = then-f64 (a .battery .charged) w3 (c .before .before .before .before .before .before .put-f644 .ensures) in
+    let w5 = then-f64 (a .battery .electric) w4 (c .before .before .put-f645 .ensures) in
     (omega (arith, c .before .before .before .before .before .before .before .before .before .before .before .before .before .before .before .before .before .before .put-f64 .ensures .0, c .before .before .before .before .before .before .before .before .before .before .before .before .before .before .put-f642 .ensures .0, c .before .before .before .before .before .before .before .before .before .before .put-f643 .ensures .0, c .before .before .before .before .before .before .put-f644 .ensures .0, c .before .before .put-f645 .ensures .0), w5 .memory)
 
 pub put-totals-spec : {M : Type 1} → statement M

@@ -24,7 +24,7 @@ returns : tie.Need-returns
 unfolding withoutLogarithm
 returns c =
     let b = c .before .before .before .before .before .before in
-    let e = refused-here (b .args .card) (b .args .pcm) _ (b .args .d) (b .args .zones) _ (c .before .before .before .before .zone-transfer .ensures) (c .before .before .enum-told .given .1) in
+    let e = refused-here (b .args .card) (b .args .pcm) _ (b .args .input) (b .args .zones) _ (c .before .before .before .before .zone-transfer .ensures) (c .before .before .enum-told .given .1) in
     c .bare .ensures ∙ (whole _ _ _ (withoutLogarithm (b .args .zones)) (refl, c .before .without-logarithm .ensures _) refl ∙ sym e)
 
 common-of-requires : tie.Need-common-of-requires
@@ -45,7 +45,7 @@ returns-2 : tie.Need-returns-2
 unfolding substepFrom
 returns-2 c =
     let b = c .before .before .before .before .before .before .before .before .before .before in
-    let e = passed (b .args .card) (b .args .pcm) _ (b .args .d) (b .args .zones) _ _ _ (c .before .before .before .before .before .before .before .before .zone-transfer .ensures) (c .before .before .before .before .before .before .share .given .1) (c .before .before .before .before .common-of .ensures) in
+    let e = passed (b .args .card) (b .args .pcm) _ (b .args .input) (b .args .zones) _ _ _ (c .before .before .before .before .before .before .before .before .zone-transfer .ensures) (c .before .before .before .before .before .before .share .given .1) (c .before .before .before .before .common-of .ensures) in
     c .with-arrays .ensures ∙ (whole _ _ _ _ (c .before .before .zones-in-place .ensures) (c .before .zone-energies .ensures) ∙ sym e)
 
 pub process-heat-battery-zones-spec : {M : Type 1} → statement M

@@ -72,7 +72,7 @@ loop-again c = (
 )
 
 returns : tie.Need-returns Inv-loop μ-loop
-returns c = energies-end _ _ _ _ (c .before .before .before .before .before .args .d) _ _ _ (c .before .before .charger-heat .ensures) (c .before .loop .inv .0) (c .loop-test .left) (c .before .loop .inv .1)
+returns c = energies-end _ _ _ _ (c .before .before .before .before .before .args .input) _ _ _ (c .before .before .charger-heat .ensures) (c .before .loop .inv .0) (c .loop-test .left) (c .before .loop .inv .1)
 
 pub zone-energies-spec : {M : Type 1} → statement M
 zone-energies-spec =

@@ -26,9 +26,9 @@ returns : tie.Need-returns
 returns c =
     let a = c .before .before .before .before .before .before .before .before .args in
     let w = c .before .before .before .before .before .demand-stopped .ensures in
-    let b = whole (a .l) (a .zones .now) in
-    let f = demand-leaves-finite b (c .before .before .before .before .before .before .before .before .pre .2) (a .d) (a .feed) in
-    c .unless-refused .ensures (a .l) _ _ (left-finite _ _ _ _ w (λ h. f)) ∙ committed-with _ _ _ _ _ w _ _ _ _ (c .before .before .before .before .before .before .before .before .pre .3) (c .before .before .before .service-class .ensures) (c .before .before .served-totals .ensures) (c .before .demand-reply .ensures)
+    let b = whole (a .ledger) (a .zones .now) in
+    let f = demand-leaves-finite b (c .before .before .before .before .before .before .before .before .pre .2) (a .demand) (a .feed) in
+    c .unless-refused .ensures (a .ledger) _ _ (left-finite _ _ _ _ w (λ h. f)) ∙ committed-with _ _ _ _ _ w _ _ _ _ (c .before .before .before .before .before .before .before .before .pre .3) (c .before .before .before .service-class .ensures) (c .before .before .served-totals .ensures) (c .before .demand-reply .ensures)
 
 pub committed-spec : {M : Type 1} → statement M
 committed-spec =

@@ -12,11 +12,11 @@ plain-reply-requires : tie.Need-plain-reply-requires
 plain-reply-requires c κs = search needs
 
 checked-requires : tie.Need-checked-requires
-checked-requires c κs = (c .before .before .before .before .before .before .pre .0, plain-refusal (c .before .before .before .before .before .before .args .l) [] [] _ _ _ (c .before .plain-reply .ensures))
+checked-requires c κs = (c .before .before .before .before .before .before .pre .0, plain-refusal (c .before .before .before .before .before .before .args .ledger) [] [] _ _ _ (c .before .plain-reply .ensures))
 
 returns : tie.Need-returns
 unfolding demandEnergy
-returns c = via-true _ _ (c .before .before .before .before .if1 .taken) (c .checked .ensures _ ∙ ap (checked _) (plain-with (c .before .before .before .before .before .before .before .args .l) [] _ _ _ _ (c .before .before .plain-reply .ensures)))
+returns c = via-true _ _ (c .before .before .before .before .if1 .taken) (c .checked .ensures _ ∙ ap (checked _) (plain-with (c .before .before .before .before .before .before .before .args .ledger) [] _ _ _ _ (c .before .before .plain-reply .ensures)))
 
 demand-given-requires : tie.Need-demand-given-requires
 demand-given-requires c κs = search needs

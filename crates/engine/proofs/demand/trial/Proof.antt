@@ -18,7 +18,7 @@ returns : tie.Need-returns
 returns c =
     let w = c .before .before .before .demand-stopped .ensures in
     let p = c .before .before .before .before .before .before .before .pre in
-    c .unless-refused .ensures (c .before .before .before .before .before .before .before .args .l) _ _ (λ h. p .2) ∙ trial-with _ _ _ _ _ w _ _ (p .3) (c .before .demand-reply .ensures)
+    c .unless-refused .ensures (c .before .before .before .before .before .before .before .args .ledger) _ _ (λ h. p .2) ∙ trial-with _ _ _ _ _ w _ _ (p .3) (c .before .demand-reply .ensures)
 
 pub trial-spec : {M : Type 1} → statement M
 trial-spec =

@@ -17,7 +17,7 @@ operation-requires c κs = search needs
 operation-step-requires : tie.Need-operation-step-requires
 operation-step-requires c κs =
     let r = c .before .before .before .before .before .before in
-    let b = whole (r .args .l) (r .args .zones .now) in
+    let b = whole (r .args .ledger) (r .args .zones .now) in
     let h = r .pre .1 in
     (accepted-few (r .args .version) b h, r .pre .0, accepted-finite (r .args .version) b h, accepted-losses (r .args .version) b h)
 
@@ -25,7 +25,7 @@ returns : tie.Need-returns
 returns c =
     let r = c .before .before .before .before .before .before .before in
     c .operation-step .ensures ∙ stepped _ _ _ _ (c .before .before .operation .ensures)
-    ∙ sym (advance-is-step (r .args .version) (whole (r .args .l) (r .args .zones .now)) (r .args .call) (r .pre .1) (sym (c .before .before .before .before .call-in-range .ensures) ∙ c .before .before .before .if1 .taken))
+    ∙ sym (advance-is-step (r .args .version) (whole (r .args .ledger) (r .args .zones .now)) (r .args .call) (r .pre .1) (sym (c .before .before .before .before .call-in-range .ensures) ∙ c .before .before .before .if1 .taken))
 
 refused-reply-requires : tie.Need-refused-reply-requires
 refused-reply-requires c κs = search needs
@@ -34,7 +34,7 @@ returns-2 : tie.Need-returns-2
 returns-2 c =
     let r = c .before .before .before .before .before in
     settled-refusal _ _ _ _ 10 (c .refused-reply .ensures) refl
-    ∙ sym (out-of-range-ten (r .args .version) (whole (r .args .l) (r .args .zones .now)) (r .args .call) (r .pre .1) (sym (c .before .before .call-in-range .ensures) ∙ c .before .if1 .left))
+    ∙ sym (out-of-range-ten (r .args .version) (whole (r .args .ledger) (r .args .zones .now)) (r .args .call) (r .pre .1) (sym (c .before .before .call-in-range .ensures) ∙ c .before .if1 .left))
 
 pub advance-accepted-spec : {M : Type 1} → statement M
 advance-accepted-spec =

@@ -25,8 +25,8 @@ unfolding charge
 returns c =
     let a = c .before .before .before .before .before .before .args in
     let w = c .before .before .before .charge-battery .ensures in
-    let f = charge-leaves-finite (whole (a .l) (a .zones .now)) (c .before .before .before .before .before .before .pre .2) (a .source) (a .target) in
-    c .unless-refused .ensures (a .l) _ _ (left-finite _ _ _ _ w f) ∙ charged-with _ _ _ _ _ w _ _ (c .before .before .charged-totals .ensures) (c .before .run-reply .ensures)
+    let f = charge-leaves-finite (whole (a .ledger) (a .zones .now)) (c .before .before .before .before .before .before .pre .2) (a .source) (a .target) in
+    c .unless-refused .ensures (a .ledger) _ _ (left-finite _ _ _ _ w f) ∙ charged-with _ _ _ _ _ w _ _ (c .before .before .charged-totals .ensures) (c .before .run-reply .ensures)
 
 pub charge-spec : {M : Type 1} → statement M
 charge-spec =

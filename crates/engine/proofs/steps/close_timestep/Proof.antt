@@ -13,10 +13,10 @@ plain-reply-requires : tie.Need-plain-reply-requires
 plain-reply-requires c κs = search needs
 
 checked-requires : tie.Need-checked-requires
-checked-requires c κs = (c .before .before .pre, plain-refusal (c .before .before .args .l) [] [] _ _ _ (c .plain-reply .ensures))
+checked-requires c κs = (c .before .before .pre, plain-refusal (c .before .before .args .ledger) [] [] _ _ _ (c .plain-reply .ensures))
 
 returns : tie.Need-returns
-returns c = c .checked .ensures _ ∙ ap (checked _) (closed-with (c .before .before .before .args .l) [] _ _ _ _ (c .before .before .closed-totals .ensures) (c .before .plain-reply .ensures))
+returns c = c .checked .ensures _ ∙ ap (checked _) (closed-with (c .before .before .before .args .ledger) [] _ _ _ _ (c .before .before .closed-totals .ensures) (c .before .plain-reply .ensures))
 
 pub close-timestep-spec : {M : Type 1} → statement M
 close-timestep-spec =

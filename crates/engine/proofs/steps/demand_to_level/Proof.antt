@@ -23,7 +23,7 @@ plain-reply-requires : tie.Need-plain-reply-requires
 plain-reply-requires c κs = search needs
 
 checked-requires : tie.Need-checked-requires
-checked-requires c κs = (c .before .before .before .before .before .before .before .pre .0, plain-refusal (c .before .before .before .before .before .before .before .args .l) [] [] _ _ _ (c .plain-reply .ensures))
+checked-requires c κs = (c .before .before .before .before .before .before .before .pre .0, plain-refusal (c .before .before .before .before .before .before .before .args .ledger) [] [] _ _ _ (c .plain-reply .ensures))
 
 returns : tie.Need-returns
 unfolding demandToLevel
@@ -31,7 +31,7 @@ returns c = rw (c .before .enum-told .given .1) (settled-refusal _ _ _ _ 25 (c .
 
 returns-2 : tie.Need-returns-2
 unfolding demandToLevel
-returns-2 c = rw (c .before .before .before .before .before .level .given .1, ← (c .before .before .before .calculate-charge-energy-demand .ensures)) (c .checked .ensures _ ∙ ap (checked _) (plain-with (c .before .before .before .before .before .before .before .before .args .l) [] _ _ _ _ (c .before .plain-reply .ensures)))
+returns-2 c = rw (c .before .before .before .before .before .level .given .1, ← (c .before .before .before .calculate-charge-energy-demand .ensures)) (c .checked .ensures _ ∙ ap (checked _) (plain-with (c .before .before .before .before .before .before .before .before .args .ledger) [] _ _ _ _ (c .before .plain-reply .ensures)))
 
 pub demand-to-level-spec : {M : Type 1} → statement M
 demand-to-level-spec =

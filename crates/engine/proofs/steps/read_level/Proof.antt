@@ -20,7 +20,7 @@ plain-reply-requires : tie.Need-plain-reply-requires
 plain-reply-requires c κs = search needs
 
 checked-requires : tie.Need-checked-requires
-checked-requires c κs = (c .before .before .before .before .before .pre, plain-refusal (c .before .before .before .before .before .args .l) [] [] _ _ _ (c .plain-reply .ensures))
+checked-requires c κs = (c .before .before .before .before .before .pre, plain-refusal (c .before .before .before .before .before .args .ledger) [] [] _ _ _ (c .plain-reply .ensures))
 
 returns : tie.Need-returns
 unfolding readLevel
@@ -28,7 +28,7 @@ returns c = rw (c .before .enum-told .given .1) (settled-refusal _ _ _ _ 25 (c .
 
 returns-2 : tie.Need-returns-2
 unfolding readLevel
-returns-2 c = rw (c .before .before .before .before .level .given .1) (c .checked .ensures _ ∙ ap (checked _) (plain-with (c .before .before .before .before .before .before .args .l) [] _ _ _ _ (c .before .plain-reply .ensures)))
+returns-2 c = rw (c .before .before .before .before .level .given .1) (c .checked .ensures _ ∙ ap (checked _) (plain-with (c .before .before .before .before .before .before .args .ledger) [] _ _ _ _ (c .before .plain-reply .ensures)))
 
 pub read-level-spec : {M : Type 1} → statement M
 read-level-spec =

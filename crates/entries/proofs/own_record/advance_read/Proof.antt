@@ -51,7 +51,7 @@ returns-3 : tie.Need-returns-3
 returns-3 c =
     let a = c .before .before .before .before .before .before .args in
     settled-refusal _ _ _ _ 10 (c .refused-reply2 .ensures) refl
-    ∙ sym (not-accepted-read (a .version) (whole (a .l) (a .zones .now)) (callOf (a .version) (a .call .now)) (sym (c .before .before .is-accepted .ensures) ∙ c .before .if1 .left))
+    ∙ sym (not-accepted-read (a .version) (whole (a .ledger) (a .zones .now)) (callOf (a .version) (a .call .now)) (sym (c .before .before .is-accepted .ensures) ∙ c .before .if1 .left))
 
 pub advance-read-spec : {M : Type 1} → statement M
 advance-read-spec =

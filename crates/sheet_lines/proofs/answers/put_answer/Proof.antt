@@ -22,9 +22,9 @@ returns : tie.Need-returns
 unfolding answerBytes
 returns c =
     let a = c .before .before .before .before .before .before .before .before .before .before .args in
-    let w1 = then-sized (headBytes (a .a)) (length-headBytes (a .version) (a .a)) (nothing-written (a .s .now) (a .at)) (c .before .before .before .before .before .before .put-head .ensures) in
-    let w2 = then-sized (stateBytes (a .version) (a .a .battery)) (length-stateBytes _ _) w1 (c .before .before .put-state .ensures) in
-    written w2 (length-answerBytes (a .version) (a .a))
+    let w1 = then-sized (headBytes (a .answer)) (length-headBytes (a .version) (a .answer)) (nothing-written (a .bytes .now) (a .at)) (c .before .before .before .before .before .before .put-head .ensures) in
+    let w2 = then-sized (stateBytes (a .version) (a .answer .battery)) (length-stateBytes _ _) w1 (c .before .before .put-state .ensures) in
+    written w2 (length-answerBytes (a .version) (a .answer))
 
 pub put-answer-spec : {M : Type 1} → statement M
 put-answer-spec = tie.close (tie.spec put-head-requires put-state-requires same-length returns)

@@ -36,13 +36,13 @@ returns : tie.Need-returns
 unfolding headBytes
 returns c =
     let a = c .before .before .before .before .before .before .before .before .before .before .before .before .before .before .before .before .before .before .before .before .before .before .before .before .before .args in
-    let w1 = then-number 1 (a .a .refusal) (nothing-written (a .s .now) (a .at)) (c .before .before .before .before .before .before .before .before .before .before .before .before .before .before .before .before .before .before .before .before .before .before .put-u8 .ensures) in
-    let w2 = then-f64 (a .a .energy) w1 (c .before .before .before .before .before .before .before .before .before .before .before .before .before .before .before .before .before .before .put-f64 .ensures) in
-    let w3 = then-number 1 (a .a .mark) w2 (c .before .before .before .before .before .before .before .before .before .before .before .before .before .before .put-u82 .ensures) in
-    let w4 = then-f64 (a .a .outlet) w3 (c .before .before .before .before .before .before .before .before .before .before .put-f642 .ensures) in
-    let w5 = then-f64 (a .a .time) w4 (c .before .before .before .before .before .before .put-f643 .ensures) in
-    let w6 = then-number 4 (a .a .substeps) w5 (c .before .before .put-u32 .ensures) in
-    written w6 (length-headBytes (a .version) (a .a))
+    let w1 = then-number 1 (a .answer .refusal) (nothing-written (a .bytes .now) (a .at)) (c .before .before .before .before .before .before .before .before .before .before .before .before .before .before .before .before .before .before .before .before .before .before .put-u8 .ensures) in
+    let w2 = then-f64 (a .answer .energy) w1 (c .before .before .before .before .before .before .before .before .before .before .before .before .before .before .before .before .before .before .put-f64 .ensures) in
+    let w3 = then-number 1 (a .answer .mark) w2 (c .before .before .before .before .before .before .before .before .before .before .before .before .before .before .put-u82 .ensures) in
+    let w4 = then-f64 (a .answer .outlet) w3 (c .before .before .before .before .before .before .before .before .before .before .put-f642 .ensures) in
+    let w5 = then-f64 (a .answer .time) w4 (c .before .before .before .before .before .before .put-f643 .ensures) in
+    let w6 = then-number 4 (a .answer .substeps) w5 (c .before .before .put-u32 .ensures) in
+    written w6 (length-headBytes (a .version) (a .answer))
 
 pub put-head-spec : {M : Type 1} → statement M
 put-head-spec =

@@ -31,10 +31,10 @@ returns : tie.Need-returns
 unfolding lineBytes
 returns c =
     let a = c .before .before .before .before .before .before .before .before .before .before .before .before .before .before .before .before .args in
-    let w1 = then-equal 2 (lineLength (a .version) (a .a .battery .card) (length (a .call .now))) (c .before .before .before .before .before .before .before .before .before .before .before .before .line-length .ensures) (nothing-written (a .sheet .now) 0) (c .before .before .before .before .before .before .before .before .before .before .put-be .ensures) in
+    let w1 = then-equal 2 (lineLength (a .version) (a .answer .battery .card) (length (a .call .now))) (c .before .before .before .before .before .before .before .before .before .before .before .before .line-length .ensures) (nothing-written (a .sheet .now) 0) (c .before .before .before .before .before .before .before .before .before .before .put-be .ensures) in
     let w2 = then-sized (a .call .now) refl w1 (c .before .before .before .before .before .before .put-bytes .ensures) in
-    let w3 = then-sized (answerBytes (a .version) (a .a)) (length-answerBytes _ _) w2 (c .before .before .put-answer .ensures) in
-    written-front w3 (omega (arith, length-lineBytes (a .version) (a .call .now) (a .a), c .before .before .before .before .before .before .before .before .before .before .before .before .before .before .before .before .pre .2))
+    let w3 = then-sized (answerBytes (a .version) (a .answer)) (length-answerBytes _ _) w2 (c .before .before .put-answer .ensures) in
+    written-front w3 (omega (arith, length-lineBytes (a .version) (a .call .now) (a .answer), c .before .before .before .before .before .before .before .before .before .before .before .before .before .before .before .before .pre .2))
 
 pub put-line-spec : {M : Type 1} → statement M
 put-line-spec =

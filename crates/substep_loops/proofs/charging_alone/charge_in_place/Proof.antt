@@ -20,7 +20,7 @@ returns : tie.Need-returns
 unfolding substepFrom
 returns c =
     let b = c .before .before .before .before .before in
-    rw (passed (b .args .card) (b .args .pcm) _ (b .args .d) (b .args .zones .now) _ _ _ (sym (without-logarithm-charge _ _ (b .pre .1 .1))) refl (c .before .before .common-of .ensures)) (c .charge-zones .ensures)
+    rw (passed (b .args .card) (b .args .pcm) _ (b .args .input) (b .args .zones .now) _ _ _ (sym (without-logarithm-charge _ _ (b .pre .1 .1))) refl (c .before .before .common-of .ensures)) (c .charge-zones .ensures)
 
 pub charge-in-place-spec : {M : Type 1} → statement M
 charge-in-place-spec =

@@ -16,7 +16,7 @@ returns : tie.Need-returns
 unfolding substepFrom
 returns c =
     let b = c .before .before .before .before in
-    rw (passed (b .args .card) (b .args .pcm) _ (b .args .d) (b .args .zones .now) _ _ _ (sym (without-logarithm-loss _ _ (b .pre .1 .1 .0))) refl (c .before .before .common-of .ensures)) (c .lose-zones .ensures)
+    rw (passed (b .args .card) (b .args .pcm) _ (b .args .input) (b .args .zones .now) _ _ _ (sym (without-logarithm-loss _ _ (b .pre .1 .1 .0))) refl (c .before .before .common-of .ensures)) (c .lose-zones .ensures)
 
 pub lose-in-place-spec : {M : Type 1} → statement M
 lose-in-place-spec =

@@ -23,7 +23,7 @@ returns : tie.Need-returns
 unfolding withoutLogarithm
 returns c =
     let b = c .before .before .before .before .before in
-    let e = sym (refused-here (b .args .card) (b .args .pcm) _ (b .args .d) (b .args .zones .now) _ (c .before .before .before .zone-transfer .ensures ∙ ap (λ (m : Mode). zoneTransfer m (b .args .card) (b .args .d)) (sym (b .pre .1 .1 .0))) (c .before .enum-told .given .1)) in
+    let e = sym (refused-here (b .args .card) (b .args .pcm) _ (b .args .input) (b .args .zones .now) _ (c .before .before .before .zone-transfer .ensures ∙ ap (λ (m : Mode). zoneTransfer m (b .args .card) (b .args .input)) (sym (b .pre .1 .1 .0))) (c .before .enum-told .given .1)) in
     (ap (λ (v : Substep). v .zones) e, c .without-logarithm .ensures _ ∙ ap outcomeOf e)
 
 common-of-requires : tie.Need-common-of-requires
@@ -38,8 +38,8 @@ returns-2 : tie.Need-returns-2
 unfolding substepFrom
 returns-2 c =
     let b = c .before .before .before .before .before .before .before .before in
-    let t = c .before .before .before .before .before .before .zone-transfer .ensures ∙ ap (λ (m : Mode). zoneTransfer m (b .args .card) (b .args .d)) (sym (b .pre .1 .1 .0)) in
-    rw (passed (b .args .card) (b .args .pcm) _ (b .args .d) (b .args .zones .now) _ _ _ t (c .before .before .before .before .transfer .given .1) (c .before .before .common-of .ensures)) (c .zones-in-place .ensures)
+    let t = c .before .before .before .before .before .before .zone-transfer .ensures ∙ ap (λ (m : Mode). zoneTransfer m (b .args .card) (b .args .input)) (sym (b .pre .1 .1 .0)) in
+    rw (passed (b .args .card) (b .args .pcm) _ (b .args .input) (b .args .zones .now) _ _ _ t (c .before .before .before .before .transfer .given .1) (c .before .before .common-of .ensures)) (c .zones-in-place .ensures)
 
 pub process-in-place-spec : {M : Type 1} → statement M
 process-in-place-spec =
