@@ -48,7 +48,7 @@ pub record CardNotTaken (rules : Rules) (bs : List ℕ) : Type 0 where
 
 -- no call line stands at the front of bs to which 42 doesn't apply
 abbrev pub NoLine : ℕ → Card → List ℕ → Type 0
-NoLine version card bs = (l : Line) (call : Call) (rest : List ℕ) → bs ≡ bytesOf l ++ rest → Laid version card l call → ⊥
+NoLine version card bs = (line : Line) (call : Call) (rest : List ℕ) → bs ≡ bytesOf line ++ rest → Laid version card line call → ⊥
 
 -- k lines make a sheet, and after them are bytes that begin with no line: 42
 pub record BadLine (rules : Rules) (bs : List ℕ) (k : ℕ) : Type 0 where

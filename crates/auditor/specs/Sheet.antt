@@ -37,13 +37,13 @@ linesBytes [] = []
 linesBytes (l ∷ ls) = bytesOf l ++ linesBytes ls
 
 -- a line 'to which 42 doesn't apply', and the call that its bytes are
-pub record Laid (version : ℕ) (c : Card) (l : Line) (call : Call) : Type 0 where
-  pub two : length (l .head) ≡ 2
-  pub counts : be (l .head) ≡ length (l .call) + length (l .answer)
-  pub reads : callOf version (l .call) ≡ Good call
-  pub in-range : callInRange version c call ≡ true
-  pub long : length (l .answer) ≡ answerLength version c
-  pub marks : marksOk version (l .answer) ≡ true
+pub record Laid (version : ℕ) (card : Card) (line : Line) (call : Call) : Type 0 where
+  pub two : length (line .head) ≡ 2
+  pub counts : be (line .head) ≡ length (line .call) + length (line .answer)
+  pub reads : callOf version (line .call) ≡ Good call
+  pub in-range : callInRange version card call ≡ true
+  pub long : length (line .answer) ≡ answerLength version card
+  pub marks : marksOk version (line .answer) ≡ true
 
 -- line for line
 abbrev pub AllLaid : ℕ → Card → List Line → List Call → Type 0

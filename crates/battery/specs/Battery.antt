@@ -47,7 +47,7 @@ batteryAccepted version battery =
     false
 
 -- What the steps keep: a battery that 10 accepts, in 64 places, 0 above the count.
-pub record GoodBattery (version : ℕ) (b : Battery) : Type 0 where
-  pub accepted : batteryAccepted version b ≡ true
-  pub places : length (b .zones) ≡ 64
-  pub above : (i : ℕ) → b .card .layers ≤ i → i < 64 → getD (b .zones) i nan ≡ Constants.zero
+pub record GoodBattery (version : ℕ) (battery : Battery) : Type 0 where
+  pub accepted : batteryAccepted version battery ≡ true
+  pub places : length (battery .zones) ≡ 64
+  pub above : (i : ℕ) → battery .card .layers ≤ i → i < 64 → getD (battery .zones) i nan ≡ Constants.zero

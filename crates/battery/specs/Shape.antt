@@ -10,21 +10,21 @@ use Rattle.battery.specs.declared.Battery.{Battery}
 use Rattle.battery.specs.declared.Answer.{Answer}
 
 -- 'A refusal line shows energy 0, outlet absent, time 0, substeps 0, and zones and totals as before'
-pub record RefusalLine (b : Battery) (a : Answer) : Type 0 where
-  pub energy : a .energy ≡ zero
-  pub mark : a .mark ≡ 0
-  pub outlet : a .outlet ≡ zero
-  pub time : a .time ≡ zero
-  pub substeps : a .substeps ≡ 0
-  pub battery : a .battery ≡ b
+pub record RefusalLine (was : Battery) (answer : Answer) : Type 0 where
+  pub energy : answer .energy ≡ zero
+  pub mark : answer .mark ≡ 0
+  pub outlet : answer .outlet ≡ zero
+  pub time : answer .time ≡ zero
+  pub substeps : answer .substeps ≡ 0
+  pub battery : answer .battery ≡ was
 
 -- the answer a of a step from b, refused or not
-pub record AnswerShape (version : ℕ) (b : Battery) (a : Answer) : Type 0 where
-  pub refusal : (a .refusal ≡ 0) ⊎ ((20 ≤ a .refusal) × (a .refusal ≤ 25))
-  pub energy : finite64 (a .energy) ≡ true
-  pub mark : ((a .mark ≡ 0) × (a .outlet ≡ zero)) ⊎ (a .mark ≡ 1)
-  pub outlet : finite64 (a .outlet) ≡ true
-  pub time : finite64 (a .time) ≡ true
-  pub substeps : a .substeps ≤ b .card .budget
-  pub card : a .battery .card ≡ b .card
-  pub good : GoodBattery version (a .battery)
+pub record AnswerShape (version : ℕ) (battery : Battery) (answer : Answer) : Type 0 where
+  pub refusal : (answer .refusal ≡ 0) ⊎ ((20 ≤ answer .refusal) × (answer .refusal ≤ 25))
+  pub energy : finite64 (answer .energy) ≡ true
+  pub mark : ((answer .mark ≡ 0) × (answer .outlet ≡ zero)) ⊎ (answer .mark ≡ 1)
+  pub outlet : finite64 (answer .outlet) ≡ true
+  pub time : finite64 (answer .time) ≡ true
+  pub substeps : answer .substeps ≤ battery .card .budget
+  pub card : answer .battery .card ≡ battery .card
+  pub good : GoodBattery version (answer .battery)

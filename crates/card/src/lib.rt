@@ -148,7 +148,8 @@ pub fn card_in_range(card: Card) -> bool
     )
 }
 
-// Whether 1 to 4 accept the card, as one test: it stands on the path of every call, and is compiled in place there as `refusal` is not.
+// Whether 1 to 4 accept the card, as one test, for calls on the caller's own record: it has that one caller and is compiled in place there, as
+// `refusal` is not.
 pub fn is_accepted(version: u8, card: Card) -> bool
     ensures { λ r. ⌜ r ≡ eqb (cardRefusal version card) 0 ⌝ }
 {

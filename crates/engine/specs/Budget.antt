@@ -31,34 +31,34 @@ use Rattle.runs.specs.Zoned.{Zoned, zoned, onPart}
 use Rattle.engine.specs.Steps.{demandRunOf, wetOf}
 
 -- a run of a demand, with its budget: its next step is positive
-pub record DemandOver (budget : ℕ) (e : DemandEnd) : Type 0 where
-  pub ended : e .end ≡ OverBudget
-  pub used : e .substeps ≡ budget
-  pub due : T (lt zero (e .state .step))
+pub record DemandOver (budget : ℕ) (run : DemandEnd) : Type 0 where
+  pub ended : run .end ≡ OverBudget
+  pub used : run .substeps ≡ budget
+  pub due : T (lt zero (run .state .step))
 
 -- the whole substep from s
 abbrev pub wholeFrom : HydronicTask → (ℕ → Salt) → Zoned HydronicState → Substep
 wholeFrom task salts run = processHeatBatteryZones (task .card) (task .pcm) salts (wetInput task (task .card .substep) (run .part .reynold)) (run .zones)
 
 -- after the whole substep u from s the limit is passed, and its heat is to be cut: the fractional substep is due
-pub record FractionDue (x : HydronicTask) (s : HydronicState) (u : Substep) : Type 0 where
-  pub worked : u .fault ≡ Nothing
-  pub below : T (clearlyBelow (u .outlet) (x .wet .inlet))
-  pub passed : T (limitReached (kj (s .absorbed .0 ⊕ neg (u .delivered .0))) (x .limit))
-  pub heat : T (lt zero (neg (u .delivered .0)))
+pub record FractionDue (task : HydronicTask) (state : HydronicState) (substep : Substep) : Type 0 where
+  pub worked : substep .fault ≡ Nothing
+  pub below : T (clearlyBelow (substep .outlet) (task .wet .inlet))
+  pub passed : T (limitReached (kj (state .absorbed .0 ⊕ neg (substep .delivered .0))) (task .limit))
+  pub heat : T (lt zero (neg (substep .delivered .0)))
 
 -- a hydronic run of so many whole substeps: one of them is left, or the fractional one after the last
-pub record HydronicOver (x : HydronicTask) (salts : ℕ → Salt) (steps : ℕ) (e : Zoned HydronicEnd) : Type 0 where
-  pub ended : e .part .end ≡ OverBudget
-  pub used : e .part .substeps ≡ x .card .budget
-  pub due : (x .card .budget < steps) ⊎ FractionDue x (e .part .state) (wholeFrom x salts (onPart hydronicEndState e))
+pub record HydronicOver (task : HydronicTask) (salts : ℕ → Salt) (steps : ℕ) (run : Zoned HydronicEnd) : Type 0 where
+  pub ended : run .part .end ≡ OverBudget
+  pub used : run .part .substeps ≡ task .card .budget
+  pub due : (task .card .budget < steps) ⊎ FractionDue task (run .part .state) (wholeFrom task salts (onPart hydronicEndState run))
 
 -- the call's run
-pub record DemandUsed (b : Battery) (d : Demand) : Type 0 where
-  pub asked : le (d .required) tolerance ≡ false
+pub record DemandUsed (battery : Battery) (demand : Demand) : Type 0 where
+  pub asked : le (demand .required) tolerance ≡ false
   pub feed : Float
-  pub given : d .feed ≡ Value feed
-  pub over : DemandOver (b .card .budget) (demandRunOf b d feed .part)
+  pub given : demand .feed ≡ Value feed
+  pub over : DemandOver (battery .card .budget) (demandRunOf battery demand feed .part)
 
 abbrev pub hydronicTaskOf : Battery → Hydronic → HydronicTask
 hydronicTaskOf battery call = hydronicTask (battery .card) (wetOf call) (call .target)
@@ -66,8 +66,8 @@ hydronicTaskOf battery call = hydronicTask (battery .card) (wetOf call) (call .t
 abbrev pub hydronicRunOf : Battery → Hydronic → Zoned HydronicEnd
 hydronicRunOf battery call = hydronicRun (hydronicTaskOf battery call) (saltAt (saltsOf (battery .card))) (wholeSubsteps (hydronicTaskOf battery call)) 0 (zoned (hydronicStart (battery .card) (wetOf call)) (battery .zones))
 
-pub record HydronicUsed (b : Battery) (h : Hydronic) : Type 0 where
-  pub over : HydronicOver (hydronicTaskOf b h) (saltAt (saltsOf (b .card))) (wholeSubsteps (hydronicTaskOf b h)) (hydronicRunOf b h)
+pub record HydronicUsed (battery : Battery) (hydronic : Hydronic) : Type 0 where
+  pub over : HydronicOver (hydronicTaskOf battery hydronic) (saltAt (saltsOf (battery .card))) (wholeSubsteps (hydronicTaskOf battery hydronic)) (hydronicRunOf battery hydronic)
 
 abbrev pub BudgetUsed : Battery → Call → Type 0
 BudgetUsed battery (DemandEnergy d) = DemandUsed battery d

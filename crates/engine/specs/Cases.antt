@@ -13,17 +13,17 @@ use Rattle.engine.specs.Budget.{BudgetUsed}
 use Rattle.engine.specs.Faults.{NotFiniteFound, NoLogarithmTaken, OverFull}
 
 -- '20 required above 1e-10 without return temperature'
-pub record NoReturn (d : Demand) : Type 0 where
-  pub above : lt tolerance (d .required) ≡ true
-  pub absent : d .feed ≡ Absent
+pub record NoReturn (demand : Demand) : Type 0 where
+  pub above : lt tolerance (demand .required) ≡ true
+  pub absent : demand .feed ≡ Absent
 
 -- '21 committed, required above 1e-10, service type 0'; '20 before 21'
-pub record NoService (d : Demand) : Type 0 where
-  pub above : lt tolerance (d .required) ≡ true
+pub record NoService (demand : Demand) : Type 0 where
+  pub above : lt tolerance (demand .required) ≡ true
   pub temperature : Float
-  pub given : d .feed ≡ Value temperature
-  pub committed : d .commit ≡ true
-  pub combi : d .service ≡ 0
+  pub given : demand .feed ≡ Value temperature
+  pub committed : demand .commit ≡ true
+  pub combi : demand .service ≡ 0
 
 abbrev pub Case20 : Battery → Call → Type 0
 Case20 battery (DemandEnergy d) = NoReturn d

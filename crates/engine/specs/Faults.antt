@@ -47,9 +47,9 @@ use Rattle.engine.specs.Steps.{demandTask, demandRunOf, demandRan, level
 use Rattle.engine.specs.Budget.{wholeFrom, FractionDue, hydronicTaskOf, hydronicRunOf}
 
 -- '25 state of charge above 1.0 + 1e-10'
-pub record AboveFull (b : Battery) : Type 0 where
-  pub above : level b ≡ Above
-  pub passed : lt (one ⊕ tolerance) (storedEnergy (saltAt (saltsOf (b .card))) (b .card .reference) (b .zones) (b .card .layers) .0 ⊘ storedMaximum (saltsOf (b .card)) (b .card) .0) ≡ true
+pub record AboveFull (battery : Battery) : Type 0 where
+  pub above : level battery ≡ Above
+  pub passed : lt (one ⊕ tolerance) (storedEnergy (saltAt (saltsOf (battery .card))) (battery .card .reference) (battery .zones) (battery .card .layers) .0 ⊘ storedMaximum (saltsOf (battery .card)) (battery .card) .0) ≡ true
 
 abbrev pub OverFull : Battery → Call → Type 0
 OverFull battery (DemandEnergy d) = ⊥
@@ -61,19 +61,19 @@ OverFull battery ReadStateOfCharge = AboveFull battery
 OverFull battery (ChargeEnergyDemand most target) = AboveFull battery
 
 -- a substep's faults: '24 the logarithm's argument is not positive, normal and finite', 'Only demand and hydronic substeps take a logarithm'
-pub record ArgumentRefused (d : SubstepInput) : Type 0 where
-  pub normal : d .mode ≡ Normal
-  pub argument : (le smallestNormal (d .reynold ⊗ d .flow) ≡ false) ⊎ (le (d .reynold ⊗ d .flow) largestFinite ≡ false)
+pub record ArgumentRefused (input : SubstepInput) : Type 0 where
+  pub normal : input .mode ≡ Normal
+  pub argument : (le smallestNormal (input .reynold ⊗ input .flow) ≡ false) ⊎ (le (input .reynold ⊗ input .flow) largestFinite ≡ false)
 
 -- the zones' pass of a substep with the heat transfer u
 abbrev pub progressOf : Card → HeatBatteryPcm → (ℕ → Salt) → SubstepInput → List Float → Float → Progress
 progressOf card pcm salts input zones u = zonesAfter (commonOf card pcm input u) salts (card .layers) (card .layers) (progressFrom input zones)
 
 -- '23 after a substep a zone, outlet, delivered sum or charged energy is not finite'
-pub record ProgressNotFinite (c : Card) (pcm : HeatBatteryPcm) (salts : ℕ → Salt) (d : SubstepInput) (zones : List Float) : Type 0 where
+pub record ProgressNotFinite (card : Card) (pcm : HeatBatteryPcm) (salts : ℕ → Salt) (input : SubstepInput) (zones : List Float) : Type 0 where
   pub transfer : Float
-  pub taken : zoneTransfer (d .mode) c d ≡ Value transfer
-  pub found : progressFinite c (progressOf c pcm salts d zones transfer) (kj (sum2 (progressOf c pcm salts d zones transfer .energies) (c .layers))) ≡ false
+  pub taken : zoneTransfer (input .mode) card input ≡ Value transfer
+  pub found : progressFinite card (progressOf card pcm salts input zones transfer) (kj (sum2 (progressOf card pcm salts input zones transfer .energies) (card .layers))) ≡ false
 
 -- the test of each fault
 abbrev pub FaultTest : Fault → Card → HeatBatteryPcm → (ℕ → Salt) → SubstepInput → List Float → Type 0
@@ -82,9 +82,9 @@ FaultTest Logarithm card pcm salts input zones = ArgumentRefused input
 FaultTest NotFinite card pcm salts input zones = ProgressNotFinite card pcm salts input zones
 
 -- the substep d from these zones has the fault f, at f's test
-pub record SubstepFault (f : Fault) (c : Card) (pcm : HeatBatteryPcm) (salts : ℕ → Salt) (d : SubstepInput) (zones : List Float) : Type 0 where
-  pub fault : processHeatBatteryZones c pcm salts d zones .fault ≡ f
-  pub test : FaultTest f c pcm salts d zones
+pub record SubstepFault (which : Fault) (card : Card) (pcm : HeatBatteryPcm) (salts : ℕ → Salt) (input : SubstepInput) (zones : List Float) : Type 0 where
+  pub fault : processHeatBatteryZones card pcm salts input zones .fault ≡ which
+  pub test : FaultTest which card pcm salts input zones
 
 -- the heat of the whole substep u, and what is absorbed with it
 abbrev pub heatOf : Substep → Kilojoules
@@ -99,26 +99,26 @@ fractionInput task state u =
     wetInput task (fractionSeconds task (absorbedWith state u) (heatOf u)) (reynoldBetween (task .wet .inlet) (u .outlet) (task .wet .velocity) (task .wet .diameter))
 
 -- the fractional substep after the whole one from s is due and has the fault f
-pub record FractionFault (f : Fault) (x : HydronicTask) (salts : ℕ → Salt) (s : Zoned HydronicState) : Type 0 where
-  pub due : FractionDue x (s .part) (wholeFrom x salts s)
-  pub fault : SubstepFault f (x .card) (x .pcm) salts (fractionInput x (s .part) (wholeFrom x salts s)) (s .zones)
+pub record FractionFault (which : Fault) (task : HydronicTask) (salts : ℕ → Salt) (state : Zoned HydronicState) : Type 0 where
+  pub due : FractionDue task (state .part) (wholeFrom task salts state)
+  pub fault : SubstepFault which (task .card) (task .pcm) salts (fractionInput task (state .part) (wholeFrom task salts state)) (state .zones)
 
 -- the whole substep from s has the fault f, or the fractional one after it
 abbrev pub HydronicFault : Fault → HydronicTask → (ℕ → Salt) → Zoned HydronicState → Type 0
 HydronicFault f task salts run = SubstepFault f (task .card) (task .pcm) salts (wetInput task (task .card .substep) (run .part .reynold)) (run .zones) ⊎ FractionFault f task salts run
 
 -- the call's run ended for the fault f, before the substep that has it
-pub record DemandFaulted (f : Fault) (b : Battery) (d : Demand) : Type 0 where
-  pub asked : le (d .required) tolerance ≡ false
+pub record DemandFaulted (which : Fault) (battery : Battery) (demand : Demand) : Type 0 where
+  pub asked : le (demand .required) tolerance ≡ false
   pub feed : Float
-  pub given : d .feed ≡ Given.Value feed
-  pub ended : demandRunOf b d feed .part .end ≡ faultEnd f
+  pub given : demand .feed ≡ Given.Value feed
+  pub ended : demandRunOf battery demand feed .part .end ≡ faultEnd which
   pub fault :
-      SubstepFault f (b .card) (derived (b .card)) (saltAt (saltsOf (b .card))) (demandInput (demandTask (ledgerOf b) d feed) (demandRunOf b d feed .part .state)) (demandRunOf b d feed .zones)
+      SubstepFault which (battery .card) (derived (battery .card)) (saltAt (saltsOf (battery .card))) (demandInput (demandTask (ledgerOf battery) demand feed) (demandRunOf battery demand feed .part .state)) (demandRunOf battery demand feed .zones)
 
-pub record HydronicFaulted (f : Fault) (b : Battery) (h : Hydronic) : Type 0 where
-  pub ended : hydronicRunOf b h .part .end ≡ faultEnd f
-  pub fault : HydronicFault f (hydronicTaskOf b h) (saltAt (saltsOf (b .card))) (onPart hydronicEndState (hydronicRunOf b h))
+pub record HydronicFaulted (which : Fault) (battery : Battery) (hydronic : Hydronic) : Type 0 where
+  pub ended : hydronicRunOf battery hydronic .part .end ≡ faultEnd which
+  pub fault : HydronicFault which (hydronicTaskOf battery hydronic) (saltAt (saltsOf (battery .card))) (onPart hydronicEndState (hydronicRunOf battery hydronic))
 
 abbrev pub NoLogarithmTaken : Battery → Call → Type 0
 NoLogarithmTaken battery (DemandEnergy d) = DemandFaulted Logarithm battery d
@@ -130,25 +130,25 @@ NoLogarithmTaken battery ReadStateOfCharge = ⊥
 NoLogarithmTaken battery (ChargeEnergyDemand most target) = ⊥
 
 -- 'or a reported number or total isn't': the answer that the call would have got, after a run that ended without a refusal
-pub record AnswerNotFinite (end : End) (a : Answer) : Type 0 where
+pub record AnswerNotFinite (end : End) (answer : Answer) : Type 0 where
   pub ended : endRefusal end ≡ 0
-  pub found : answerFinite a ≡ false
+  pub found : answerFinite answer ≡ false
 
-pub record DemandNotFinite (b : Battery) (d : Demand) : Type 0 where
-  pub asked : le (d .required) tolerance ≡ false
+pub record DemandNotFinite (battery : Battery) (demand : Demand) : Type 0 where
+  pub asked : le (demand .required) tolerance ≡ false
   pub feed : Float
-  pub given : d .feed ≡ Given.Value feed
-  pub answer : AnswerNotFinite (demandRan b d feed .part .end) (demandAnswer b d (demandRan b d feed))
+  pub given : demand .feed ≡ Given.Value feed
+  pub answer : AnswerNotFinite (demandRan battery demand feed .part .end) (demandAnswer battery demand (demandRan battery demand feed))
 
-pub record NoDemandNotFinite (b : Battery) (d : Demand) : Type 0 where
-  pub asked : le (d .required) tolerance ≡ true
-  pub found : answerFinite (plainAnswer zero b) ≡ false
+pub record NoDemandNotFinite (battery : Battery) (demand : Demand) : Type 0 where
+  pub asked : le (demand .required) tolerance ≡ true
+  pub found : answerFinite (plainAnswer zero battery) ≡ false
 
 -- kinds 6 and 7, by the energy that they answer at a level
-pub record LevelNotFinite (b : Battery) (energy : Float → Float) : Type 0 where
+pub record LevelNotFinite (battery : Battery) (energy : Float → Float) : Type 0 where
   pub soc : Float
-  pub read : level b ≡ Level soc
-  pub found : answerFinite (plainAnswer (energy soc) b) ≡ false
+  pub read : level battery ≡ Level soc
+  pub found : answerFinite (plainAnswer (energy soc) battery) ≡ false
 
 abbrev pub NotFiniteFound : Battery → Call → Type 0
 NotFiniteFound battery (DemandEnergy d) = DemandFaulted NotFinite battery d ⊎ (DemandNotFinite battery d ⊎ NoDemandNotFinite battery d)

@@ -87,7 +87,7 @@ pub record GoodRecord (version : ℕ) (rec : List ℕ) : Type 0 where
 -- a call that 10 lets through: laid out as its kind, and its fields in their ranges
 pub record GoodCall (version : ℕ) (card : Card) (call : List ℕ) : Type 0 where
   pub laid : LaidCall version call
-  pub in-range : (c : Call) → callOf version call ≡ Good c → callInRange version card c ≡ true
+  pub in-range : (asked : Call) → callOf version call ≡ Good asked → callInRange version card asked ≡ true
 
 -- '10 a call field not finite or out of range .., or a battery handed in whose card 1 to 4 refuse or whose zones or totals aren't finite'
 pub data CallCase10 (version : ℕ) (rec call : List ℕ) : Type 0 where
@@ -116,25 +116,25 @@ pub record LineCase (Case : Battery → Call → Type 0) (version : ℕ) (rec ca
 -- ---- a call on the caller's own record, without a sheet
 
 -- a record that 10 lets through; its count is its card's layers
-pub record GoodOwn (version : ℕ) (b : Battery) : Type 0 where
-  pub card-accepted : cardRefusal version (b .card) ≡ 0
-  pub count : b .count ≡ b .card .layers
-  pub zones : (i : ℕ) → i < b .card .layers → finite64 (getD (b .zones) i nan) ≡ true
-  pub total : finite64 (b .total) ≡ true
-  pub pump : finite64 (b .pump) ≡ true
-  pub direct : finite64 (b .direct) ≡ true
-  pub charged : finite64 (b .charged) ≡ true
-  pub electric : finite64 (b .electric) ≡ true
+pub record GoodOwn (version : ℕ) (battery : Battery) : Type 0 where
+  pub card-accepted : cardRefusal version (battery .card) ≡ 0
+  pub count : battery .count ≡ battery .card .layers
+  pub zones : (i : ℕ) → i < battery .card .layers → finite64 (getD (battery .zones) i nan) ≡ true
+  pub total : finite64 (battery .total) ≡ true
+  pub pump : finite64 (battery .pump) ≡ true
+  pub direct : finite64 (battery .direct) ≡ true
+  pub charged : finite64 (battery .charged) ≡ true
+  pub electric : finite64 (battery .electric) ≡ true
 
 -- '10 a call field not finite or out of range .., or a battery handed in whose card 1 to 4 refuse or whose zones or totals aren't finite'
-pub data OwnCase10 (version : ℕ) (b : Battery) (call : List ℕ) : Type 0 where
-  bad-own : (GoodOwn version b → ⊥) → OwnCase10 version b call
-  bad-own-call : (GoodCall version (b .card) call → ⊥) → OwnCase10 version b call
+pub data OwnCase10 (version : ℕ) (battery : Battery) (call : List ℕ) : Type 0 where
+  bad-own : (GoodOwn version battery → ⊥) → OwnCase10 version battery call
+  bad-own-call : (GoodCall version (battery .card) call → ⊥) → OwnCase10 version battery call
 
 -- one of 20 to 25
-pub record OwnCase (Case : Battery → Call → Type 0) (version : ℕ) (b : Battery) (call : List ℕ) : Type 0 where
-  pub own-good : GoodOwn version b
-  pub call-good : GoodCall version (b .card) call
+pub record OwnCase (Case : Battery → Call → Type 0) (version : ℕ) (battery : Battery) (call : List ℕ) : Type 0 where
+  pub own-good : GoodOwn version battery
+  pub call-good : GoodCall version (battery .card) call
   pub asked : Call
   pub read : callOf version call ≡ Good asked
-  pub case-of : Case b asked
+  pub case-of : Case battery asked

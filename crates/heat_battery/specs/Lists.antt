@@ -107,16 +107,16 @@ stepLines version battery (call ∷ calls) = lineBytes version call (answerTo ve
 -- ---- the two agree
 
 -- a record that is the encoding of a good battery, with the bytes of its card
-pub record Encoded (version : ℕ) (card : List ℕ) (b : Battery) (rec : List ℕ) : Type 0 where
+pub record Encoded (version : ℕ) (card : List ℕ) (battery : Battery) (rec : List ℕ) : Type 0 where
   pub long : length card ≡ cardLength version card
-  pub card-read : cardAt version card ≡ b .card
-  pub good : GoodBattery version b
-  pub bytes : rec ≡ recordBytes version card b
+  pub card-read : cardAt version card ≡ battery .card
+  pub good : GoodBattery version battery
+  pub bytes : rec ≡ recordBytes version card battery
 
 -- after the calls: each line and the record are the encodings of the steps' answer and state, the lines lie within the lent part, and the bytes after are as before
-pub record SameAsSteps (version : ℕ) (card : List ℕ) (b : Battery) (rec free : List ℕ) (calls : List (List ℕ)) : Type 0 where
-  pub lines : written version rec free calls ≡ stepLines version b (spared version rec free calls)
-  pub encoded : Encoded version card (stateAfter version b (spared version rec free calls)) (recordAfter version rec free calls)
+pub record SameAsSteps (version : ℕ) (card : List ℕ) (battery : Battery) (rec free : List ℕ) (calls : List (List ℕ)) : Type 0 where
+  pub lines : written version rec free calls ≡ stepLines version battery (spared version rec free calls)
+  pub encoded : Encoded version card (stateAfter version battery (spared version rec free calls)) (recordAfter version rec free calls)
   pub fits : length (written version rec free calls) ≤ length free
   pub following : freeAfter version rec free calls ≡ drop (length (written version rec free calls)) free
 

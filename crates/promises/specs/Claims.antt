@@ -39,11 +39,11 @@ abbrev pub NoneAltered : Card → (ℕ → Float) → (ℕ → Float) → Type 0
 NoneAltered card before after = (i : ℕ) → i < card .layers → eq (after i) (before i) ≡ true
 
 -- 'no zone is warmer after a standing loss, none cooler after an electric charge, and none altered by a refused or trial line'
-pub record Directed (version : ℕ) (c : Card) (l : Line) (before after : ℕ → Float) : Type 0 where
-  pub loss : kindIn l ≡ 4 → NoneWarmer c before after
-  pub electric : kindIn l ≡ 2 → NoneCooler c before after
-  pub refused : (shown version c l .refusal ≡ 0 → ⊥) → NoneAltered c before after
-  pub trial : IsTrial version l → NoneAltered c before after
+pub record Directed (version : ℕ) (card : Card) (line : Line) (before after : ℕ → Float) : Type 0 where
+  pub loss : kindIn line ≡ 4 → NoneWarmer card before after
+  pub electric : kindIn line ≡ 2 → NoneCooler card before after
+  pub refused : (shown version card line .refusal ≡ 0 → ⊥) → NoneAltered card before after
+  pub trial : IsTrial version line → NoneAltered card before after
 
 -- line after line, from the zones before the first
 abbrev pub AllDirected : ℕ → Card → (ℕ → Float) → List Line → Type 0

@@ -43,7 +43,7 @@ CallNumbers =
 
 abbrev pub OwnRecordNumbers : Type 0
 OwnRecordNumbers =
-    (version : ℕ) → knownVersion version ≡ true → (b : Battery) (call : List ℕ) → OneOf (0 ∷ 10 ∷ 20 ∷ 21 ∷ 22 ∷ 23 ∷ 24 ∷ 25 ∷ []) (advancedOf version b call .shown .refusal)
+    (version : ℕ) → knownVersion version ≡ true → (battery : Battery) (call : List ℕ) → OneOf (0 ∷ 10 ∷ 20 ∷ 21 ∷ 22 ∷ 23 ∷ 24 ∷ 25 ∷ []) (advancedOf version battery call .shown .refusal)
 
 -- accepted, 40 or 41 at line 0, 42 or 43 at a call line, or 44 at line 0
 abbrev pub AuditVerdicts : Type 0
@@ -73,12 +73,12 @@ RefusalLineLeavesTheRecord =
 
 abbrev pub RefusedOwnRecordStays : Type 0
 RefusedOwnRecordStays =
-    (version : ℕ) → knownVersion version ≡ true → (b : Battery) (call : List ℕ) → (advancedOf version b call .shown .refusal ≡ 0 → ⊥) → advancedOf version b call .battery ≡ b
+    (version : ℕ) → knownVersion version ≡ true → (battery : Battery) (call : List ℕ) → (advancedOf version battery call .shown .refusal ≡ 0 → ⊥) → advancedOf version battery call .battery ≡ battery
 
 -- 'places above the count .. are never written': whatever the caller's own record holds there stays, answered or refused
 abbrev pub PlacesAboveTheCountStay : Type 0
 PlacesAboveTheCountStay =
-    (version : ℕ) → knownVersion version ≡ true → (b : Battery) (call : List ℕ) → SameAbove (b .card .layers) (b .zones) (advancedOf version b call .battery .zones)
+    (version : ℕ) → knownVersion version ≡ true → (battery : Battery) (call : List ℕ) → SameAbove (battery .card .layers) (battery .zones) (advancedOf version battery call .battery .zones)
 
 -- ---- 2: 'engine, sheet writer and sheet reader are proved against 01's steps'
 
@@ -177,11 +177,11 @@ CallRefusals =
 
 abbrev pub OwnRecordRefusals : Type 0
 OwnRecordRefusals =
-    (version : ℕ) → knownVersion version ≡ true → (b : Battery) (call : List ℕ)
-    → ((advancedOf version b call .shown .refusal ≡ 10) ↔ OwnCase10 version b call)
-    × ((advancedOf version b call .shown .refusal ≡ 20) ↔ OwnCase Case20 version b call) × ((advancedOf version b call .shown .refusal ≡ 21) ↔ OwnCase Case21 version b call)
-    × ((advancedOf version b call .shown .refusal ≡ 22) ↔ OwnCase Case22 version b call) × ((advancedOf version b call .shown .refusal ≡ 23) ↔ OwnCase Case23 version b call)
-    × ((advancedOf version b call .shown .refusal ≡ 24) ↔ OwnCase Case24 version b call) × ((advancedOf version b call .shown .refusal ≡ 25) ↔ OwnCase Case25 version b call)
+    (version : ℕ) → knownVersion version ≡ true → (battery : Battery) (call : List ℕ)
+    → ((advancedOf version battery call .shown .refusal ≡ 10) ↔ OwnCase10 version battery call)
+    × ((advancedOf version battery call .shown .refusal ≡ 20) ↔ OwnCase Case20 version battery call) × ((advancedOf version battery call .shown .refusal ≡ 21) ↔ OwnCase Case21 version battery call)
+    × ((advancedOf version battery call .shown .refusal ≡ 22) ↔ OwnCase Case22 version battery call) × ((advancedOf version battery call .shown .refusal ≡ 23) ↔ OwnCase Case23 version battery call)
+    × ((advancedOf version battery call .shown .refusal ≡ 24) ↔ OwnCase Case24 version battery call) × ((advancedOf version battery call .shown .refusal ≡ 25) ↔ OwnCase Case25 version battery call)
 
 -- 70 is given by no audit that takes every card, as document 01's (AuditorVerdicts)
 abbrev pub AuditRefusals : Type 0

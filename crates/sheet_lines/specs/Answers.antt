@@ -77,11 +77,11 @@ agrees same answer y =
     && (sameZones same (answer .battery .zones) (y .battery .zones) (answer .battery .card .layers) && sameTotals same (answer .battery) (y .battery)))))))
 
 -- What a line can show: numbers that fit their fields, an absent outlet with zero bytes, a good battery.
-pub record GoodAnswer (version : ℕ) (a : Answer) : Type 0 where
-  pub refusal-fits : a .refusal < 256
-  pub substeps-fit : a .substeps < 4294967296
-  pub energy-finite : finite64 (a .energy) ≡ true
-  pub outlet-finite : finite64 (a .outlet) ≡ true
-  pub time-finite : finite64 (a .time) ≡ true
-  pub marked : ((a .mark ≡ 0) × (a .outlet ≡ Constants.zero)) ⊎ (a .mark ≡ 1)
-  pub battery-good : GoodBattery version (a .battery)
+pub record GoodAnswer (version : ℕ) (answer : Answer) : Type 0 where
+  pub refusal-fits : answer .refusal < 256
+  pub substeps-fit : answer .substeps < 4294967296
+  pub energy-finite : finite64 (answer .energy) ≡ true
+  pub outlet-finite : finite64 (answer .outlet) ≡ true
+  pub time-finite : finite64 (answer .time) ≡ true
+  pub marked : ((answer .mark ≡ 0) × (answer .outlet ≡ Constants.zero)) ⊎ (answer .mark ≡ 1)
+  pub battery-good : GoodBattery version (answer .battery)

@@ -50,18 +50,6 @@ module _ (x : Common) (s : ℕ → Salt) (n k : ℕ) (p q : Progress) where
   pub zones-end : k ≤ n → n ≤ k → p ≡ zonesAfter x s n k q → p ≡ zonesAfter x s n n q
   zones-end a b e = let d : k ≡ n = omega arith in e ∙ ap (λ (i : ℕ). zonesAfter x s n i q) d
 
--- refusal 23's tests, one by one
-pub all-finite :
-    (zones a b c bc abc all : Bool) (outlet sum charged : Float) →
-    a ≡ finite64 outlet →
-    b ≡ finite64 sum →
-    c ≡ finite64 charged →
-    bc ≡ (b && c) →
-    abc ≡ (a && bc) →
-    all ≡ (zones && abc) →
-    all ≡ (zones && (finite64 outlet && (finite64 sum && finite64 charged)))
-all-finite zones a b c bc abc all outlet sum charged e f g h i j = rw (j, i, h, e, f, g)
-
 pub energies-end :
     (n : ℕ) (x : Common) (s : ℕ → Salt) (k : ℕ) (d : SubstepInput) (zones : List Float) (p : Progress) (heat : Kilojoules) →
     heat ≡ chargerHeat d →

@@ -245,12 +245,11 @@ pub fn charger_heat(input: SubstepInput) -> Kilojoules
 pub fn progress_fault(zones: bool, outlet: f64, sum: Kilojoules, charged: KilowattHours) -> Fault
     ensures { λ r. ⌜ r ≡ cond (zones && (finite64 outlet && (finite64 (sum .0) && finite64 (charged .0)))) Fault.Nothing Fault.NotFinite ⌝ }
 {
-    let finite = logic::both(
+    let finite = logic::all_four(
         zones,
-        logic::both(
-            floats::is_finite(outlet),
-            logic::both(floats::is_finite(sum.0), floats::is_finite(charged.0)),
-        ),
+        floats::is_finite(outlet),
+        floats::is_finite(sum.0),
+        floats::is_finite(charged.0),
     );
     if finite {
         Fault::Nothing

@@ -1,4 +1,3 @@
-use Rattle.substep.proofs.SubstepLaws.{all-finite}
 use Rattle.logic.proofs.Branch.{via-true, via-false}
 use mathlib.Core.Path.{refl, sym, _∙_}
 use borrow.Author.Needs.{needs}
@@ -14,20 +13,14 @@ is-finite-requires-2 c κs = search needs
 is-finite-requires-3 : tie.Need-is-finite-requires-3
 is-finite-requires-3 c κs = search needs
 
-both-requires : tie.Need-both-requires
-both-requires c κs = search needs
-
-both-requires-2 : tie.Need-both-requires-2
-both-requires-2 c κs = search needs
-
-both-requires-3 : tie.Need-both-requires-3
-both-requires-3 c κs = search needs
+all-four-requires : tie.Need-all-four-requires
+all-four-requires c κs = search needs
 
 returns : tie.Need-returns
-returns c = via-true _ _ (sym (all-finite (c .before .before .before .before .before .before .before .args .zones) _ _ _ _ _ _ _ _ _ (c .before .before .before .before .before .before .is-finite .ensures) (c .before .before .before .before .before .is-finite2 .ensures) (c .before .before .before .before .is-finite3 .ensures) (c .before .before .before .both .ensures) (c .before .before .both2 .ensures) (c .before .both3 .ensures)) ∙ c .if1 .taken) refl
+returns c = rw (← (c .before .before .before .before .is-finite .ensures), ← (c .before .before .before .is-finite2 .ensures), ← (c .before .before .is-finite3 .ensures)) (via-true _ _ (sym (c .before .all-four .ensures) ∙ c .if1 .taken) refl)
 
 returns-2 : tie.Need-returns-2
-returns-2 c = via-false _ _ (sym (all-finite (c .before .before .before .before .before .before .before .args .zones) _ _ _ _ _ _ _ _ _ (c .before .before .before .before .before .before .is-finite .ensures) (c .before .before .before .before .before .is-finite2 .ensures) (c .before .before .before .before .is-finite3 .ensures) (c .before .before .before .both .ensures) (c .before .before .both2 .ensures) (c .before .both3 .ensures)) ∙ c .if1 .left) refl
+returns-2 c = rw (← (c .before .before .before .before .is-finite .ensures), ← (c .before .before .before .is-finite2 .ensures), ← (c .before .before .is-finite3 .ensures)) (via-false _ _ (sym (c .before .all-four .ensures) ∙ c .if1 .left) refl)
 
 pub progress-fault-spec : {M : Type 1} → statement M
 progress-fault-spec =
@@ -36,8 +29,6 @@ progress-fault-spec =
     is-finite-requires
     is-finite-requires-2
     is-finite-requires-3
-    both-requires
-    both-requires-2
-    both-requires-3
+    all-four-requires
     returns
     returns-2)
