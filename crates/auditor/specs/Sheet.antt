@@ -30,7 +30,7 @@ pub record Line : Type 0 where
   pub answer : List ℕ
 
 abbrev pub bytesOf : Line → List ℕ
-bytesOf l = l .head ++ (l .call ++ l .answer)
+bytesOf line = line .head ++ (line .call ++ line .answer)
 
 abbrev pub linesBytes : List Line → List ℕ
 linesBytes [] = []

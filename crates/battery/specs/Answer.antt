@@ -28,8 +28,8 @@ replyOf answer =
 
 -- the reply's numbers, with this battery
 abbrev pub answerOf : Reply → Battery → Answer
-answerOf reply b =
-    record { refusal = reply .refusal; energy = reply .energy; mark = reply .mark; outlet = reply .outlet; time = reply .time; substeps = reply .substeps; battery = b }
+answerOf reply battery =
+    record { refusal = reply .refusal; energy = reply .energy; mark = reply .mark; outlet = reply .outlet; time = reply .time; substeps = reply .substeps; battery = battery }
 
 -- the answer with these zones
 abbrev pub answerWith : Ledger → Reply → List Float → Answer

@@ -20,11 +20,11 @@ freshZones (suc n) t = set (freshZones n t) n t
 
 -- 'Fresh: all zones at start, five totals 0'
 unfoldable pub fresh : Card → Battery
-fresh c =
+fresh card =
     record {
-      card = c;
-      zones = freshZones (c .layers) (c .start);
-      count = c .layers;
+      card = card;
+      zones = freshZones (card .layers) (card .start);
+      count = card .layers;
       total = Constants.zero;
       pump = Constants.zero;
       direct = Constants.zero;

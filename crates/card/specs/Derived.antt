@@ -28,7 +28,7 @@ energyAt (One s) card t = kj (layerEnergyStored t (card .reference) s .0 ⊗ lay
 energyAt (Each s) card t = storedEnergy s (card .reference) (replicate 64 t) (card .layers)
 
 abbrev pub storedMaximum : Salts → Card → Kilojoules
-storedMaximum s card = energyAt s card (card .max)
+storedMaximum salts card = energyAt salts card (card .max)
 
 -- the temperature difference of the rated losses, the diameter in metres
 unfoldable pub derived : Card → HeatBatteryPcm

@@ -88,15 +88,15 @@ pub record SubstepFault (which : Fault) (card : Card) (pcm : HeatBatteryPcm) (sa
 
 -- the heat of the whole substep u, and what is absorbed with it
 abbrev pub heatOf : Substep → Kilojoules
-heatOf u = kj (neg (u .delivered .0))
+heatOf substep = kj (neg (substep .delivered .0))
 
 abbrev pub absorbedWith : HydronicState → Substep → Kilojoules
-absorbedWith state u = kj (state .absorbed .0 ⊕ heatOf u .0)
+absorbedWith state substep = kj (state .absorbed .0 ⊕ heatOf substep .0)
 
 -- the input of the fractional substep after the whole substep u
 abbrev pub fractionInput : HydronicTask → HydronicState → Substep → SubstepInput
-fractionInput task state u =
-    wetInput task (fractionSeconds task (absorbedWith state u) (heatOf u)) (reynoldBetween (task .wet .inlet) (u .outlet) (task .wet .velocity) (task .wet .diameter))
+fractionInput task state substep =
+    wetInput task (fractionSeconds task (absorbedWith state substep) (heatOf substep)) (reynoldBetween (task .wet .inlet) (substep .outlet) (task .wet .velocity) (task .wet .diameter))
 
 -- the fractional substep after the whole one from s is due and has the fault f
 pub record FractionFault (which : Fault) (task : HydronicTask) (salts : ℕ → Salt) (state : Zoned HydronicState) : Type 0 where
@@ -105,7 +105,7 @@ pub record FractionFault (which : Fault) (task : HydronicTask) (salts : ℕ → 
 
 -- the whole substep from s has the fault f, or the fractional one after it
 abbrev pub HydronicFault : Fault → HydronicTask → (ℕ → Salt) → Zoned HydronicState → Type 0
-HydronicFault f task salts run = SubstepFault f (task .card) (task .pcm) salts (wetInput task (task .card .substep) (run .part .reynold)) (run .zones) ⊎ FractionFault f task salts run
+HydronicFault which task salts run = SubstepFault which (task .card) (task .pcm) salts (wetInput task (task .card .substep) (run .part .reynold)) (run .zones) ⊎ FractionFault which task salts run
 
 -- the call's run ended for the fault f, before the substep that has it
 pub record DemandFaulted (which : Fault) (battery : Battery) (demand : Demand) : Type 0 where

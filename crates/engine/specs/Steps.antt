@@ -43,14 +43,14 @@ unfoldable pub demandPower : Card → Bool → Float
 demandPower card control = cond (eqb (card .simultaneous) 1 && control) (card .power) zero
 
 unfoldable pub demandTask : Ledger → Demand → Float → DemandTask
-demandTask ledger d feed =
+demandTask ledger demand feed =
     record {
       card = ledger .card;
       pcm = derived (ledger .card);
       feed = feed;
-      power = demandPower (ledger .card) (d .control);
-      demand = kwh (d .required ⊘ unitsOf (ledger .card));
-      seconds = timeAvailable ledger (d .start) ⊗ hour;
+      power = demandPower (ledger .card) (demand .control);
+      demand = kwh (demand .required ⊘ unitsOf (ledger .card));
+      seconds = timeAvailable ledger (demand .start) ⊗ hour;
     }
 
 -- a demand's substeps, what they hand out, and the answer

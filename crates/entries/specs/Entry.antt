@@ -23,10 +23,10 @@ pub record After : Type 0 where
   pub sheet : List ℕ
 
 -- that is what an entry returned and left
-pub record WasAfter (a : After) (code : ℕ) (record' sheet : List ℕ) : Type 0 where
-  pub code-is : code ≡ a .code
-  pub record-is : record' ≡ a .record'
-  pub sheet-is : sheet ≡ a .sheet
+pub record WasAfter (after : After) (code : ℕ) (record' sheet : List ℕ) : Type 0 where
+  pub code-is : code ≡ after .code
+  pub record-is : record' ≡ after .record'
+  pub sheet-is : sheet ≡ after .sheet
 
 -- a refusal that changes no byte
 abbrev pub unchanged : ℕ → List ℕ → List ℕ → After

@@ -35,8 +35,8 @@ shownOf answer = replyShown (replyOf answer)
 
 -- a battery whose zones lie apart, with its totals renewed and these zones: its card and count stay
 abbrev pub renewedWith : Ledger → Renewed → List Float → Advanced
-renewedWith ledger r zones =
-    record { battery = renewedBattery ledger (r .totals) zones; shown = r .shown }
+renewedWith ledger renewed zones =
+    record { battery = renewedBattery ledger (renewed .totals) zones; shown = renewed .shown }
 
 -- zones of which the first n are those of another list
 unfoldable pub renewedZones : List Float → List Float → ℕ → List Float

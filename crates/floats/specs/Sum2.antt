@@ -9,10 +9,10 @@ use Rattle.floats.specs.declared.Sum2.{Sum2}
 
 -- one item more
 unfoldable pub sum2Step : Sum2 → Float → Sum2
-sum2Step a p =
-    let t = a .s ⊕ p in
-    let z = t ⊖ a .s in
-    record { s = t; c = a .c ⊕ ((a .s ⊖ (t ⊖ z)) ⊕ (p ⊖ z)) }
+sum2Step sum p =
+    let t = sum .s ⊕ p in
+    let z = t ⊖ sum .s in
+    record { s = t; c = sum .c ⊕ ((sum .s ⊖ (t ⊖ z)) ⊕ (p ⊖ z)) }
 
 -- after the first k of the numbers xs
 unfoldable pub sum2After : List Float → ℕ → Sum2

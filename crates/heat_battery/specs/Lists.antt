@@ -25,15 +25,15 @@ use Rattle.heat_battery.specs.Entries.{entryOf}
 
 -- 10 or 11: no line was written
 unfoldable pub noLine : After → Bool
-noLine a = eqb (a .code) badCall || eqb (a .code) noRoom
+noLine after = eqb (after .code) badCall || eqb (after .code) noRoom
 
 -- the bytes that the call's line takes at the front of the lent part, by its own length
 unfoldable pub lineTaken : After → ℕ
-lineTaken a = cond (noLine a) 0 (2 + beAt (a .sheet) 0 2)
+lineTaken after = cond (noLine after) 0 (2 + beAt (after .sheet) 0 2)
 
 -- the free bytes after the call's line
 unfoldable pub freeRest : After → List ℕ
-freeRest a = drop (lineTaken a) (a .sheet)
+freeRest after = drop (lineTaken after) (after .sheet)
 
 -- 'Each gets the battery that the last one left and the free bytes after the last line': the record, and the free bytes, after the calls
 unfoldable pub recordAfter : ℕ → List ℕ → List ℕ → List (List ℕ) → List ℕ

@@ -15,17 +15,17 @@ use Rattle.auditor.specs.Sheet.{Line}
 
 -- a line's kind, and what it shows
 abbrev pub kindIn : Line → ℕ
-kindIn l = getD (l .call) 0 0
+kindIn line = getD (line .call) 0 0
 
 abbrev pub shown : ℕ → Card → Line → Answer
-shown version card l = answerAt version card (l .answer)
+shown version card line = answerAt version card (line .answer)
 
 abbrev pub zonesIn : ℕ → Card → Line → ℕ → Float
-zonesIn version card l i = getD (shown version card l .battery .zones) i nan
+zonesIn version card line i = getD (shown version card line .battery .zones) i nan
 
 -- 'a trial line is kind 1 with commit 0'
 abbrev pub IsTrial : ℕ → Line → Type 0
-IsTrial version l = (kindIn l ≡ 1) × (getD (l .call) (commitPlace version) 0 ≡ 0)
+IsTrial version line = (kindIn line ≡ 1) × (getD (line .call) (commitPlace version) 0 ≡ 0)
 
 -- ---- Directions: 'Warmer, cooler and altered compare each zone, as f64, with the line before; on the first call line, with the start temperature.'
 
@@ -53,11 +53,11 @@ AllDirected version card before (l ∷ ls) = Directed version card l before (zon
 -- ---- Charged total: 'Charge lines are kinds 2 and 3'
 
 unfoldable pub answeredCharge : ℕ → Card → Line → Bool
-answeredCharge version card l = (eqb (kindIn l) 2 || eqb (kindIn l) 3) && eqb (shown version card l .refusal) 0
+answeredCharge version card line = (eqb (kindIn line) 2 || eqb (kindIn line) 3) && eqb (shown version card line .refusal) 0
 
 -- the sum after a line: the line's energy, as written, is added where it is an answered charge line
 unfoldable pub sumAfter : ℕ → Card → Float → Line → Float
-sumAfter version card sum l = cond (answeredCharge version card l) (sum ⊕ shown version card l .energy) sum
+sumAfter version card sum line = cond (answeredCharge version card line) (sum ⊕ shown version card line .energy) sum
 
 -- 'On each of its call lines the charged total is the f64 sum, in line order, of the energies of the answered charge lines up to it', by f64 equality
 abbrev pub AllSummed : ℕ → Card → Float → List Line → Type 0

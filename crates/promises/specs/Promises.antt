@@ -150,13 +150,13 @@ BothAuditsAgree =
 -- This and the next of every audit whose comparison accepts no more than f64 equality, as document 01's.
 abbrev pub ZonesMoveTheRightWay : Type 0
 ZonesMoveTheRightWay =
-    (rules : Rules) → NoLooser rules → (bs : List ℕ) (n : ℕ) (s : Sheet rules bs n)
-    → AllDirected (s .version) (cardAt (s .version) (s .card)) (λ i. cardAt (s .version) (s .card) .start) (s .lines)
+    (rules : Rules) → NoLooser rules → (bs : List ℕ) (n : ℕ) (sheet : Sheet rules bs n)
+    → AllDirected (sheet .version) (cardAt (sheet .version) (sheet .card)) (λ i. cardAt (sheet .version) (sheet .card) .start) (sheet .lines)
 
 -- 'On each of its call lines the charged total is the f64 sum, in line order, of the energies of the answered charge lines up to it.'
 abbrev pub ChargedTotalAddsUp : Type 0
 ChargedTotalAddsUp =
-    (rules : Rules) → NoLooser rules → (bs : List ℕ) (n : ℕ) (s : Sheet rules bs n) → AllSummed (s .version) (cardAt (s .version) (s .card)) zero (s .lines)
+    (rules : Rules) → NoLooser rules → (bs : List ℕ) (n : ℕ) (sheet : Sheet rules bs n) → AllSummed (sheet .version) (cardAt (sheet .version) (sheet .card)) zero (sheet .lines)
 
 -- ---- document 01: 'Each is given only in its case', and in its case it is given
 

@@ -4,7 +4,7 @@ use mathlib.Core.List.{List}
 use Prim.Native.Nat.{ℕ}
 use lib.Ieee.{Float}
 use Rattle.zone.specs.declared.Salt.{Salt}
-use Rattle.substep.proofs.Together.{InPlace}
+use Rattle.substep.specs.Substep.{InPlace}
 use Rattle.substep.specs.Substep.{processHeatBatteryZones}
 use Rattle.substep.specs.declared.SubstepInput.{SubstepInput}
 use Rattle.substep.specs.declared.Fault.{Fault}

@@ -53,35 +53,35 @@ cut task running step = cond (lt (task .seconds) (running ⊕ step)) (task .seco
 
 -- the state after a substep, with its next step and its delivery
 unfoldable pub demandStateAfter : DemandTask → DemandState → Outcome → Float → KilowattHours → DemandState
-demandStateAfter task state u step delivered =
+demandStateAfter task state outcome step delivered =
     record {
       step = step;
       running = state .running ⊕ state .step;
       delivered = delivered;
-      electric = kwh (state .electric .0 ⊕ u .charged .0);
-      outlet = u .outlet;
-      reynold = reynoldBetween (task .feed) (u .outlet) (task .card .velocity) (task .pcm .diameter);
+      electric = kwh (state .electric .0 ⊕ outcome .charged .0);
+      outlet = outcome .outlet;
+      reynold = reynoldBetween (task .feed) (outcome .outlet) (task .card .velocity) (task .pcm .diameter);
     }
 
 abbrev pub demandTurn : DemandState → Next → DemandTurn
-demandTurn s next = record { state = s; next = next }
+demandTurn state next = record { state = state; next = next }
 
 -- 'negative delivery, demand met'
 unfoldable pub demandDelivered : DemandTask → DemandState → Outcome → DemandTurn
-demandDelivered task state u =
-    let heat = kilowattHours (u .delivered) in
+demandDelivered task state outcome =
+    let heat = kilowattHours (outcome .delivered) in
     let delivered = kwh (state .delivered .0 ⊕ heat .0) in
     let step = nextStep task heat delivered (state .step) in
-    cond (lt (u .delivered .0) Constants.zero)
-    (demandTurn (demandStateAfter task state u (state .step) (state .delivered)) (Stop Negative))
+    cond (lt (outcome .delivered .0) Constants.zero)
+    (demandTurn (demandStateAfter task state outcome (state .step) (state .delivered)) (Stop Negative))
     (cond (demandMet task delivered)
-    (demandTurn (demandStateAfter task state u step delivered) (Stop Met))
-    (demandTurn (demandStateAfter task state u (cut task (state .running ⊕ state .step) step) delivered) On))
+    (demandTurn (demandStateAfter task state outcome step delivered) (Stop Met))
+    (demandTurn (demandStateAfter task state outcome (cut task (state .running ⊕ state .step) step) delivered) On))
 
 unfoldable pub demandBy : DemandTask → Zoned DemandState → Zoned Outcome → Fault → Zoned DemandTurn
-demandBy task run u Nothing = zoned (demandDelivered task (run .part) (u .part)) (u .zones)
-demandBy task run u Logarithm = zoned (demandTurn (run .part) (Stop NoLogarithm)) (run .zones)
-demandBy task run u NotFinite = zoned (demandTurn (run .part) (Stop NotFiniteRun)) (run .zones)
+demandBy task run outcome Nothing = zoned (demandDelivered task (run .part) (outcome .part)) (outcome .zones)
+demandBy task run outcome Logarithm = zoned (demandTurn (run .part) (Stop NoLogarithm)) (run .zones)
+demandBy task run outcome NotFinite = zoned (demandTurn (run .part) (Stop NotFiniteRun)) (run .zones)
 
 -- one substep
 unfoldable pub demandSubstep : DemandTask → (ℕ → Salt) → Zoned DemandState → Zoned DemandTurn
@@ -90,13 +90,13 @@ demandSubstep task salts run =
     demandBy task run u (u .part .fault)
 
 abbrev pub turnState : DemandTurn → DemandState
-turnState t = t .state
+turnState turn = turn .state
 
 abbrev pub endState : DemandEnd → DemandState
-endState e = e .state
+endState run = run .state
 
 abbrev pub demandEnd : Zoned DemandState → End → ℕ → Zoned DemandEnd
-demandEnd run e n = zoned (record { state = run .part; end = e; substeps = n }) (run .zones)
+demandEnd run end n = zoned (record { state = run .part; end = end; substeps = n }) (run .zones)
 
 -- what follows a substep: it ends the run, or the run goes on from it
 abbrev pub demandThen : (Zoned DemandState → Zoned DemandEnd) → ℕ → Zoned DemandState → Next → Zoned DemandEnd
@@ -114,5 +114,5 @@ demandRun task salts (suc k) n run =
 
 -- what the run hands out
 unfoldable pub demandEnded : DemandEnd → Stopped
-demandEnded e =
-    record { energy = e .state .delivered; electric = e .state .electric; outlet = e .state .outlet; time = e .state .running; end = e .end; substeps = e .substeps }
+demandEnded run =
+    record { energy = run .state .delivered; electric = run .state .electric; outlet = run .state .outlet; time = run .state .running; end = run .end; substeps = run .substeps }

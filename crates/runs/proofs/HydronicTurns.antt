@@ -12,7 +12,7 @@ use Rattle.zone.specs.Heat.{kj}
 use Rattle.zone.specs.declared.Kilojoules.{Kilojoules}
 use Rattle.zone.specs.declared.KilowattHours.{KilowattHours}
 use Rattle.zone.specs.declared.Salt.{Salt}
-use Rattle.substep.proofs.Together.{InPlace}
+use Rattle.substep.specs.Substep.{InPlace}
 use Rattle.substep.specs.Substep.{processHeatBatteryZones}
 use Rattle.substep.specs.declared.SubstepInput.{SubstepInput}
 use Rattle.substep.specs.declared.Fault.{Fault}

@@ -35,16 +35,16 @@ electricInput ledger power target =
     record { mode = OnlyCharging; inlet = zero; seconds = maxZero (timeAvailable ledger zero) ⊗ hour; reynold = zero; flow = ledger .card .flow; power = power; target = target; a = ledger .card .a; b = ledger .card .b }
 
 unfoldable pub electricEnded : Ledger → Outcome → Stopped
-electricEnded ledger u =
-    record { energy = u .charged; electric = kwh (ledger .totals .electric ⊕ u .charged .0); outlet = zero; time = zero; end = faultEnd (u .fault); substeps = 1 }
+electricEnded ledger outcome =
+    record { energy = outcome .charged; electric = kwh (ledger .totals .electric ⊕ outcome .charged .0); outlet = zero; time = zero; end = faultEnd (outcome .fault); substeps = 1 }
 
 unfoldable pub chargeElectric : Battery → Float → Float → Zoned Stopped
 chargeElectric battery power target =
     onPart (electricEnded (ledgerOf battery)) (outcome (processHeatBatteryZones (battery .card) (derived (battery .card)) (saltAt (saltsOf (battery .card))) (electricInput (ledgerOf battery) power target) (battery .zones)))
 
 unfoldable pub hydronicTask : Card → Exchanger → Float → HydronicTask
-hydronicTask c wet target =
-    record { card = c; pcm = derived c; wet = wet; target = target; limit = kilojoules (kwh (wet .limit)) }
+hydronicTask card wet target =
+    record { card = card; pcm = derived card; wet = wet; target = target; limit = kilojoules (kwh (wet .limit)) }
 
 -- the first Reynolds number is that of the card's initial inlet and estimated outlet
 unfoldable pub hydronicStart : Card → Exchanger → HydronicState
@@ -67,16 +67,16 @@ lossInput card =
     record { mode = Losses; inlet = ambient; seconds = card .timestep ⊗ hour; reynold = zero; flow = zero; power = neg (card .losses); target = zero; a = card .a; b = card .b }
 
 unfoldable pub lossEnded : Ledger → Outcome → Stopped
-lossEnded ledger u =
-    record { energy = kilowattHours (u .delivered); electric = kwh (ledger .totals .electric); outlet = zero; time = zero; end = faultEnd (u .fault); substeps = 1 }
+lossEnded ledger outcome =
+    record { energy = kilowattHours (outcome .delivered); electric = kwh (ledger .totals .electric); outlet = zero; time = zero; end = faultEnd (outcome .fault); substeps = 1 }
 
 unfoldable pub batteryHeatLoss : Battery → Zoned Stopped
 batteryHeatLoss battery = onPart (lossEnded (ledgerOf battery)) (outcome (processHeatBatteryZones (battery .card) (derived (battery .card)) (saltAt (saltsOf (battery .card))) (lossInput (battery .card)) (battery .zones)))
 
 -- the energy to the target level, or to the flow maximum where that is less
 unfoldable pub energyDeficit : Salts → Card → Given → Kilojoules → Kilojoules → Kilojoules
-energyDeficit s card Absent current wanted = kj (wanted .0 ⊖ current .0)
-energyDeficit s card (Value t) current wanted = kj (min (wanted .0 ⊖ current .0) (maxZero (energyAt s card t .0 ⊖ current .0)))
+energyDeficit salts card Absent current wanted = kj (wanted .0 ⊖ current .0)
+energyDeficit salts card (Value t) current wanted = kj (min (wanted .0 ⊖ current .0) (maxZero (energyAt salts card t .0 ⊖ current .0)))
 
 -- `calculate_charge_energy_demand`, from the state of charge
 unfoldable pub chargeEnergyDemand : Card → Given → Float → Float → KilowattHours

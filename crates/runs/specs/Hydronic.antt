@@ -47,10 +47,10 @@ hydronicTurn run next n = zoned (record { state = run .part; next = next; subste
 
 -- after the fractional substep u: its zones, and the limit as the energy
 unfoldable pub replayBy : HydronicTask → ℕ → Zoned HydronicState → Float → Float → Zoned Outcome → Fault → Zoned HydronicTurn
-replayBy task n run seconds reynold u Nothing =
-    hydronicTurn (zoned (record { absorbed = task .limit; reynold = reynold; time = run .part .time ⊕ seconds }) (u .zones)) (Stop Limit) n
-replayBy task n run seconds reynold u Logarithm = hydronicTurn run (Stop NoLogarithm) n
-replayBy task n run seconds reynold u NotFinite = hydronicTurn run (Stop NotFiniteRun) n
+replayBy task n run seconds reynold outcome Nothing =
+    hydronicTurn (zoned (record { absorbed = task .limit; reynold = reynold; time = run .part .time ⊕ seconds }) (outcome .zones)) (Stop Limit) n
+replayBy task n run seconds reynold outcome Logarithm = hydronicTurn run (Stop NoLogarithm) n
+replayBy task n run seconds reynold outcome NotFinite = hydronicTurn run (Stop NotFiniteRun) n
 
 -- the fractional substep: from the zones before the whole one, with the Reynolds number after it; n substeps are done
 unfoldable pub replayed : HydronicTask → (ℕ → Salt) → ℕ → Zoned HydronicState → Float → Float → Zoned HydronicTurn
@@ -66,23 +66,23 @@ fractionSeconds task absorbed this = task .card .substep ⊗ ((task .limit .0 �
 
 -- after the whole substep u; n substeps are done
 unfoldable pub hydronicWhole : HydronicTask → (ℕ → Salt) → ℕ → Zoned HydronicState → Zoned Outcome → Zoned HydronicTurn
-hydronicWhole task salts n run u =
-    let reynold = reynoldBetween (task .wet .inlet) (u .part .outlet) (task .wet .velocity) (task .wet .diameter) in
-    let this = kj (neg (u .part .delivered .0)) in
+hydronicWhole task salts n run outcome =
+    let reynold = reynoldBetween (task .wet .inlet) (outcome .part .outlet) (task .wet .velocity) (task .wet .diameter) in
+    let this = kj (neg (outcome .part .delivered .0)) in
     let absorbed = kj (run .part .absorbed .0 ⊕ this .0) in
     let time = run .part .time ⊕ task .card .substep in
-    cond (clearlyBelow (u .part .outlet) (task .wet .inlet))
+    cond (clearlyBelow (outcome .part .outlet) (task .wet .inlet))
     (cond (limitReached absorbed (task .limit))
     (cond (lt Constants.zero (this .0))
     (replayed task salts n run (fractionSeconds task absorbed this) reynold)
-    (hydronicTurn (zoned (record { absorbed = absorbed; reynold = reynold; time = time }) (u .zones)) (Stop Limit) n))
-    (hydronicTurn (zoned (record { absorbed = absorbed; reynold = reynold; time = time }) (u .zones)) On n))
-    (hydronicTurn (zoned (record { absorbed = run .part .absorbed; reynold = reynold; time = time }) (u .zones)) (Stop Level) n)
+    (hydronicTurn (zoned (record { absorbed = absorbed; reynold = reynold; time = time }) (outcome .zones)) (Stop Limit) n))
+    (hydronicTurn (zoned (record { absorbed = absorbed; reynold = reynold; time = time }) (outcome .zones)) On n))
+    (hydronicTurn (zoned (record { absorbed = run .part .absorbed; reynold = reynold; time = time }) (outcome .zones)) (Stop Level) n)
 
 unfoldable pub hydronicBy : HydronicTask → (ℕ → Salt) → ℕ → Zoned HydronicState → Zoned Outcome → Fault → Zoned HydronicTurn
-hydronicBy task salts n run u Nothing = hydronicWhole task salts n run u
-hydronicBy task salts n run u Logarithm = hydronicTurn run (Stop NoLogarithm) n
-hydronicBy task salts n run u NotFinite = hydronicTurn run (Stop NotFiniteRun) n
+hydronicBy task salts n run outcome Nothing = hydronicWhole task salts n run outcome
+hydronicBy task salts n run outcome Logarithm = hydronicTurn run (Stop NoLogarithm) n
+hydronicBy task salts n run outcome NotFinite = hydronicTurn run (Stop NotFiniteRun) n
 
 -- one turn: a whole substep, and the fractional one where the limit calls for it
 unfoldable pub hydronicStep : HydronicTask → (ℕ → Salt) → ℕ → Zoned HydronicState → Zoned HydronicTurn
@@ -91,13 +91,13 @@ hydronicStep task salts n run =
     hydronicBy task salts (n + 1) run u (u .part .fault)
 
 abbrev pub hydronicState : HydronicTurn → HydronicState
-hydronicState t = t .state
+hydronicState turn = turn .state
 
 abbrev pub hydronicEndState : HydronicEnd → HydronicState
-hydronicEndState e = e .state
+hydronicEndState run = run .state
 
 abbrev pub hydronicEnd : Zoned HydronicState → End → ℕ → Zoned HydronicEnd
-hydronicEnd run e n = zoned (record { state = run .part; end = e; substeps = n }) (run .zones)
+hydronicEnd run end n = zoned (record { state = run .part; end = end; substeps = n }) (run .zones)
 
 abbrev pub hydronicThen : (ℕ → Zoned HydronicState → Zoned HydronicEnd) → Zoned HydronicState → Next → ℕ → Zoned HydronicEnd
 hydronicThen go run On n = go n run
@@ -113,8 +113,8 @@ hydronicRun task salts (suc k) n run =
 
 -- what the run hands out; the charged electric total stays
 unfoldable pub hydronicEnded : KilowattHours → HydronicEnd → Stopped
-hydronicEnded electric e =
-    record { energy = kilowattHours (e .state .absorbed); electric = electric; outlet = Constants.zero; time = e .state .time; end = e .end; substeps = e .substeps }
+hydronicEnded electric run =
+    record { energy = kilowattHours (run .state .absorbed); electric = electric; outlet = Constants.zero; time = run .state .time; end = run .end; substeps = run .substeps }
 
 -- whole substeps, truncated
 unfoldable pub wholeSubsteps : HydronicTask → ℕ

@@ -43,7 +43,7 @@ nextRefusal (Stop e) = endRefusal e
 
 -- a substep without its energies
 abbrev pub outcome : Substep → Zoned Outcome
-outcome u = zoned (outcomeOf u) (u .zones)
+outcome substep = zoned (outcomeOf substep) (substep .zones)
 
 -- the Reynolds number of water between two temperatures
 unfoldable pub reynoldBetween : Float → Float → Float → Float → Float

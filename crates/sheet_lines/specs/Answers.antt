@@ -66,15 +66,15 @@ sameZones same xs ys zero = true
 sameZones same xs ys (suc n) = sameZones same xs ys n && same (getD xs n nan) (getD ys n nan)
 
 unfoldable pub sameTotals : (Float → Float → Bool) → Battery → Battery → Bool
-sameTotals same battery y =
-    same (battery .total) (y .total) && (same (battery .pump) (y .pump) && (same (battery .direct) (y .direct) && (same (battery .charged) (y .charged) && same (battery .electric) (y .electric))))
+sameTotals same shown own =
+    same (shown .total) (own .total) && (same (shown .pump) (own .pump) && (same (shown .direct) (own .direct) && (same (shown .charged) (own .charged) && same (shown .electric) (own .electric))))
 
 -- 'A call line agrees when its refusal, mark, substeps and f64 agree with those of the steps', its f64 by a comparison
 unfoldable pub agrees : (Float → Float → Bool) → Answer → Answer → Bool
-agrees same answer y =
-    eqb (answer .refusal) (y .refusal) && (same (answer .energy) (y .energy) && (eqb (answer .mark) (y .mark) && (same (answer .outlet) (y .outlet)
-    && (same (answer .time) (y .time) && (eqb (answer .substeps) (y .substeps)
-    && (sameZones same (answer .battery .zones) (y .battery .zones) (answer .battery .card .layers) && sameTotals same (answer .battery) (y .battery)))))))
+agrees same shown own =
+    eqb (shown .refusal) (own .refusal) && (same (shown .energy) (own .energy) && (eqb (shown .mark) (own .mark) && (same (shown .outlet) (own .outlet)
+    && (same (shown .time) (own .time) && (eqb (shown .substeps) (own .substeps)
+    && (sameZones same (shown .battery .zones) (own .battery .zones) (shown .battery .card .layers) && sameTotals same (shown .battery) (own .battery)))))))
 
 -- What a line can show: numbers that fit their fields, an absent outlet with zero bytes, a good battery.
 pub record GoodAnswer (version : ℕ) (answer : Answer) : Type 0 where

@@ -6,4 +6,3 @@ pub mod EachZone
 pub mod Ordered
 pub mod OneLoop
 pub mod Warmth
-pub mod Together

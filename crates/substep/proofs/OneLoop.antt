@@ -24,7 +24,7 @@ use Rattle.zone_water.specs.declared.Mode.the-variants.{OnlyCharging}
 use Rattle.zone.specs.declared.Salt.{Salt}
 use Rattle.card.specs.declared.Card.{Card}
 use Rattle.battery.specs.Battery.{zonesFinite}
-use Rattle.substep.specs.Substep.{zoneIndex, zoneStep, zoneAt, zonesAfter, chargerHeat, progressFrom, outcomeOf, progressFinite, progressFault, substepFrom}
+use Rattle.substep.specs.Substep.{zoneIndex, zoneStep, zoneAt, zonesAfter, chargerHeat, progressFrom, outcomeOf, InPlace, progressFinite, progressFault, substepFrom}
 use Rattle.substep.specs.declared.Common.{Common}
 use Rattle.substep.specs.declared.SubstepInput.{SubstepInput}
 use Rattle.substep.specs.declared.Fault.{Fault}
@@ -172,8 +172,7 @@ module _ (c : Card) (x : Common) (s : ℕ → Salt) (k : ℕ) (d : SubstepInput)
         c .layers ≤ k →
         Underway x s (c .layers) k (startOf start (d .inlet) heat (kwh Constants.zero)) zones outlet left charged sum spread →
         f ≡ cond (eq spread Constants.zero && (finite64 outlet && (finite64 (sum .s ⊕ sum .c) && finite64 (charged .0)))) Nothing NotFinite →
-        (zones ≡ zonesAfter x s (c .layers) (c .layers) (progressFrom d start) .zones) ×
-        (_≡_ {A = Outcome} (record { outlet = outlet; delivered = kj (sum .s ⊕ sum .c); charged = charged; fault = f })
-        (outcomeOf (substepFrom c (zonesAfter x s (c .layers) (c .layers) (progressFrom d start)))))
-    unfolding end
+        InPlace (substepFrom c (zonesAfter x s (c .layers) (c .layers) (progressFrom d start)))
+        (record { outlet = outlet; delivered = kj (sum .s ⊕ sum .c); charged = charged; fault = f }) zones
+    unfolding end substepFrom
     underway-end h a b u g = handed-out (following-all h (omega arith) u) g

@@ -1,6 +1,7 @@
 -- Document 01, module 5: `process_heat_battery_zones`, 'charging alone goes from the last zone to the first, the others upward'.
 use Prim.Native.Nat.{ℕ, zero, suc, _-_}
 use mathlib.Core.Bool.{Bool, cond, _&&_}
+use mathlib.Core.Path.{_≡_}
 use mathlib.Core.List.{List}
 use lib.ListN.{getD, set, replicate}
 use lib.Ieee.{Float, nan, lt, neg}
@@ -43,7 +44,7 @@ zoneIndex Normal n k = k
 
 -- a zone's charge, where there is heat of the charger left
 unfoldable pub zoneCharge : Salt → Float → Float → Kilojoules → Kilojoules → KilowattHours → Charged
-zoneCharge salt t target q e k = cond (lt (q .0) Constants.zero) (zoneSimultaneousCharging salt t target q e k) (charged q k e)
+zoneCharge salt t target left energy already = cond (lt (left .0) Constants.zero) (zoneSimultaneousCharging salt t target left energy already) (charged left already energy)
 
 -- the temperature of the charge level, by a zone's salt
 abbrev pub targetAt : Common → Salt → Float
@@ -51,9 +52,9 @@ targetAt common salt = socToTemp salt (common .reference) (common .max) (common 
 
 -- one zone of the salt s at t: its inlet, the charger's heat left and the energy charged so far
 unfoldable pub zoneStep : Common → Salt → Float → Float → Kilojoules → KilowattHours → ZoneStep
-zoneStep common salt t inlet q k =
-    let p = zoneProperties (common .mode) (common .shared) t inlet q in
-    let c = zoneCharge salt t (targetAt common salt) q (p .energy) k in
+zoneStep common salt t inlet left already =
+    let p = zoneProperties (common .mode) (common .shared) t inlet left in
+    let c = zoneCharge salt t (targetAt common salt) left (p .energy) already in
     record { temperature = newZoneTemperature salt t (c .heat) .temperature; energy = p .energy; outlet = p .outlet; left = c .left; charged = c .charged }
 
 -- the zone at j, of the salt s j
@@ -108,11 +109,15 @@ progressFrom input zones =
 
 -- what a substep hands out with its arrays, and without
 unfoldable pub substepWith : Outcome → List Float → List Float → Substep
-substepWith o zones energies =
-    record { zones = zones; energies = energies; outlet = o .outlet; delivered = o .delivered; charged = o .charged; fault = o .fault }
+substepWith outcome zones energies =
+    record { zones = zones; energies = energies; outlet = outcome .outlet; delivered = outcome .delivered; charged = outcome .charged; fault = outcome .fault }
 
 unfoldable pub outcomeOf : Substep → Outcome
-outcomeOf u = record { outlet = u .outlet; delivered = u .delivered; charged = u .charged; fault = u .fault }
+outcomeOf substep = record { outlet = substep .outlet; delivered = substep .delivered; charged = substep .charged; fault = substep .fault }
+
+-- what a function that works on lent zones hands out, and the zones that it leaves, are those of a substep
+abbrev pub InPlace : Substep → Outcome → List Float → Type 0
+InPlace substep outcome zones = (zones ≡ substep .zones) × (outcome ≡ outcomeOf substep)
 
 -- '24 the logarithm's argument is not positive, normal and finite'
 unfoldable pub withoutLogarithm : List Float → Substep

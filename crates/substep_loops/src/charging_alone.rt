@@ -15,7 +15,7 @@ ghost use mathlib.Core.Bool.{true};
 ghost use Prim.Native.Nat.{_≤_};
 ghost use lib.Ieee.{Float};
 ghost use Rattle.zone.specs.Lent.{zoneSalt, Salted};
-ghost use Rattle.substep.specs.Substep.{targetAt, zoneStep, zonesAfter, progressFrom, outcomeOf, substepFrom, processHeatBatteryZones};
+ghost use Rattle.substep.specs.Substep.{targetAt, zoneStep, zonesAfter, progressFrom, InPlace, substepFrom, processHeatBatteryZones};
 
 // A zone's part of charging alone: nothing, where the charger's heat is used up.
 fn charging_step(
@@ -65,10 +65,11 @@ fn charge_zones(
     zones: &mut [f64; 64],
 ) -> Outcome
     requires { ⌜ (card .layers ≤ 64) × (Salted (now salts) step (card .layers) × ((common .mode ≡ Mode.OnlyCharging) × (target ≡ targetAt common (zoneSalt (now salts) step 0)))) ⌝ }
-    ensures { λ r. ⌜ (now (zones .exit) ≡ zonesAfter common (zoneSalt (now (salts .entry)) step) (card .layers) (card .layers) (progressFrom input (now (zones .entry))) .zones) × (r ≡ outcomeOf (substepFrom card (zonesAfter common (zoneSalt (now (salts .entry)) step) (card .layers) (card .layers) (progressFrom input (now (zones .entry)))))) ⌝ }
+    ensures { λ r. ⌜ InPlace (substepFrom card (zonesAfter common (zoneSalt (now (salts .entry)) step) (card .layers) (card .layers) (progressFrom input (now (zones .entry))))) r (now (zones .exit)) ⌝ }
 {
     let n = card.layers as usize;
     let mode = common.mode;
+    let first = zone::layer::zone_salt(salts, step, 0);
     let mut outlet = input.inlet;
     let mut left = substep::charger_heat(input);
     let mut charged = KilowattHours(0.0);
@@ -76,7 +77,7 @@ fn charge_zones(
     let mut spread = 0.0;
     for k in 0..n {
         let j = substep::zone_index(mode, n, k);
-        let salt = zone::layer::zone_salt(salts, step, j);
+        let salt = crate::own_salt(first, salts, step, j);
         let z = charging_step(common, salt, step == 0, target, zones[j], left, charged);
         zones[j] = z.temperature;
         spread = floats::finite_step(spread, zones[j]);
@@ -103,7 +104,7 @@ pub fn charge_in_place(
     zones: &mut [f64; 64],
 ) -> Outcome
     requires { ⌜ (card .layers ≤ 64) × (Salted (now salts) step (card .layers) × (input .mode ≡ Mode.OnlyCharging)) ⌝ }
-    ensures { λ r. ⌜ (now (zones .exit) ≡ processHeatBatteryZones card pcm (zoneSalt (now (salts .entry)) step) input (now (zones .entry)) .zones) × (r ≡ outcomeOf (processHeatBatteryZones card pcm (zoneSalt (now (salts .entry)) step) input (now (zones .entry)))) ⌝ }
+    ensures { λ r. ⌜ InPlace (processHeatBatteryZones card pcm (zoneSalt (now (salts .entry)) step) input (now (zones .entry))) r (now (zones .exit)) ⌝ }
 {
     let target = substep::target_of(card, salts, step, input.target);
     let common = substep::common_of(Mode::OnlyCharging, card, pcm, input, 0.0);

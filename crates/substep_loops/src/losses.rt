@@ -18,7 +18,7 @@ ghost use lib.Ieee.{Float, binary64, ofInt, lt};
 ghost use Rattle.floats.specs.Constants.{zero};
 ghost use Rattle.floats.specs.F64.{_⊘_};
 ghost use Rattle.zone.specs.Lent.{zoneSalt, Salted};
-ghost use Rattle.substep.specs.Substep.{zoneStep, zonesAfter, progressFrom, chargerHeat, outcomeOf, substepFrom, processHeatBatteryZones};
+ghost use Rattle.substep.specs.Substep.{zoneStep, zonesAfter, progressFrom, chargerHeat, InPlace, substepFrom, processHeatBatteryZones};
 
 // A zone's loss. `share` is a layer's part of the heat that is lost at the rated difference.
 fn loss_step(
@@ -53,9 +53,10 @@ fn lose_zones(
     zones: &mut [f64; 64],
 ) -> Outcome
     requires { ⌜ (card .layers ≤ 64) × (Salted (now salts) step (card .layers) × ((common .mode ≡ Mode.Losses) × (lt (chargerHeat input .0) zero ≡ false))) ⌝ }
-    ensures { λ r. ⌜ (now (zones .exit) ≡ zonesAfter common (zoneSalt (now (salts .entry)) step) (card .layers) (card .layers) (progressFrom input (now (zones .entry))) .zones) × (r ≡ outcomeOf (substepFrom card (zonesAfter common (zoneSalt (now (salts .entry)) step) (card .layers) (card .layers) (progressFrom input (now (zones .entry)))))) ⌝ }
+    ensures { λ r. ⌜ InPlace (substepFrom card (zonesAfter common (zoneSalt (now (salts .entry)) step) (card .layers) (card .layers) (progressFrom input (now (zones .entry))))) r (now (zones .exit)) ⌝ }
 {
     let n = card.layers as usize;
+    let first = zone::layer::zone_salt(salts, step, 0);
     let left = substep::charger_heat(input);
     let charged = KilowattHours(0.0);
     let share = left.0 / (common.shared.layers as f64);
@@ -64,7 +65,7 @@ fn lose_zones(
     // equals 0 as long as each zone is finite
     let mut spread = 0.0;
     for k in 0..n {
-        let salt = zone::layer::zone_salt(salts, step, k);
+        let salt = crate::own_salt(first, salts, step, k);
         let z = loss_step(common, salt, zones[k], left, Kilojoules(share), charged);
         zones[k] = z.temperature;
         spread = floats::finite_step(spread, zones[k]);
@@ -91,7 +92,7 @@ pub fn lose_in_place(
     zones: &mut [f64; 64],
 ) -> Outcome
     requires { ⌜ (card .layers ≤ 64) × (Salted (now salts) step (card .layers) × ((input .mode ≡ Mode.Losses) × (lt (chargerHeat input .0) zero ≡ false))) ⌝ }
-    ensures { λ r. ⌜ (now (zones .exit) ≡ processHeatBatteryZones card pcm (zoneSalt (now (salts .entry)) step) input (now (zones .entry)) .zones) × (r ≡ outcomeOf (processHeatBatteryZones card pcm (zoneSalt (now (salts .entry)) step) input (now (zones .entry)))) ⌝ }
+    ensures { λ r. ⌜ InPlace (processHeatBatteryZones card pcm (zoneSalt (now (salts .entry)) step) input (now (zones .entry))) r (now (zones .exit)) ⌝ }
 {
     let common = substep::common_of(Mode::Losses, card, pcm, input, 0.0);
     lose_zones(card, common, salts, step, input, zones)

@@ -8,27 +8,14 @@ use substep::Outcome;
 use substep::SubstepInput;
 use zone::Kilojoules;
 use zone::KilowattHours;
-use zone::Salt;
 use zone_water::Mode;
 ghost use mathlib.Core.Path.{_≡_};
 ghost use mathlib.Core.Bool.{true};
-ghost use Prim.Native.Nat.{ℕ, _+_, _*_, _≤_, _<_};
-ghost use lib.ListN.{length};
+ghost use Prim.Native.Nat.{ℕ, _≤_, _<_};
 ghost use lib.Ieee.{lt};
 ghost use Rattle.floats.specs.Constants.{zero};
 ghost use Rattle.zone.specs.Lent.{zoneSalt, Salted};
-ghost use Rattle.substep.specs.Substep.{targetAt, zonesAfter, targetOf, progressFrom, chargerHeat, outcomeOf, substepFrom, processHeatBatteryZones};
-
-// The salt of zone j. `first` is zone 0's, read before the loop: where one salt serves all, the compiler keeps what it works out of it.
-fn own_salt(first: Salt, salts: &[f64], step: usize, j: usize) -> Salt
-    requires { ⌜ (j * step + 5 ≤ length (now salts)) × (first ≡ zoneSalt (now salts) step 0) ⌝ }
-    ensures { λ r. ⌜ r ≡ zoneSalt (now (salts .entry)) step j ⌝ }
-{
-    if step == 0 {
-        return first;
-    }
-    zone::layer::zone_salt(salts, step, j)
-}
+ghost use Rattle.substep.specs.Substep.{targetAt, zonesAfter, targetOf, progressFrom, chargerHeat, InPlace, substepFrom, processHeatBatteryZones};
 
 // All zones in the mode's order, where they lie. It sums the energies and tests the zones as it goes, also where charging alone goes
 // downward, since the energies there are 0. Places above the zones are neither read nor written.
@@ -44,7 +31,7 @@ pub fn zones_in_place(
     zones: &mut [f64; 64],
 ) -> Outcome
     requires { ⌜ (card .layers ≤ 64) × (Salted (now salts) step (card .layers) × (lt (chargerHeat input .0) zero ≡ true → alike ≡ true → (j : ℕ) → j < card .layers → target ≡ targetAt common (zoneSalt (now salts) step j))) ⌝ }
-    ensures { λ r. ⌜ (now (zones .exit) ≡ zonesAfter common (zoneSalt (now (salts .entry)) step) (card .layers) (card .layers) (progressFrom input (now (zones .entry))) .zones) × (r ≡ outcomeOf (substepFrom card (zonesAfter common (zoneSalt (now (salts .entry)) step) (card .layers) (card .layers) (progressFrom input (now (zones .entry)))))) ⌝ }
+    ensures { λ r. ⌜ InPlace (substepFrom card (zonesAfter common (zoneSalt (now (salts .entry)) step) (card .layers) (card .layers) (progressFrom input (now (zones .entry))))) r (now (zones .exit)) ⌝ }
 {
     let n = card.layers as usize;
     let mode = common.mode;
@@ -57,7 +44,7 @@ pub fn zones_in_place(
     let mut spread = 0.0;
     for k in 0..n {
         let j = substep::zone_index(mode, n, k);
-        let salt = own_salt(first, salts, step, j);
+        let salt = crate::own_salt(first, salts, step, j);
         let z = substep::zone_step(common, salt, alike, target, zones[j], outlet, left, charged);
         zones[j] = z.temperature;
         spread = floats::finite_step(spread, zones[j]);
@@ -89,7 +76,7 @@ pub fn process_in_place(
     zones: &mut [f64; 64],
 ) -> Outcome
     requires { ⌜ (card .layers ≤ 64) × (Salted (now salts) step (card .layers) × ((input .mode ≡ Mode.Normal) × (lt (chargerHeat input .0) zero ≡ true → (j : ℕ) → j < card .layers → target ≡ targetOf card (zoneSalt (now salts) step j) (input .target)))) ⌝ }
-    ensures { λ r. ⌜ (now (zones .exit) ≡ processHeatBatteryZones card pcm (zoneSalt (now (salts .entry)) step) input (now (zones .entry)) .zones) × (r ≡ outcomeOf (processHeatBatteryZones card pcm (zoneSalt (now (salts .entry)) step) input (now (zones .entry)))) ⌝ }
+    ensures { λ r. ⌜ InPlace (processHeatBatteryZones card pcm (zoneSalt (now (salts .entry)) step) input (now (zones .entry))) r (now (zones .exit)) ⌝ }
 {
     let transfer = substep::zone_transfer(Mode::Normal, card, input);
     let Log::Value(u) = transfer else {

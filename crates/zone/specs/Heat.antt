@@ -13,7 +13,7 @@ kwh x = record { 0 = x }
 
 -- the two conversions
 unfoldable pub kilowattHours : Kilojoules → KilowattHours
-kilowattHours q = kwh (q .0 ⊘ hour)
+kilowattHours energy = kwh (energy .0 ⊘ hour)
 
 unfoldable pub kilojoules : KilowattHours → Kilojoules
-kilojoules e = kj (e .0 ⊗ hour)
+kilojoules energy = kj (energy .0 ⊗ hour)

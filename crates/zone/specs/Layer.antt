@@ -33,12 +33,12 @@ layerEnergyStored t ref salt =
 
 -- the temperature at which a layer holds e, from its energies at lower and at upper
 unfoldable pub tempAt : Salt → Float → Kilojoules → Kilojoules → Kilojoules → Float
-tempAt salt ref e atLower atUpper =
-    cond (le (e .0) (atLower .0))
-    (ref ⊕ e .0 ⊘ salt .below)
-    (cond (le (e .0) (atUpper .0))
-    (salt .lower ⊕ (e .0 ⊖ atLower .0) ⊘ salt .during)
-    (salt .upper ⊕ (e .0 ⊖ atUpper .0) ⊘ salt .above))
+tempAt salt ref energy atLower atUpper =
+    cond (le (energy .0) (atLower .0))
+    (ref ⊕ energy .0 ⊘ salt .below)
+    (cond (le (energy .0) (atUpper .0))
+    (salt .lower ⊕ (energy .0 ⊖ atLower .0) ⊘ salt .during)
+    (salt .upper ⊕ (energy .0 ⊖ atUpper .0) ⊘ salt .above))
 
 -- `soc_to_temp`: ref at level 0, max at level 1
 unfoldable pub socToTemp : Salt → Float → Float → Float → Float

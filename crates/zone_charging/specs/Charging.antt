@@ -13,43 +13,43 @@ use Rattle.zone_charging.specs.declared.Charged.{Charged}
 
 -- the charger's heat left, the energy charged, the zone's heat
 abbrev pub charged : Kilojoules → KilowattHours → Kilojoules → Charged
-charged q k e = record { left = q; charged = k; heat = e }
+charged left already energy = record { left = left; charged = already; heat = energy }
 
 -- k and the heat q, counted in kilowatt-hours
 unfoldable pub counted : KilowattHours → Kilojoules → KilowattHours
-counted k q = kwh (k .0 ⊕ kilowattHours q .0)
+counted already energy = kwh (already .0 ⊕ kilowattHours energy .0)
 
 -- a zone below its target, where the water takes e ≥ 0 from it; n is what the zone needs, n ≤ 0
 unfoldable pub chargingWithdrawn : Kilojoules → Kilojoules → Kilojoules → KilowattHours → Charged
-chargingWithdrawn n q e k =
-    cond (le (e .0) (neg (q .0)))
-    (cond (lt (n .0) (q .0 ⊕ e .0))
-    (charged (kj zero) (counted (counted k e) (kj (neg (q .0 ⊕ e .0)))) (kj (zero ⊕ (q .0 ⊕ e .0))))
-    (charged (kj (q .0 ⊕ e .0 ⊖ n .0)) (counted (counted k e) (kj (neg (n .0)))) (kj (zero ⊕ n .0))))
-    (charged (kj zero) (counted k (kj (neg (q .0)))) (kj (e .0 ⊕ q .0)))
+chargingWithdrawn required left energy already =
+    cond (le (energy .0) (neg (left .0)))
+    (cond (lt (required .0) (left .0 ⊕ energy .0))
+    (charged (kj zero) (counted (counted already energy) (kj (neg (left .0 ⊕ energy .0)))) (kj (zero ⊕ (left .0 ⊕ energy .0))))
+    (charged (kj (left .0 ⊕ energy .0 ⊖ required .0)) (counted (counted already energy) (kj (neg (required .0)))) (kj (zero ⊕ required .0))))
+    (charged (kj zero) (counted already (kj (neg (left .0)))) (kj (energy .0 ⊕ left .0)))
 
 -- a zone below its target, where the water adds heat, e < 0
 unfoldable pub chargingAdded : Kilojoules → Kilojoules → Kilojoules → KilowattHours → Charged
-chargingAdded n q e k =
-    cond (lt (n .0) (q .0 ⊕ e .0))
-    (charged (kj zero) (counted k (kj (neg (q .0)))) (kj (q .0 ⊕ e .0)))
-    (cond (le (n .0) (e .0))
-    (charged (kj (q .0 ⊖ (n .0 ⊖ e .0))) (counted k (kj (neg (n .0 ⊖ e .0)))) n)
-    (charged q k e))
+chargingAdded required left energy already =
+    cond (lt (required .0) (left .0 ⊕ energy .0))
+    (charged (kj zero) (counted already (kj (neg (left .0)))) (kj (left .0 ⊕ energy .0)))
+    (cond (le (required .0) (energy .0))
+    (charged (kj (left .0 ⊖ (required .0 ⊖ energy .0))) (counted already (kj (neg (required .0 ⊖ energy .0)))) required)
+    (charged left already energy))
 
 -- a zone at its target or above
 unfoldable pub chargingFull : Kilojoules → Kilojoules → KilowattHours → Charged
-chargingFull q e k =
-    cond (le zero (e .0))
-    (cond (lt (e .0) (neg (q .0)))
-    (charged (kj (q .0 ⊕ e .0)) (counted k e) (kj zero))
-    (charged (kj zero) (counted k (kj (neg (q .0)))) (kj (e .0 ⊕ q .0))))
-    (charged q k e)
+chargingFull left energy already =
+    cond (le zero (energy .0))
+    (cond (lt (energy .0) (neg (left .0)))
+    (charged (kj (left .0 ⊕ energy .0)) (counted already energy) (kj zero))
+    (charged (kj zero) (counted already (kj (neg (left .0)))) (kj (energy .0 ⊕ left .0))))
+    (charged left already energy)
 
 unfoldable pub zoneSimultaneousCharging : Salt → Float → Float → Kilojoules → Kilojoules → KilowattHours → Charged
-zoneSimultaneousCharging salt t target q e k =
+zoneSimultaneousCharging salt t target left energy already =
     cond (lt t target)
-    (cond (le zero (e .0))
-    (chargingWithdrawn (zoneEnergyRequired salt t target) q e k)
-    (chargingAdded (zoneEnergyRequired salt t target) q e k))
-    (chargingFull q e k)
+    (cond (le zero (energy .0))
+    (chargingWithdrawn (zoneEnergyRequired salt t target) left energy already)
+    (chargingAdded (zoneEnergyRequired salt t target) left energy already))
+    (chargingFull left energy already)

@@ -15,70 +15,70 @@ deltas a d b = record { above = a; during = d; below = b }
 
 -- a zone at t, upper or warmer, gives up e > 0
 unfoldable pub deliveringFromAbove : Salt → Float → Kilojoules → Deltas
-deliveringFromAbove salt t e =
+deliveringFromAbove salt t energy =
     let range1 = (t ⊖ salt .upper) ⊗ salt .above in
     let range2 = (salt .upper ⊖ salt .lower) ⊗ salt .during in
-    cond (le (e .0) range1)
-    (deltas (e .0 ⊘ salt .above) zero zero)
-    (cond (le (e .0 ⊖ range1) range2)
-    (deltas (t ⊖ salt .upper) ((e .0 ⊖ range1) ⊘ salt .during) zero)
-    (deltas (t ⊖ salt .upper) (salt .upper ⊖ salt .lower) ((e .0 ⊖ range1 ⊖ range2) ⊘ salt .below)))
+    cond (le (energy .0) range1)
+    (deltas (energy .0 ⊘ salt .above) zero zero)
+    (cond (le (energy .0 ⊖ range1) range2)
+    (deltas (t ⊖ salt .upper) ((energy .0 ⊖ range1) ⊘ salt .during) zero)
+    (deltas (t ⊖ salt .upper) (salt .upper ⊖ salt .lower) ((energy .0 ⊖ range1 ⊖ range2) ⊘ salt .below)))
 
 -- a zone at t gives up e > 0
 unfoldable pub delivering : Salt → Float → Kilojoules → Deltas
-delivering salt t e =
+delivering salt t energy =
     let range2 = (t ⊖ salt .lower) ⊗ salt .during in
     cond (le (salt .upper) t)
-    (deliveringFromAbove salt t e)
+    (deliveringFromAbove salt t energy)
     (cond (le (salt .lower) t)
-    (cond (le (e .0) range2)
-    (deltas zero (e .0 ⊘ salt .during) zero)
-    (deltas zero (t ⊖ salt .lower) ((e .0 ⊖ range2) ⊘ salt .below)))
-    (deltas zero zero (e .0 ⊘ salt .below)))
+    (cond (le (energy .0) range2)
+    (deltas zero (energy .0 ⊘ salt .during) zero)
+    (deltas zero (t ⊖ salt .lower) ((energy .0 ⊖ range2) ⊘ salt .below)))
+    (deltas zero zero (energy .0 ⊘ salt .below)))
 
 -- a zone at t, lower or cooler, takes up -e, e < 0
 unfoldable pub retrievingFromBelow : Salt → Float → Kilojoules → Deltas
-retrievingFromBelow salt t e =
+retrievingFromBelow salt t energy =
     let range3 = (t ⊖ salt .lower) ⊗ salt .below in
     let range2 = (salt .lower ⊖ salt .upper) ⊗ salt .during in
-    cond (le range3 (e .0))
-    (deltas zero zero (e .0 ⊘ salt .below))
-    (cond (le range2 (e .0 ⊖ range3))
-    (deltas zero ((e .0 ⊖ range3) ⊘ salt .during) (t ⊖ salt .lower))
-    (deltas ((e .0 ⊖ range3 ⊖ range2) ⊘ salt .above) (salt .lower ⊖ salt .upper) (t ⊖ salt .lower)))
+    cond (le range3 (energy .0))
+    (deltas zero zero (energy .0 ⊘ salt .below))
+    (cond (le range2 (energy .0 ⊖ range3))
+    (deltas zero ((energy .0 ⊖ range3) ⊘ salt .during) (t ⊖ salt .lower))
+    (deltas ((energy .0 ⊖ range3 ⊖ range2) ⊘ salt .above) (salt .lower ⊖ salt .upper) (t ⊖ salt .lower)))
 
 -- a zone at t takes up -e, e < 0
 unfoldable pub retrieving : Salt → Float → Kilojoules → Deltas
-retrieving salt t e =
+retrieving salt t energy =
     let range2 = (t ⊖ salt .upper) ⊗ salt .during in
     cond (le t (salt .lower))
-    (retrievingFromBelow salt t e)
+    (retrievingFromBelow salt t energy)
     (cond (le t (salt .upper))
-    (cond (le range2 (e .0))
-    (deltas zero (e .0 ⊘ salt .during) zero)
-    (deltas ((e .0 ⊖ range2) ⊘ salt .above) (t ⊖ salt .upper) zero))
-    (deltas (e .0 ⊘ salt .above) zero zero))
+    (cond (le range2 (energy .0))
+    (deltas zero (energy .0 ⊘ salt .during) zero)
+    (deltas ((energy .0 ⊖ range2) ⊘ salt .above) (t ⊖ salt .upper) zero))
+    (deltas (energy .0 ⊘ salt .above) zero zero))
 
 -- the zone at t after its falls
 abbrev pub lowered : Float → Deltas → ZoneUpdate
-lowered t d = record { temperature = t ⊖ (d .above ⊕ d .during ⊕ d .below) }
+lowered t deltas = record { temperature = t ⊖ (deltas .above ⊕ deltas .during ⊕ deltas .below) }
 
 -- 'NaN energy, or magnitude at most 1e-6, leaves the zone. A positive one never raises it, a negative one never lowers it.'
 unfoldable pub newZoneTemperature : Salt → Float → Kilojoules → ZoneUpdate
-newZoneTemperature salt t e =
-    cond (nearlyEqual (e .0) zero negligibleEnergy maxRelative)
+newZoneTemperature salt t energy =
+    cond (nearlyEqual (energy .0) zero negligibleEnergy maxRelative)
     (record { temperature = t })
-    (cond (lt zero (e .0))
-    (lowered t (delivering salt t e))
-    (cond (lt (e .0) zero)
-    (lowered t (retrieving salt t e))
+    (cond (lt zero (energy .0))
+    (lowered t (delivering salt t energy))
+    (cond (lt (energy .0) zero)
+    (lowered t (retrieving salt t energy))
     (record { temperature = t })))
 
 -- its falls by two comparisons, none where the zone stays: what the code lowers it by
 unfoldable pub zoneFalls : Salt → Float → Kilojoules → Deltas
-zoneFalls salt t e =
-    cond (lt negligibleEnergy (e .0))
-    (delivering salt t e)
-    (cond (lt (e .0) (neg negligibleEnergy))
-    (retrieving salt t e)
+zoneFalls salt t energy =
+    cond (lt negligibleEnergy (energy .0))
+    (delivering salt t energy)
+    (cond (lt (energy .0) (neg negligibleEnergy))
+    (retrieving salt t energy)
     (deltas zero zero zero))

@@ -62,11 +62,11 @@ outletTemp transfer t inlet mass =
 -- `get_zone_properties`: the heat that a zone at t gives up and its outlet, with the water's temperature at the zone and the charger's heat left.
 -- Only the normal mode uses the heat transfer, and so the logarithm
 unfoldable pub zoneProperties : Mode → Shared → Float → Float → Kilojoules → ZoneProperties
-zoneProperties OnlyCharging x t inlet q = record { energy = kj zero; outlet = zero }
-zoneProperties Losses x t inlet q =
-    record { energy = kj (maxZero (q .0 ⊘ ofInt binary64 (pos (x .layers)) ⊗ (t ⊖ x .inlet) ⊘ x .rated)); outlet = zero }
-zoneProperties Normal x t inlet q =
+zoneProperties OnlyCharging shared t inlet left = record { energy = kj zero; outlet = zero }
+zoneProperties Losses shared t inlet left =
+    record { energy = kj (maxZero (left .0 ⊘ ofInt binary64 (pos (shared .layers)) ⊗ (t ⊖ shared .inlet) ⊘ shared .rated)); outlet = zero }
+zoneProperties Normal shared t inlet left =
     record {
-      energy = kj (heatCapacity ⊗ hour ⊗ x .mass ⊗ (outletTemp (x .transfer) t inlet (x .mass) ⊖ inlet) ⊗ x .seconds);
-      outlet = outletTemp (x .transfer) t inlet (x .mass);
+      energy = kj (heatCapacity ⊗ hour ⊗ shared .mass ⊗ (outletTemp (shared .transfer) t inlet (shared .mass) ⊖ inlet) ⊗ shared .seconds);
+      outlet = outletTemp (shared .transfer) t inlet (shared .mass);
     }

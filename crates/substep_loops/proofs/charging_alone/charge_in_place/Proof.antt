@@ -1,4 +1,3 @@
-use Rattle.substep.specs.Substep.{substepFrom}
 use Rattle.substep.proofs.SubstepLaws.{passed, without-logarithm-charge, common-mode, common-level}
 use mathlib.Core.Path.{refl, sym, _∙_}
 use borrow.Author.Needs.{needs}
@@ -17,7 +16,6 @@ charge-zones-requires c κs =
     (p .0, (p .1 .0, (common-mode _ _ _ _ _ (c .before .common-of .ensures) ∙ p .1 .1, c .before .before .target-of .ensures ∙ sym (common-level _ _ _ _ _ _ (c .before .common-of .ensures)))))
 
 returns : tie.Need-returns
-unfolding substepFrom
 returns c =
     let b = c .before .before .before .before .before in
     rw (passed (b .args .card) (b .args .pcm) _ (b .args .input) (b .args .zones .now) _ _ _ (sym (without-logarithm-charge _ _ (b .pre .1 .1))) refl (c .before .before .common-of .ensures)) (c .charge-zones .ensures)

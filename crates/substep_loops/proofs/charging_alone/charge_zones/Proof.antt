@@ -13,14 +13,17 @@ use Rattle.substep_loops.proofs.charging_alone.charge_zones.Statement.{
 use Rattle.substep_loops.proofs.charging_alone.charge_zones.Tie as tie
 
 abbrev Inv-loop : tie.InvT-loop
-Inv-loop common salts step target zones₀ n mode outlet₀ left₀ charged₀ spread₀ k₀ zones outlet left charged spread k =
+Inv-loop common salts step target zones₀ n mode first outlet₀ left₀ charged₀ spread₀ k₀ zones outlet left charged spread k =
     (k ≤ n) × Underway common (zoneSalt salts step) n k (startOf zones₀ outlet₀ left₀ charged₀) zones outlet left charged noSum spread
 
 abbrev μ-loop : tie.MeasureT-loop
-μ-loop common salts step target zones₀ n mode outlet₀ left₀ charged₀ spread₀ k₀ zones outlet left charged spread k = n - k
+μ-loop common salts step target zones₀ n mode first outlet₀ left₀ charged₀ spread₀ k₀ zones outlet left charged spread k = n - k
 
 cast-n : tie.Need-cast-n Inv-loop μ-loop
 cast-n c = search needs
+
+zone-salt-requires : tie.Need-zone-salt-requires Inv-loop μ-loop
+zone-salt-requires c κs = search needs
 
 charger-heat-requires : tie.Need-charger-heat-requires Inv-loop μ-loop
 charger-heat-requires c κs = search needs
@@ -31,8 +34,8 @@ loop-holds c = (omega arith, underway-start _ _ _ _ _ _ _)
 zone-index-requires : tie.Need-zone-index-requires Inv-loop μ-loop
 zone-index-requires c κs = search needs
 
-zone-salt-requires : tie.Need-zone-salt-requires Inv-loop μ-loop
-zone-salt-requires c κs = c .before .before .before .before .before .before .pre .1 .0 .1 _ (c .zone-index .ensures .1)
+own-salt-requires : tie.Need-own-salt-requires Inv-loop μ-loop
+own-salt-requires c κs = (c .before .before .before .before .before .before .before .pre .1 .0 .1 _ (c .zone-index .ensures .1), c .before .before .before .before .zone-salt .ensures)
 
 mul-charging-step : tie.Need-mul-charging-step Inv-loop μ-loop
 mul-charging-step c = search needs
@@ -42,9 +45,9 @@ element-copy-out-charging-step c = search needs
 
 charging-step-requires : tie.Need-charging-step-requires Inv-loop μ-loop
 charging-step-requires c κs =
-    let b = c .before .before .before .before .before .before .before .before in
+    let b = c .before .before .before .before .before .before .before .before .before in
     let p = b .pre in
-    (p .1 .1 .0, λ e. rw (c .before .zone-salt .ensures, one-salt _ _ _ (eqb-true (b .args .step) 0 e)) (p .1 .1 .1))
+    (p .1 .1 .0, λ e. rw (c .before .own-salt .ensures, one-salt _ _ _ (eqb-true (b .args .step) 0 e)) (p .1 .1 .1))
 
 mul-zones : tie.Need-mul-zones Inv-loop μ-loop
 mul-zones c = search needs
@@ -62,7 +65,10 @@ finite-step-requires : tie.Need-finite-step-requires Inv-loop μ-loop
 finite-step-requires c κs = search needs
 
 add-k : tie.Need-add-k Inv-loop μ-loop
-add-k c = search needs
+add-k c =
+    let taken = c .before .before .before .before .before .before .before .before .loop-test .taken in
+    let few = c .before .before .before .before .before .before .before .before .before .before .before .before .before .before .pre .0 in
+    search needs
 
 loop-less : tie.Need-loop-less Inv-loop μ-loop
 loop-less c = search needs
@@ -70,10 +76,10 @@ loop-less c = search needs
 loop-again : tie.Need-loop-again Inv-loop μ-loop
 loop-again c =
     let i = c .before .before .before .before .before .before .before in
-    let b = i .before .before .before .before .before .before in
+    let b = i .before .before .before .before .before .before .before in
     let p = b .pre in (
       omega arith,
-      charging-more (b .args .common) _ _ _ refl (p .0) _ (i .before .loop-test .taken) _ _ _ _ _ _ _ _ _ (i .zone-index .ensures .0) (c .before .before .before .before .before .before .zone-salt .ensures) (c .before .before .before .before .charging-step .ensures _) (c .before .before .finite-step .ensures) (p .1 .1 .0) (i .before .before .loop .inv .1),
+      charging-more (b .args .common) _ _ _ refl (p .0) _ (i .before .loop-test .taken) _ _ _ _ _ _ _ _ _ (i .zone-index .ensures .0) (c .before .before .before .before .before .before .own-salt .ensures) (c .before .before .before .before .charging-step .ensures _) (c .before .before .finite-step .ensures) (p .1 .1 .0) (i .before .before .loop .inv .1),
     )
 
 progress-fault-requires : tie.Need-progress-fault-requires Inv-loop μ-loop
@@ -84,7 +90,7 @@ returns : tie.Need-returns Inv-loop μ-loop
 unfolding ofBits add
 returns c =
     let l = c .before .before .loop in
-    underway-end _ _ _ _ _ _ (c .before .before .before .before .before .before .pre .0) _ _ _ _ _ noSum _ _ (c .before .before .before .charger-heat .ensures) (l .inv .0) (c .before .loop-test .left) (l .inv .1) (c .progress-fault .ensures)
+    underway-end _ _ _ _ _ _ (c .before .before .before .before .before .before .before .pre .0) _ _ _ _ _ noSum _ _ (c .before .before .before .charger-heat .ensures) (l .inv .0) (c .before .loop-test .left) (l .inv .1) (c .progress-fault .ensures)
 
 pub charge-zones-spec : {M : Type 1} → statement M
 charge-zones-spec =
@@ -93,10 +99,11 @@ charge-zones-spec =
     Inv-loop
     μ-loop
     cast-n
+    zone-salt-requires
     charger-heat-requires
     loop-holds
     zone-index-requires
-    zone-salt-requires
+    own-salt-requires
     mul-charging-step
     element-copy-out-charging-step
     charging-step-requires

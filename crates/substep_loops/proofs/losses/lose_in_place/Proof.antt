@@ -1,4 +1,3 @@
-use Rattle.substep.specs.Substep.{substepFrom}
 use Rattle.substep.proofs.SubstepLaws.{passed, without-logarithm-loss, common-mode}
 use mathlib.Core.Path.{refl, sym, _∙_}
 use Rattle.substep_loops.proofs.losses.lose_in_place.Statement.{statement}
@@ -13,7 +12,6 @@ lose-zones-requires c κs =
     (p .0, (p .1 .0, (common-mode _ _ _ _ _ (c .before .common-of .ensures) ∙ p .1 .1 .0, p .1 .1 .1)))
 
 returns : tie.Need-returns
-unfolding substepFrom
 returns c =
     let b = c .before .before .before .before in
     rw (passed (b .args .card) (b .args .pcm) _ (b .args .input) (b .args .zones .now) _ _ _ (sym (without-logarithm-loss _ _ (b .pre .1 .1 .0))) refl (c .before .before .common-of .ensures)) (c .lose-zones .ensures)

@@ -1,4 +1,4 @@
-use Rattle.substep.specs.Substep.{zoneTransfer, withoutLogarithm, outcomeOf, substepFrom}
+use Rattle.substep.specs.Substep.{zoneTransfer, withoutLogarithm, outcomeOf}
 use Rattle.zone_water.specs.declared.Mode.{Mode}
 use Rattle.substep.specs.declared.Substep.{Substep}
 use Rattle.substep.proofs.SubstepLaws.{passed, refused-here, common-level}
@@ -35,7 +35,6 @@ zones-in-place-requires c κs =
     (p .0, (p .1 .0, λ h e j l. p .1 .1 .1 h j l ∙ sym (common-level _ _ _ _ _ _ (c .before .common-of .ensures))))
 
 returns-2 : tie.Need-returns-2
-unfolding substepFrom
 returns-2 c =
     let b = c .before .before .before .before .before .before .before .before in
     let t = c .before .before .before .before .before .before .zone-transfer .ensures ∙ ap (λ (m : Mode). zoneTransfer m (b .args .card) (b .args .input)) (sym (b .pre .1 .1 .0)) in

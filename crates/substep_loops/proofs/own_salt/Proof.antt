@@ -1,8 +1,8 @@
 use Rattle.zone.proofs.Salts.{one-salt}
 use mathlib.Core.Path.{sym, _∙_}
 use borrow.Author.Needs.{needs}
-use Rattle.substep_loops.proofs.with_water.own_salt.Statement.{statement}
-use Rattle.substep_loops.proofs.with_water.own_salt.Tie as tie
+use Rattle.substep_loops.proofs.own_salt.Statement.{statement}
+use Rattle.substep_loops.proofs.own_salt.Tie as tie
 
 returns : tie.Need-returns
 returns c = let p = c .before .before .pre in p .1 ∙ sym (one-salt _ _ _ (c .if1 .taken))
