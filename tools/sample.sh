@@ -60,14 +60,17 @@ done
 echo 'unknown.vec: 2 more disagree' >>../stdout
 expect unknown.vec 0 12
 
-# Two altered vectors. A substep's last output is the energy of its last zone.
+# Three altered vectors. A substep's last outputs are the energy of its last zone and the logarithms.
 "$oracle" alter viscosity.vec altered.vec 17
 echo 'altered.vec: vector 17 of viscosity disagrees' >>../stdout
 expect altered.vec 999 1
 "$oracle" vectors few --count 20 --seed "$seed" --only substep
-"$oracle" alter few/substep.vec energy.vec 17
+"$oracle" alter few/substep.vec energy.vec 17 1
+"$oracle" alter few/substep.vec logarithms.vec 17
 rm -r few
 echo 'energy.vec: vector 17 of substep disagrees' >>../stdout
 expect energy.vec 19 1
+echo 'logarithms.vec: vector 17 of substep disagrees' >>../stdout
+expect logarithms.vec 19 1
 
 echo "total: $agree agree, $disagree disagree" >>../stdout

@@ -1,5 +1,6 @@
 -- The promises are kept. Each is proved where its words are; here it is put under its name.
 use mathlib.Core.Path.{refl}
+use Rattle.substep.proofs.Logarithms.{logarithms-taken}
 use Rattle.sheet_lines.proofs.Agreement.{same-number-self}
 use Rattle.auditor.specs.Rules.{plain}
 use Rattle.heat_battery.proofs.OpenCases.{open-0, open-1, open-2, open-3, open-4, open-10, open-11, open-codes, refused-opening-keeps}
@@ -15,7 +16,7 @@ use Rattle.auditor.proofs.Words.{verdict-given, plain-given, same-verdict, word
 use Rattle.auditor.proofs.Fields.{fields-accept, fields-refuse, fields-word}
 use Rattle.promises.proofs.Directions.{directions}
 use Rattle.promises.proofs.Charged.{charged-total}
-use Rattle.promises.specs.Promises.{OpeningNumbers, CallNumbers, OwnRecordNumbers, AuditVerdicts, AuditorVerdicts, RefusedOpeningChangesNothing, TenAndElevenChangeNothing, RefusalLineLeavesTheRecord, RefusedOwnRecordStays, PlacesAboveTheCountStay, EqualToTheSteps, Opening, AcceptsAList, AcceptsAListByRules, ExactlyWhen, ExactlyWhenInC, WordTellsTheVerdict, ExactlyWhenOfAnyLength, FieldsTellTheVerdict, BothAuditsAgree, ZonesMoveTheRightWay, ChargedTotalAddsUp, OpeningRefusals, CallRefusals, OwnRecordRefusals, AuditRefusals}
+use Rattle.promises.specs.Promises.{OpeningNumbers, CallNumbers, OwnRecordNumbers, AuditVerdicts, AuditorVerdicts, RefusedOpeningChangesNothing, TenAndElevenChangeNothing, RefusalLineLeavesTheRecord, RefusedOwnRecordStays, PlacesAboveTheCountStay, EqualToTheSteps, Opening, AcceptsAList, AcceptsAListByRules, ExactlyWhen, ExactlyWhenInC, WordTellsTheVerdict, ExactlyWhenOfAnyLength, FieldsTellTheVerdict, BothAuditsAgree, ZonesMoveTheRightWay, ChargedTotalAddsUp, OpeningRefusals, CallRefusals, OwnRecordRefusals, AuditRefusals, LogarithmsCounted}
 use Rattle.promises.proofs.Numbers.{among-call, among-own}
 use Rattle.promises.proofs.AList.{a-list}
 
@@ -107,3 +108,6 @@ own-record-refusals version known b call = (own-10 version b call, own-20 versio
 pub audit-refusals : AuditRefusals
 audit-refusals rules bs k =
     (refused-40 rules bs, refused-41 rules bs, refused-70 rules bs, refused-42 rules bs k, refused-43 rules bs k, refused-44 rules bs)
+
+pub logarithms-counted : LogarithmsCounted
+logarithms-counted = logarithms-taken

@@ -6,14 +6,21 @@ use mathlib.Core.Bool.{true}
 use mathlib.Core.Logic.{_⊎_, _↔_}
 use mathlib.Core.List.{List, [], _∷_, _++_}
 use lib.ListN.{length, drop}
+use lib.Ieee.{Float}
 use Rattle.floats.specs.Constants.{zero}
 use Rattle.codec.specs.Bytes.{over}
+use Rattle.zone.specs.declared.Salt.{Salt}
 use Rattle.card.specs.Version.{knownVersion}
 use Rattle.card.specs.Card.{OneOf, cardRefusals}
+use Rattle.card.specs.declared.Card.{Card}
+use Rattle.card.specs.declared.HeatBatteryPcm.{HeatBatteryPcm}
 use Rattle.battery.specs.Answer.{refusedWith}
 use Rattle.battery.specs.Battery.{fresh}
 use Rattle.battery.specs.Places.{SameAbove}
 use Rattle.battery.specs.declared.Battery.{Battery}
+use Rattle.substep.specs.Substep.{logarithmsOf, processHeatBatteryZones}
+use Rattle.substep.specs.declared.SubstepInput.{SubstepInput}
+use Rattle.substep.specs.declared.Fault.the-variants.{Logarithm}
 use Rattle.engine.specs.Cases.{Case20, Case21, Case22, Case23, Case24, Case25}
 use Rattle.sheet_records.specs.Cards.{cardAt}
 use Rattle.sheet_records.specs.Records.{recordOf}
@@ -190,3 +197,13 @@ AuditRefusals =
     → ((auditOf rules bs ≡ Refused 40 0) ↔ NoVersion bs) × ((auditOf rules bs ≡ Refused 41 0) ↔ NoCard bs) × ((auditOf rules bs ≡ Refused 70 0) ↔ CardNotTaken rules bs)
     × ((auditOf rules bs ≡ Refused 42 (k + 1)) ↔ BadLine rules bs k) × ((auditOf rules bs ≡ Refused 43 (k + 1)) ↔ Disagrees rules bs k)
     × ((limitedAuditOf rules bs ≡ Refused 44 0) ↔ (limit < length bs))
+
+-- ---- document 02
+
+-- Two: 'Each substep not stopped by 24 hands out the logarithms it took, each counted where it is computed: 1 where it takes any, else 0.' Only
+-- the mode with water, of demands and hydronic charges, takes one
+abbrev pub LogarithmsCounted : Type 0
+LogarithmsCounted =
+    (card : Card) (pcm : HeatBatteryPcm) (salts : ℕ → Salt) (input : SubstepInput) (zones : List Float)
+    → (processHeatBatteryZones card pcm salts input zones .fault ≡ Logarithm → ⊥)
+    → processHeatBatteryZones card pcm salts input zones .logarithms ≡ logarithmsOf (input .mode)

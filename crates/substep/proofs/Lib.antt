@@ -6,3 +6,4 @@ pub mod EachZone
 pub mod Ordered
 pub mod OneLoop
 pub mod Warmth
+pub mod Logarithms

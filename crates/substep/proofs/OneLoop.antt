@@ -20,7 +20,9 @@ use Rattle.zone.specs.Heat.{kj, kwh}
 use Rattle.zone_water.specs.Water.{zoneProperties}
 use Rattle.zone.specs.declared.Kilojoules.{Kilojoules}
 use Rattle.zone.specs.declared.KilowattHours.{KilowattHours}
-use Rattle.zone_water.specs.declared.Mode.the-variants.{OnlyCharging}
+use Rattle.zone_water.specs.declared.Mode.{Mode}
+use Rattle.zone_water.specs.declared.Mode.the-variants.{OnlyCharging, Losses, Normal}
+use Rattle.zone_water.specs.declared.Shared.{Shared}
 use Rattle.zone.specs.declared.Salt.{Salt}
 use Rattle.card.specs.declared.Card.{Card}
 use Rattle.battery.specs.Battery.{zonesFinite}
@@ -65,7 +67,28 @@ store-zero l j e h g = rw (h, g, no-more) (ap (set l j) (sym h) ∙ set-getD l j
 
 -- a zone's step where no water runs
 abbrev pub zoneStepOf : Float → Kilojoules → Kilojoules → KilowattHours → ZoneStep
-zoneStepOf t e q k = record { temperature = t; energy = e; outlet = Constants.zero; left = q; charged = k }
+zoneStepOf t e q k = record { temperature = t; energy = e; outlet = Constants.zero; left = q; charged = k; logarithms = 0 }
+
+-- no zone takes a logarithm of its own
+properties-take-none : (m : Mode) (x : Shared) (t inlet : Float) (q : Kilojoules) → zoneProperties m x t inlet q .logarithms ≡ 0
+unfolding zoneProperties
+properties-take-none OnlyCharging x t inlet q = refl
+properties-take-none Losses x t inlet q = refl
+properties-take-none Normal x t inlet q = refl
+
+pub zone-takes-none : (x : Common) (s : Salt) (t inlet : Float) (q : Kilojoules) (k : KilowattHours) → zoneStep x s t inlet q k .logarithms ≡ 0
+unfolding zoneStep
+zone-takes-none x s t inlet q k = properties-take-none (x .mode) (x .shared) t inlet q
+
+-- so the logarithms after a zone more are those before it
+pub no-more-logarithms :
+    (x : Common) (s : Salt) (t inlet : Float) (q : Kilojoules) (k : KilowattHours) (z : ZoneStep) (taken logarithms : ℕ) →
+    z ≡ zoneStep x s t inlet q k →
+    logarithms ≡ taken →
+    logarithms + z .logarithms ≡ taken
+no-more-logarithms x s t inlet q k z taken logarithms e h =
+    let none = ap (λ (y : ZoneStep). y .logarithms) e ∙ zone-takes-none x s t inlet q k in
+    omega arith
 
 -- charging alone gives no heat to the water
 pub no-energy : (x : Common) (s : Salt) (t inlet : Float) (q : Kilojoules) (e : KilowattHours) → x .mode ≡ OnlyCharging → zoneStep x s t inlet q e .energy .0 ≡ Constants.zero
@@ -148,7 +171,8 @@ module _ (c : Card) (x : Common) (s : ℕ → Salt) (k : ℕ) (d : SubstepInput)
   unfolding end
   tests-end = tests-all (x .mode) (c .layers) (end .zones)
 
-  module _ (zones : List Float) (outlet : Float) (left heat : Kilojoules) (charged : KilowattHours) (sum : Sum2) (spread : Float) (f : Fault) where
+  module _ (zones : List Float) (outlet : Float) (left heat : Kilojoules) (charged : KilowattHours) (sum : Sum2) (spread : Float) (f : Fault) (taken logarithms : ℕ)
+      (same : logarithms ≡ taken) where
     following-all :
         heat ≡ chargerHeat d →
         k ≡ c .layers →
@@ -162,9 +186,9 @@ module _ (c : Card) (x : Common) (s : ℕ → Salt) (k : ℕ) (d : SubstepInput)
     handed-out :
         Underway x s (c .layers) (c .layers) (progressFrom d start) zones outlet left charged sum spread →
         f ≡ cond (eq spread Constants.zero && (finite64 outlet && (finite64 (sum .s ⊕ sum .c) && finite64 (charged .0)))) Nothing NotFinite →
-        (zones ≡ end .zones) × (_≡_ {A = Outcome} (record { outlet = outlet; delivered = kj (sum .s ⊕ sum .c); charged = charged; fault = f }) (outcomeOf (substepFrom c end)))
+        (zones ≡ end .zones) × (_≡_ {A = Outcome} (record { outlet = outlet; delivered = kj (sum .s ⊕ sum .c); charged = charged; fault = f; logarithms = logarithms }) (outcomeOf (substepFrom c taken end)))
     unfolding end outcomeOf substepFrom progressFault progressFinite sum2
-    handed-out u g = (u .same-zones, rw (g, u .same-test, tests-end, u .same-sum, sum-end, u .same-outlet, u .same-charged))
+    handed-out u g = (u .same-zones, rw (same, g, u .same-test, tests-end, u .same-sum, sum-end, u .same-outlet, u .same-charged))
 
     pub underway-end :
         heat ≡ chargerHeat d →
@@ -172,7 +196,7 @@ module _ (c : Card) (x : Common) (s : ℕ → Salt) (k : ℕ) (d : SubstepInput)
         c .layers ≤ k →
         Underway x s (c .layers) k (startOf start (d .inlet) heat (kwh Constants.zero)) zones outlet left charged sum spread →
         f ≡ cond (eq spread Constants.zero && (finite64 outlet && (finite64 (sum .s ⊕ sum .c) && finite64 (charged .0)))) Nothing NotFinite →
-        InPlace (substepFrom c (zonesAfter x s (c .layers) (c .layers) (progressFrom d start)))
-        (record { outlet = outlet; delivered = kj (sum .s ⊕ sum .c); charged = charged; fault = f }) zones
+        InPlace (substepFrom c taken (zonesAfter x s (c .layers) (c .layers) (progressFrom d start)))
+        (record { outlet = outlet; delivered = kj (sum .s ⊕ sum .c); charged = charged; fault = f; logarithms = logarithms }) zones
     unfolding end substepFrom
     underway-end h a b u g = handed-out (following-all h (omega arith) u) g

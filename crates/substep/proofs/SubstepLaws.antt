@@ -21,10 +21,11 @@ use Rattle.zone_charging.specs.declared.Charged.{Charged}
 use Rattle.logic.proofs.Branch.{by-test}
 use Rattle.card.specs.declared.Card.{Card}
 use Rattle.card.specs.declared.HeatBatteryPcm.{HeatBatteryPcm}
+use Rattle.zone_water.specs.declared.Transfer.{Transfer}
 use Rattle.zone_water.specs.declared.Mode.{Mode}
 use Rattle.zone_water.specs.declared.Mode.the-variants.{OnlyCharging, Losses, Normal}
 use Rattle.zone.specs.declared.Salt.{Salt}
-use Rattle.substep.specs.Substep.{zoneIndex, targetAt, targetOf, zoneCharge, zoneStep, zoneAt, zonesAfter, chargerHeat, substepWith, outcomeOf, zoneTransfer, commonOf, progressFrom, withoutLogarithm, withTransfer, processHeatBatteryZones, substepFrom}
+use Rattle.substep.specs.Substep.{zoneIndex, targetAt, targetOf, zoneCharge, zoneStep, zoneAt, zonesAfter, chargerHeat, substepWith, outcomeOf, zoneTransfer, logarithmsOf, sharedTransfer, commonOf, progressFrom, withoutLogarithm, withTransfer, processHeatBatteryZones, substepFrom}
 use Rattle.substep.specs.declared.SubstepInput.{SubstepInput}
 use Rattle.substep.specs.declared.Substep.{Substep}
 use Rattle.substep.specs.declared.Outcome.{Outcome}
@@ -61,13 +62,14 @@ energies-end n x s k d zones p heat h a b e = rw (← h) (ap (λ (q : Progress).
 
 -- what a pass over the zones of a card leaves
 pub passed :
-    (c : Card) (pcm : HeatBatteryPcm) (s : ℕ → Salt) (d : SubstepInput) (zones : List Float) (l : Log) (u : Float) (x : Common) →
+    (c : Card) (pcm : HeatBatteryPcm) (s : ℕ → Salt) (d : SubstepInput) (zones : List Float) (l : Log) (u : Float) (x : Common) (taken : ℕ) →
     l ≡ zoneTransfer (d .mode) c d →
     l ≡ Value u →
     x ≡ commonOf c pcm d u →
-    processHeatBatteryZones c pcm s d zones ≡ substepFrom c (zonesAfter x s (c .layers) (c .layers) (progressFrom d zones))
+    taken ≡ logarithmsOf (d .mode) →
+    processHeatBatteryZones c pcm s d zones ≡ substepFrom c taken (zonesAfter x s (c .layers) (c .layers) (progressFrom d zones))
 unfolding processHeatBatteryZones withTransfer
-passed c pcm s d zones l u x h g e = rw (← h, g, ← e)
+passed c pcm s d zones l u x taken h g e f = rw (← h, g, ← e, f)
 
 pub refused-here :
     (c : Card) (pcm : HeatBatteryPcm) (s : ℕ → Salt) (d : SubstepInput) (zones : List Float) (l : Log) →
@@ -103,6 +105,24 @@ untouched x s n (suc k) p j h g =
 pub without-logarithm-loss : (c : Card) (d : SubstepInput) → d .mode ≡ Losses → zoneTransfer (d .mode) c d ≡ Value Constants.zero
 unfolding zoneTransfer
 without-logarithm-loss c d m = rw m
+
+-- the two parts of a heat transfer that is worked out once
+pub transfer-value : (m : Mode) (c : Card) (d : SubstepInput) (t : Transfer) → t ≡ sharedTransfer m c d → t .value ≡ zoneTransfer m c d
+unfolding sharedTransfer
+transfer-value m c d t e = ap (λ (y : Transfer). y .value) e
+
+pub transfer-count : (m : Mode) (c : Card) (d : SubstepInput) (t : Transfer) → t ≡ sharedTransfer m c d → t .logarithms ≡ logarithmsOf m
+unfolding sharedTransfer
+transfer-count m c d t e = ap (λ (y : Transfer). y .logarithms) e
+
+-- without water there is no logarithm to count
+pub none-in-a-charge : (d : SubstepInput) → d .mode ≡ OnlyCharging → 0 ≡ logarithmsOf (d .mode)
+unfolding logarithmsOf
+none-in-a-charge d m = rw m
+
+pub none-in-a-loss : (d : SubstepInput) → d .mode ≡ Losses → 0 ≡ logarithmsOf (d .mode)
+unfolding logarithmsOf
+none-in-a-loss d m = rw m
 
 pub without-logarithm-charge : (c : Card) (d : SubstepInput) → d .mode ≡ OnlyCharging → zoneTransfer (d .mode) c d ≡ Value Constants.zero
 unfolding zoneTransfer

@@ -21,6 +21,7 @@ use Rattle.zone.specs.declared.Kilojoules.{Kilojoules}
 use Rattle.zone.specs.declared.KilowattHours.{KilowattHours}
 use Rattle.zone.specs.declared.Salt.{Salt}
 use Rattle.zone_charging.specs.declared.Charged.{Charged}
+use Rattle.zone_water.specs.declared.Transfer.{Transfer}
 use Rattle.zone_water.specs.declared.Mode.{Mode}
 use Rattle.zone_water.specs.declared.Mode.the-variants.{OnlyCharging, Losses, Normal}
 use Rattle.card.specs.Derived.{layersOf}
@@ -55,7 +56,7 @@ unfoldable pub zoneStep : Common → Salt → Float → Float → Kilojoules →
 zoneStep common salt t inlet left already =
     let p = zoneProperties (common .mode) (common .shared) t inlet left in
     let c = zoneCharge salt t (targetAt common salt) left (p .energy) already in
-    record { temperature = newZoneTemperature salt t (c .heat) .temperature; energy = p .energy; outlet = p .outlet; left = c .left; charged = c .charged }
+    record { temperature = newZoneTemperature salt t (c .heat) .temperature; energy = p .energy; outlet = p .outlet; left = c .left; charged = c .charged; logarithms = p .logarithms }
 
 -- the zone at j, of the salt s j
 unfoldable pub zoneAt : Common → (ℕ → Salt) → ℕ → Progress → Progress
@@ -84,6 +85,15 @@ zoneTransfer OnlyCharging card input = Value Constants.zero
 zoneTransfer Losses card input = Value Constants.zero
 zoneTransfer Normal card input = perLayer card (heatTransfer (input .a) (input .b) (input .flow) (input .reynold))
 
+-- document 02, Two: the logarithms of a substep, '1 where it takes any, else 0', all of them taken for that share
+unfoldable pub logarithmsOf : Mode → ℕ
+logarithmsOf OnlyCharging = 0
+logarithmsOf Losses = 0
+logarithmsOf Normal = 1
+
+unfoldable pub sharedTransfer : Mode → Card → SubstepInput → Transfer
+sharedTransfer mode card input = record { value = zoneTransfer mode card input; logarithms = logarithmsOf mode }
+
 -- the temperature of a charge level, by a zone's salt
 abbrev pub targetOf : Card → Salt → Float → Float
 targetOf card salt level = socToTemp salt (card .reference) (card .max) level
@@ -110,10 +120,10 @@ progressFrom input zones =
 -- what a substep hands out with its arrays, and without
 unfoldable pub substepWith : Outcome → List Float → List Float → Substep
 substepWith outcome zones energies =
-    record { zones = zones; energies = energies; outlet = outcome .outlet; delivered = outcome .delivered; charged = outcome .charged; fault = outcome .fault }
+    record { zones = zones; energies = energies; outlet = outcome .outlet; delivered = outcome .delivered; charged = outcome .charged; fault = outcome .fault; logarithms = outcome .logarithms }
 
 unfoldable pub outcomeOf : Substep → Outcome
-outcomeOf substep = record { outlet = substep .outlet; delivered = substep .delivered; charged = substep .charged; fault = substep .fault }
+outcomeOf substep = record { outlet = substep .outlet; delivered = substep .delivered; charged = substep .charged; fault = substep .fault; logarithms = substep .logarithms }
 
 -- what a function that works on lent zones hands out, and the zones that it leaves, are those of a substep
 abbrev pub InPlace : Substep → Outcome → List Float → Type 0
@@ -122,7 +132,7 @@ InPlace substep outcome zones = (zones ≡ substep .zones) × (outcome ≡ outco
 -- '24 the logarithm's argument is not positive, normal and finite'
 unfoldable pub withoutLogarithm : List Float → Substep
 withoutLogarithm zones =
-    record { zones = zones; energies = replicate 64 Constants.zero; outlet = Constants.zero; delivered = kj Constants.zero; charged = kwh Constants.zero; fault = Logarithm }
+    record { zones = zones; energies = replicate 64 Constants.zero; outlet = Constants.zero; delivered = kj Constants.zero; charged = kwh Constants.zero; fault = Logarithm; logarithms = 0 }
 
 -- '23 after a substep a zone, outlet, delivered sum or charged energy is not finite'
 unfoldable pub progressFinite : Card → Progress → Kilojoules → Bool
@@ -132,15 +142,15 @@ progressFinite card progress sum =
 unfoldable pub progressFault : Card → Progress → Kilojoules → Fault
 progressFault card progress sum = cond (progressFinite card progress sum) Nothing NotFinite
 
-unfoldable pub substepFrom : Card → Progress → Substep
-substepFrom card progress =
+unfoldable pub substepFrom : Card → ℕ → Progress → Substep
+substepFrom card logarithms progress =
     let sum = kj (sum2 (progress .energies) (card .layers)) in
-    record { zones = progress .zones; energies = progress .energies; outlet = progress .outlet; delivered = sum; charged = progress .charged; fault = progressFault card progress sum }
+    record { zones = progress .zones; energies = progress .energies; outlet = progress .outlet; delivered = sum; charged = progress .charged; fault = progressFault card progress sum; logarithms = logarithms }
 
 unfoldable pub withTransfer : Card → HeatBatteryPcm → (ℕ → Salt) → SubstepInput → List Float → Log → Substep
 withTransfer card pcm s input zones Refused = withoutLogarithm zones
 withTransfer card pcm s input zones (Value u) =
-    substepFrom card (zonesAfter (commonOf card pcm input u) s (card .layers) (card .layers) (progressFrom input zones))
+    substepFrom card (logarithmsOf (input .mode)) (zonesAfter (commonOf card pcm input u) s (card .layers) (card .layers) (progressFrom input zones))
 
 unfoldable pub processHeatBatteryZones : Card → HeatBatteryPcm → (ℕ → Salt) → SubstepInput → List Float → Substep
 processHeatBatteryZones card pcm s input zones = withTransfer card pcm s input zones (zoneTransfer (input .mode) card input)

@@ -8,6 +8,7 @@ use zone::Salt;
 use zone_charging::Charged;
 use zone_water::Mode;
 use zone_water::Shared;
+use zone_water::Transfer;
 ghost use mathlib.Core.Path.{_≡_};
 ghost use mathlib.Core.Bool.{true, cond, _&&_};
 ghost use mathlib.Core.List.{List};
@@ -17,7 +18,7 @@ ghost use lib.Ieee.{Float, lt};
 ghost use Rattle.floats.specs.Constants.{zero};
 ghost use Rattle.floats.specs.Standins.{finite64};
 ghost use Rattle.zone.specs.Lent.{zoneSalt};
-ghost use Rattle.substep.specs.Substep.{zoneIndex, zoneCharge, targetAt, zoneStep, perLayer, zoneTransfer, targetOf, commonOf, chargerHeat, withoutLogarithm, outcomeOf};
+ghost use Rattle.substep.specs.Substep.{zoneIndex, zoneCharge, targetAt, zoneStep, perLayer, sharedTransfer, targetOf, commonOf, chargerHeat, withoutLogarithm, outcomeOf};
 
 // What a substep is asked, in the Rust's words.
 pub struct SubstepInput {
@@ -55,6 +56,8 @@ pub struct Outcome {
     pub delivered: Kilojoules,
     pub charged: KilowattHours,
     pub fault: Fault,
+    // how many the substep took
+    pub logarithms: u32,
 }
 
 // One zone's part.
@@ -64,6 +67,8 @@ pub struct ZoneStep {
     pub outlet: f64,
     pub left: Kilojoules,
     pub charged: KilowattHours,
+    // taken for this zone alone
+    pub logarithms: u32,
 }
 
 // Why a substep ends its call: refusals 23 and 24.
@@ -81,6 +86,8 @@ pub struct Substep {
     pub delivered: Kilojoules,
     pub charged: KilowattHours,
     pub fault: Fault,
+    // how many the substep took
+    pub logarithms: u32,
 }
 
 // The k-th of n zones in the mode's order.
@@ -166,16 +173,23 @@ pub fn zone_step(
         outlet: p.outlet,
         left,
         charged,
+        logarithms: p.logarithms,
     }
 }
 
-// A zone's share of the heat transfer; a logarithm is taken in the normal mode alone.
-pub fn zone_transfer(mode: Mode, card: Card, input: SubstepInput) -> Log
-    ensures { λ r. ⌜ r ≡ zoneTransfer mode card input ⌝ }
+// A zone's share of the heat transfer, worked out once for all zones; a logarithm is taken in the normal mode alone.
+pub fn zone_transfer(mode: Mode, card: Card, input: SubstepInput) -> Transfer
+    ensures { λ r. ⌜ r ≡ sharedTransfer mode card input ⌝ }
 {
     match mode {
-        Mode::OnlyCharging => Log::Value(0.0),
-        Mode::Losses => Log::Value(0.0),
+        Mode::OnlyCharging => Transfer {
+            value: Log::Value(0.0),
+            logarithms: 0,
+        },
+        Mode::Losses => Transfer {
+            value: Log::Value(0.0),
+            logarithms: 0,
+        },
         Mode::Normal => {
             let whole = zone_water::calculate_heat_transfer_kw_per_k(
                 input.a,
@@ -183,7 +197,12 @@ pub fn zone_transfer(mode: Mode, card: Card, input: SubstepInput) -> Log
                 input.flow,
                 input.reynold,
             );
-            per_layer(card, whole)
+            let log = whole.value;
+            let value = per_layer(card, log);
+            Transfer {
+                value,
+                logarithms: whole.logarithms,
+            }
         }
     }
 }
@@ -267,5 +286,6 @@ pub fn without_logarithm() -> Outcome
         delivered: Kilojoules(0.0),
         charged: KilowattHours(0.0),
         fault: Fault::Logarithm,
+        logarithms: 0,
     }
 }

@@ -43,6 +43,7 @@ fn charging_step(
             outlet: 0.0,
             left,
             charged,
+            logarithms: 0,
         };
     }
     ZoneStep {
@@ -51,6 +52,7 @@ fn charging_step(
         outlet: 0.0,
         left,
         charged,
+        logarithms: 0,
     }
 }
 
@@ -65,7 +67,7 @@ fn charge_zones(
     zones: &mut [f64; 64],
 ) -> Outcome
     requires { ⌜ (card .layers ≤ 64) × (Salted (now salts) step (card .layers) × ((common .mode ≡ Mode.OnlyCharging) × (target ≡ targetAt common (zoneSalt (now salts) step 0)))) ⌝ }
-    ensures { λ r. ⌜ InPlace (substepFrom card (zonesAfter common (zoneSalt (now (salts .entry)) step) (card .layers) (card .layers) (progressFrom input (now (zones .entry))))) r (now (zones .exit)) ⌝ }
+    ensures { λ r. ⌜ InPlace (substepFrom card 0 (zonesAfter common (zoneSalt (now (salts .entry)) step) (card .layers) (card .layers) (progressFrom input (now (zones .entry))))) r (now (zones .exit)) ⌝ }
 {
     let n = card.layers as usize;
     let mode = common.mode;
@@ -75,6 +77,7 @@ fn charge_zones(
     let mut charged = KilowattHours(0.0);
     // equals 0 as long as each zone is finite
     let mut spread = 0.0;
+    let mut logarithms: u32 = 0;
     for k in 0..n {
         let j = substep::zone_index(mode, n, k);
         let salt = crate::own_salt(first, salts, step, j);
@@ -84,6 +87,7 @@ fn charge_zones(
         outlet = z.outlet;
         left = z.left;
         charged = z.charged;
+        logarithms = logarithms + z.logarithms;
     }
     let fault = substep::progress_fault(spread == 0.0, outlet, Kilojoules(0.0), charged);
     Outcome {
@@ -91,6 +95,7 @@ fn charge_zones(
         delivered: Kilojoules(0.0),
         charged,
         fault,
+        logarithms,
     }
 }
 

@@ -40,6 +40,7 @@ fn loss_step(
         outlet: 0.0,
         left,
         charged,
+        logarithms: 0,
     }
 }
 
@@ -53,7 +54,7 @@ fn lose_zones(
     zones: &mut [f64; 64],
 ) -> Outcome
     requires { ⌜ (card .layers ≤ 64) × (Salted (now salts) step (card .layers) × ((common .mode ≡ Mode.Losses) × (lt (chargerHeat input .0) zero ≡ false))) ⌝ }
-    ensures { λ r. ⌜ InPlace (substepFrom card (zonesAfter common (zoneSalt (now (salts .entry)) step) (card .layers) (card .layers) (progressFrom input (now (zones .entry))))) r (now (zones .exit)) ⌝ }
+    ensures { λ r. ⌜ InPlace (substepFrom card 0 (zonesAfter common (zoneSalt (now (salts .entry)) step) (card .layers) (card .layers) (progressFrom input (now (zones .entry))))) r (now (zones .exit)) ⌝ }
 {
     let n = card.layers as usize;
     let first = zone::layer::zone_salt(salts, step, 0);
@@ -64,6 +65,7 @@ fn lose_zones(
     let mut sum = Sum2 { s: 0.0, c: 0.0 };
     // equals 0 as long as each zone is finite
     let mut spread = 0.0;
+    let mut logarithms: u32 = 0;
     for k in 0..n {
         let salt = crate::own_salt(first, salts, step, k);
         let z = loss_step(common, salt, zones[k], left, Kilojoules(share), charged);
@@ -71,6 +73,7 @@ fn lose_zones(
         spread = floats::finite_step(spread, zones[k]);
         sum = floats::sum2_step(sum, 0.0 + z.energy.0);
         outlet = z.outlet;
+        logarithms = logarithms + z.logarithms;
     }
     let delivered = Kilojoules(sum.s + sum.c);
     let fault = substep::progress_fault(spread == 0.0, outlet, delivered, charged);
@@ -79,6 +82,7 @@ fn lose_zones(
         delivered,
         charged,
         fault,
+        logarithms,
     }
 }
 

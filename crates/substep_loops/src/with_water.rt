@@ -19,6 +19,7 @@ ghost use Rattle.substep.specs.Substep.{targetAt, zonesAfter, targetOf, progres
 
 // All zones in the mode's order, where they lie. It sums the energies and tests the zones as it goes, also where charging alone goes
 // downward, since the energies there are 0. Places above the zones are neither read nor written.
+// `taken` are the logarithms of the heat transfer; each zone's own are added.
 // `target` is every zone's where they are `alike` and the charger has heat; else each zone's is worked out where it is asked.
 pub fn zones_in_place(
     card: Card,
@@ -26,12 +27,13 @@ pub fn zones_in_place(
     salts: &[f64],
     step: usize,
     input: SubstepInput,
+    taken: u32,
     alike: bool,
     target: f64,
     zones: &mut [f64; 64],
 ) -> Outcome
     requires { ⌜ (card .layers ≤ 64) × (Salted (now salts) step (card .layers) × (lt (chargerHeat input .0) zero ≡ true → alike ≡ true → (j : ℕ) → j < card .layers → target ≡ targetAt common (zoneSalt (now salts) step j))) ⌝ }
-    ensures { λ r. ⌜ InPlace (substepFrom card (zonesAfter common (zoneSalt (now (salts .entry)) step) (card .layers) (card .layers) (progressFrom input (now (zones .entry))))) r (now (zones .exit)) ⌝ }
+    ensures { λ r. ⌜ InPlace (substepFrom card taken (zonesAfter common (zoneSalt (now (salts .entry)) step) (card .layers) (card .layers) (progressFrom input (now (zones .entry))))) r (now (zones .exit)) ⌝ }
 {
     let n = card.layers as usize;
     let mode = common.mode;
@@ -42,6 +44,7 @@ pub fn zones_in_place(
     let mut sum = Sum2 { s: 0.0, c: 0.0 };
     // equals 0 as long as each zone is finite
     let mut spread = 0.0;
+    let mut logarithms = taken;
     for k in 0..n {
         let j = substep::zone_index(mode, n, k);
         let salt = crate::own_salt(first, salts, step, j);
@@ -52,6 +55,7 @@ pub fn zones_in_place(
         outlet = z.outlet;
         left = z.left;
         charged = z.charged;
+        logarithms = logarithms + z.logarithms;
     }
     let delivered = Kilojoules(sum.s + sum.c);
     let fault = substep::progress_fault(spread == 0.0, outlet, delivered, charged);
@@ -60,6 +64,7 @@ pub fn zones_in_place(
         delivered,
         charged,
         fault,
+        logarithms,
     }
 }
 
@@ -79,9 +84,20 @@ pub fn process_in_place(
     ensures { λ r. ⌜ InPlace (processHeatBatteryZones card pcm (zoneSalt (now (salts .entry)) step) input (now (zones .entry))) r (now (zones .exit)) ⌝ }
 {
     let transfer = substep::zone_transfer(Mode::Normal, card, input);
-    let Log::Value(u) = transfer else {
+    let share = transfer.value;
+    let Log::Value(u) = share else {
         return substep::without_logarithm();
     };
     let common = substep::common_of(Mode::Normal, card, pcm, input, u);
-    zones_in_place(card, common, salts, step, input, true, target, zones)
+    zones_in_place(
+        card,
+        common,
+        salts,
+        step,
+        input,
+        transfer.logarithms,
+        true,
+        target,
+        zones,
+    )
 }

@@ -59,6 +59,7 @@ fn with_arrays(outcome: Outcome, zones: [f64; 64], energies: [f64; 64]) -> Subst
         delivered,
         charged,
         fault,
+        logarithms: outcome.logarithms,
     }
 }
 
@@ -83,7 +84,8 @@ pub fn process_heat_battery_zones(
     ensures { λ r. ⌜ r ≡ processHeatBatteryZones card pcm (zoneSalt (now (salts .entry)) step) input zones ⌝ }
 {
     let mode = input.mode;
-    let share = substep::zone_transfer(mode, card, input);
+    let transfer = substep::zone_transfer(mode, card, input);
+    let share = transfer.value;
     let Log::Value(u) = share else {
         let o = substep::without_logarithm();
         return bare(o, zones);
@@ -96,6 +98,7 @@ pub fn process_heat_battery_zones(
         salts,
         step,
         input,
+        transfer.logarithms,
         false,
         0.0,
         &mut after,

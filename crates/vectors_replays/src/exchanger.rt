@@ -38,7 +38,9 @@ fn transfer(bytes: &[u8], a: usize, b: usize, flow: usize, reynolds: usize) -> L
     let flow = vectors_words::number(bytes, flow);
     let reynold = vectors_words::number(bytes, reynolds);
     let a = vectors_words::number(bytes, a);
-    zone_water::calculate_heat_transfer_kw_per_k(a, vectors_words::number(bytes, b), flow, reynold)
+    let b = vectors_words::number(bytes, b);
+    let transfer = zone_water::calculate_heat_transfer_kw_per_k(a, b, flow, reynold);
+    transfer.value
 }
 
 fn heat_transfer(bytes: &[u8]) -> bool {
@@ -104,6 +106,7 @@ fn normal_properties(bytes: &[u8], card: Card) -> bool {
             let nothing = ZoneProperties {
                 energy: Kilojoules(0.0),
                 outlet: 0.0,
+                logarithms: 0,
             };
             properties_are(bytes, 0, nothing)
         }

@@ -25,13 +25,23 @@ fn input(bytes: &[u8], n: usize) -> SubstepInput
     }
 }
 
-// The outputs from word `at` on.
+// None on both sides, or one of ours and the published Rust's for each of n zones.
+fn logarithms_are(bytes: &[u8], at: usize, n: usize, ours: u32) -> bool
+    requires { ⌜ (at ≤ 512) × (n ≤ 64) ⌝ }
+{
+    if ours == 0 {
+        return vectors_words::word_is(bytes, at, 0);
+    }
+    logic::both(ours == 1, vectors_words::word_is(bytes, at, n as u64))
+}
+
+// The outputs from word `at` on. The published Rust takes a logarithm for each zone where ours takes one for all (document 02, Two).
 fn answer_is(bytes: &[u8], at: usize, n: usize, substep: Substep) -> bool
     requires { ⌜ (at ≤ 256) × (n ≤ 64) ⌝ }
 {
     let zones = substep.zones;
     let energies = substep.energies;
-    logic::all_four(
+    logic::all_five(
         vectors_words::word_is(bytes, at, 0),
         vectors_words::three_are(
             bytes,
@@ -42,6 +52,7 @@ fn answer_is(bytes: &[u8], at: usize, n: usize, substep: Substep) -> bool
         ),
         vectors_words::numbers_are(bytes, at + 4, zones, n),
         vectors_words::numbers_are(bytes, at + 4 + n, energies, n),
+        logarithms_are(bytes, at + 4 + 2 * n, n, substep.logarithms),
     )
 }
 
@@ -49,11 +60,12 @@ fn answer_is(bytes: &[u8], at: usize, n: usize, substep: Substep) -> bool
 fn refusal_is(bytes: &[u8], at: usize, n: usize, refusal: u64) -> bool
     requires { ⌜ (at ≤ 256) × (n ≤ 64) ⌝ }
 {
-    logic::all_four(
+    logic::all_five(
         vectors_words::word_is(bytes, at, refusal),
         vectors_words::numbers_are(bytes, at + 1, [0.0; 64], 3),
         vectors_words::numbers_are(bytes, at + 4, [0.0; 64], n),
         vectors_words::numbers_are(bytes, at + 4 + n, [0.0; 64], n),
+        vectors_words::word_is(bytes, at + 4 + 2 * n, 0),
     )
 }
 
@@ -78,7 +90,7 @@ pub fn substep(bytes: &[u8]) -> bool {
         let salts = card::pcm::figures_of(card);
         let r = vectors_by_value::process_heat_battery_zones(card, pcm, &salts, 0, d, zones);
         return logic::all_three(
-            vectors_words::has(bytes, 37 + 3 * n),
+            vectors_words::has(bytes, 38 + 3 * n),
             vectors_words::word_is(bytes, 23, n as u64),
             outputs_are(bytes, n + 33, n, r),
         );

@@ -12,6 +12,7 @@ use Rattle.zone.specs.declared.Kilojoules.{Kilojoules}
 use Rattle.zone_water.specs.declared.Mode.{Mode}
 use Rattle.zone_water.specs.declared.Mode.the-variants.{OnlyCharging, Losses, Normal}
 use Rattle.zone_water.specs.declared.Shared.{Shared}
+use Rattle.zone_water.specs.declared.Transfer.{Transfer}
 use Rattle.zone_water.specs.declared.ZoneProperties.{ZoneProperties}
 
 -- water: 1 kg/l, and 4,184 J/(kg K) in kWh/(kg K); times `hour` it is in kJ/(kg K)
@@ -53,6 +54,10 @@ transferOf a b Refused = Refused
 unfoldable pub heatTransfer : Float → Float → Float → Float → Log
 heatTransfer a b flow reynold = transferOf a b (ln (reynold ⊗ flow))
 
+-- document 02, Two: 'each counted where it is computed'
+unfoldable pub countedTransfer : Float → Float → Float → Float → Transfer
+countedTransfer a b flow reynold = record { value = heatTransfer a b flow reynold; logarithms = 1 }
+
 -- `calculate_outlet_temp_c`
 unfoldable pub outletTemp : Float → Float → Float → Float → Float
 outletTemp transfer t inlet mass =
@@ -60,13 +65,14 @@ outletTemp transfer t inlet mass =
     ⊘ (two ⊗ mass ⊗ heatCapacity ⊗ hour ⊕ transfer)
 
 -- `get_zone_properties`: the heat that a zone at t gives up and its outlet, with the water's temperature at the zone and the charger's heat left.
--- Only the normal mode uses the heat transfer, and so the logarithm
+-- Only the normal mode uses the heat transfer, and so the logarithm, which is taken before the zones: a zone takes none of its own
 unfoldable pub zoneProperties : Mode → Shared → Float → Float → Kilojoules → ZoneProperties
-zoneProperties OnlyCharging shared t inlet left = record { energy = kj zero; outlet = zero }
+zoneProperties OnlyCharging shared t inlet left = record { energy = kj zero; outlet = zero; logarithms = 0 }
 zoneProperties Losses shared t inlet left =
-    record { energy = kj (maxZero (left .0 ⊘ ofInt binary64 (pos (shared .layers)) ⊗ (t ⊖ shared .inlet) ⊘ shared .rated)); outlet = zero }
+    record { energy = kj (maxZero (left .0 ⊘ ofInt binary64 (pos (shared .layers)) ⊗ (t ⊖ shared .inlet) ⊘ shared .rated)); outlet = zero; logarithms = 0 }
 zoneProperties Normal shared t inlet left =
     record {
       energy = kj (heatCapacity ⊗ hour ⊗ shared .mass ⊗ (outletTemp (shared .transfer) t inlet (shared .mass) ⊖ inlet) ⊗ shared .seconds);
       outlet = outletTemp (shared .transfer) t inlet (shared .mass);
+      logarithms = 0;
     }

@@ -2,7 +2,7 @@
 use floats::Log;
 use zone::Kilojoules;
 ghost use mathlib.Core.Path.{_≡_};
-ghost use Rattle.zone_water.specs.Water.{kinematicViscosity, reynoldNumber, massFlow, transferOf, heatTransfer, outletTemp, zoneProperties};
+ghost use Rattle.zone_water.specs.Water.{kinematicViscosity, reynoldNumber, massFlow, transferOf, countedTransfer, outletTemp, zoneProperties};
 
 // The Rust's HeatBatteryPcmOperationMode.
 pub enum Mode {
@@ -30,6 +30,14 @@ pub struct Shared {
 pub struct ZoneProperties {
     pub energy: Kilojoules,
     pub outlet: f64,
+    // taken for this zone alone
+    pub logarithms: u32,
+}
+
+// A heat transfer in kW/K, and the logarithms that were taken for it.
+pub struct Transfer {
+    pub value: Log,
+    pub logarithms: u32,
 }
 
 // kg/l
@@ -61,14 +69,25 @@ pub fn mass_flow(flow: f64) -> f64
     (flow / floats::SECONDS_PER_MINUTE) * DENSITY
 }
 
-// kW/K of the whole exchanger; refused where its logarithm is.
-pub fn calculate_heat_transfer_kw_per_k(a: f64, b: f64, flow: f64, reynold: f64) -> Log
-    ensures { λ r. ⌜ r ≡ heatTransfer a b flow reynold ⌝ }
+// kW/K by a logarithm; refused where it is.
+fn transfer_of(a: f64, b: f64, log: Log) -> Log
+    ensures { λ r. ⌜ r ≡ transferOf a b log ⌝ }
 {
-    let log = floats::bits::ln(reynold * flow);
     match log {
         Log::Value(l) => Log::Value((a * l + b) / floats::WATTS_PER_KILOWATT),
         Log::Refused => Log::Refused,
+    }
+}
+
+// kW/K of the whole exchanger, with the one logarithm that is taken here.
+pub fn calculate_heat_transfer_kw_per_k(a: f64, b: f64, flow: f64, reynold: f64) -> Transfer
+    ensures { λ r. ⌜ r ≡ countedTransfer a b flow reynold ⌝ }
+{
+    let log = floats::bits::ln(reynold * flow);
+    let value = transfer_of(a, b, log);
+    Transfer {
+        value,
+        logarithms: 1,
     }
 }
 
@@ -96,6 +115,7 @@ pub fn get_zone_properties(
         Mode::OnlyCharging => ZoneProperties {
             energy: Kilojoules(0.0),
             outlet: 0.0,
+            logarithms: 0,
         },
         Mode::Losses => {
             let share = left.0 / (shared.layers as f64);
@@ -103,6 +123,7 @@ pub fn get_zone_properties(
             ZoneProperties {
                 energy: Kilojoules(energy),
                 outlet: 0.0,
+                logarithms: 0,
             }
         }
         Mode::Normal => {
@@ -117,6 +138,7 @@ pub fn get_zone_properties(
                         * shared.seconds,
                 ),
                 outlet,
+                logarithms: 0,
             }
         }
     }

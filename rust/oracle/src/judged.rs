@@ -34,7 +34,8 @@ pub fn write_vectors(arguments: &Arguments, folder: &str) -> Result<(), String> 
     vectors::write(Path::new(folder), count, seed, only.as_deref())
 }
 
-pub fn alter(from: &str, to: &str, record: &str) -> Result<(), String> {
+pub fn alter(from: &str, to: &str, record: &str, back: &str) -> Result<(), String> {
     let record = record.parse().map_err(|_| format!("no record number: {record}"))?;
-    vectors::alter(Path::new(from), Path::new(to), record)
+    let back = back.parse().map_err(|_| format!("no number of words: {back}"))?;
+    vectors::alter(Path::new(from), Path::new(to), record, back)
 }

@@ -16,7 +16,7 @@ with the published file also:
   oracle entries [--count N] [--seed S]
   oracle audit [--count N] [--seed S]
   oracle vectors OUTDIR [--count N] [--seed S] [--only NAME,NAME]
-  oracle alter IN OUT K";
+  oracle alter IN OUT K [BACK]";
 
 fn run() -> Result<(), String> {
     let arguments = Arguments::read(std::env::args().skip(1))?;
@@ -35,7 +35,9 @@ fn run() -> Result<(), String> {
         #[cfg(published)]
         ["vectors", folder] => judged::write_vectors(&arguments, folder),
         #[cfg(published)]
-        ["alter", from, to, record] => judged::alter(from, to, record),
+        ["alter", from, to, record] => judged::alter(from, to, record, "0"),
+        #[cfg(published)]
+        ["alter", from, to, record, back] => judged::alter(from, to, record, back),
         _ => Err(USAGE.to_string()),
     }
 }

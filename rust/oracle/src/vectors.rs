@@ -110,16 +110,16 @@ fn save(folder: &Path, name: &str, bytes: Vec<u8>, count: u64) -> Result<(), Str
     fs::write(&path, bytes).map_err(|error| format!("{}: {error}", path.display()))
 }
 
-/// Copies a vector file with one bit of the last output of a record changed. Records are
-/// counted from 0; one without outputs cannot be chosen.
-pub fn alter(from: &Path, to: &Path, record: usize) -> Result<(), String> {
+/// Copies a vector file with one bit of an output of a record changed: the last, or `back` words
+/// before it. Records are counted from 0; one without outputs cannot be chosen.
+pub fn alter(from: &Path, to: &Path, record: usize, back: usize) -> Result<(), String> {
     let bytes = fs::read(from).map_err(|error| format!("{}: {error}", from.display()))?;
     let mut records = record::read_all(&bytes).ok_or("not a vector file")?;
     let chosen = records.get_mut(record).ok_or("the file has no such record")?;
     if chosen.function == START {
         return Err("this record has no output".to_string());
     }
-    let word = chosen.words.last_mut().ok_or("the record is empty")?;
+    let word = chosen.words.iter_mut().rev().nth(back).ok_or("the record is shorter")?;
     // Another NaN would be no other answer.
     *word ^= if *word == record::NAN { 1 << 62 } else { 1 };
     let mut altered = Vec::new();

@@ -132,15 +132,21 @@ fn substep(w: &mut Words, out: Record) -> Option<Record> {
         1 => Mode::Losses { rated: -power },
         _ => Mode::Normal { exchanger, reynolds, inlet, power },
     };
+    // The published file takes a logarithm for each zone with water.
+    let logarithms = if matches!(mode, Mode::Normal { .. }) { zones.len() as u64 } else { 0 };
     let mut steps = Substeps { card: &card, done: 0 };
     Some(match steps.run(&mut zones, seconds, mode) {
         Ok(s) => {
             // The published file adds each energy to a 0.
             let mut energies = vec![0.0; zones.len()];
             energies.iter_mut().zip(&s.energies).for_each(|(sum, energy)| *sum += energy);
-            out.word(0).floats(&[s.outlet, s.delivered, s.charged]).floats(&zones).floats(&energies)
+            out.word(0)
+                .floats(&[s.outlet, s.delivered, s.charged])
+                .floats(&zones)
+                .floats(&energies)
+                .word(logarithms)
         }
-        Err(refusal) => out.word(refusal.into()).floats(&vec![0.0; 3 + 2 * zones.len()]),
+        Err(refusal) => out.word(refusal.into()).floats(&vec![0.0; 4 + 2 * zones.len()]),
     })
 }
 
@@ -223,12 +229,12 @@ fn stored() -> PathBuf {
     Path::new(env!("CARGO_MANIFEST_DIR")).join("../../crates/vectors/data")
 }
 
-/// Of the stored files five are damaged on purpose.
+/// Of the stored files six are damaged on purpose.
 #[test]
 fn stored_functions_agree_with_plain() {
     let sound = |file: &PathBuf| {
         let name = file.file_stem().and_then(|name| name.to_str()).expect("a name");
-        !["altered", "cut", "energy", "long", "unknown"].contains(&name)
+        !["altered", "cut", "energy", "logarithms", "long", "unknown"].contains(&name)
     };
     let compared = compared(files(&stored()).filter(sound));
     for function in (1..=8).chain(20..=29).chain([31, 40, 41]) {
@@ -337,15 +343,20 @@ fn an_altered_file_differs_in_one_output() {
     let folder = folder("altered");
     vectors::write(&folder, 10, 13, Some(&["ln", "lists"])).expect("the folder is writable");
     let (from, to) = (folder.join("ln.vec"), folder.join("altered.vec"));
-    vectors::alter(&from, &to, 7).expect("the record is there");
+    vectors::alter(&from, &to, 7, 0).expect("the record is there");
     let read = |path| read_all(&fs::read(path).expect("it can be read")).expect("a vector file");
     let (before, after) = (read(&from), read(&to));
     for (at, (one, other)) in before.iter().zip(&after).enumerate() {
         assert_eq!(one != other, at == 7);
     }
     assert_eq!(before[7].words[..2], after[7].words[..2]);
-    assert!(vectors::alter(&from, &to, 10).is_err());
-    assert!(vectors::alter(&folder.join("lists.vec"), &to, 0).is_err());
+    vectors::alter(&from, &to, 7, 1).expect("the word is there");
+    let back = read(&to);
+    assert_ne!(before[7].words[1], back[7].words[1]);
+    assert_eq!(before[7].words[2], back[7].words[2]);
+    assert!(vectors::alter(&from, &to, 7, 3).is_err());
+    assert!(vectors::alter(&from, &to, 10, 0).is_err());
+    assert!(vectors::alter(&folder.join("lists.vec"), &to, 0, 0).is_err());
 }
 
 #[cfg(published)]

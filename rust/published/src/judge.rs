@@ -13,7 +13,7 @@ use crate::core::simulation_time::{SimulationTimeIterator, Timestep};
 use crate::input::{HeatBattery, HeatSourceWetDetails, PcmBatteryChargingConfiguration};
 use crate::model::{Answer, Battery, Call, Card, Demand, Derived, Hydronic, State, Totals};
 use crate::ranges;
-use crate::stand_ins::take_logarithm_refused;
+use crate::stand_ins::{take_logarithm_refused, take_logarithms};
 use accurate::{sum::Sum2, traits::*};
 use anyhow::Error;
 use parking_lot::RwLock;
@@ -410,13 +410,15 @@ impl Zone {
     }
 
     /// One substep on `zones`: outlet, each zone's energy and charged, as the published file
-    /// hands them out; or refusal 23 or 24.
+    /// hands them out, and the logarithms that it took, one for each zone with water; or refusal
+    /// 23 or 24.
     pub fn process_heat_battery_zones(
         &self,
         zones: &mut [f64],
         pass: &Pass,
-    ) -> Result<(f64, Vec<f64>, f64), u8> {
+    ) -> Result<(f64, Vec<f64>, f64, u64), u8> {
         RUN.set(Run::with_budget(1));
+        take_logarithms();
         let done = self.0.process_heat_battery_zones(
             pass.inlet,
             zones,
@@ -429,7 +431,8 @@ impl Zone {
             Some(pass.hex_a),
             Some(pass.hex_b),
         );
-        done.map_err(|error| error.refusal)
+        let (outlet, energies, charged) = done.map_err(|error| error.refusal)?;
+        Ok((outlet, energies, charged, take_logarithms()))
     }
 
     /// With `zones` in the battery. None where the published file refuses (25).

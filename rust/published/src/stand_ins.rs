@@ -11,6 +11,7 @@ const LN_2: f64 = 0.6931471805599453;
 
 thread_local! {
     static LOGARITHM_REFUSED: Cell<bool> = const { Cell::new(false) };
+    static LOGARITHMS: Cell<u64> = const { Cell::new(0) };
 }
 
 pub trait StandIns {
@@ -43,8 +44,9 @@ impl StandIns for f64 {
         self * self
     }
 
-    /// A refused argument gives NaN and is noted for the judge.
+    /// Counted for the judge. A refused argument gives NaN and is noted for it too.
     fn ln_or_refuse(self) -> f64 {
+        LOGARITHMS.set(LOGARITHMS.get() + 1);
         ln(self).unwrap_or_else(|| {
             LOGARITHM_REFUSED.set(true);
             f64::NAN
@@ -55,6 +57,11 @@ impl StandIns for f64 {
 /// Whether a logarithm was refused since the last time this was asked.
 pub fn take_logarithm_refused() -> bool {
     LOGARITHM_REFUSED.replace(false)
+}
+
+/// How many logarithms were taken since the last time this was asked.
+pub fn take_logarithms() -> u64 {
+    LOGARITHMS.replace(0)
 }
 
 /// ln, or None where the argument is not positive, normal and finite.

@@ -1,4 +1,5 @@
-use Rattle.substep.specs.Substep.{zoneTransfer}
+use Rattle.zone_water.specs.Water.{countedTransfer}
+use Rattle.substep.specs.Substep.{zoneTransfer, logarithmsOf, sharedTransfer}
 use borrow.Author.Needs.{needs}
 use Rattle.substep.proofs.zone_transfer.Statement.{statement}
 use Rattle.substep.proofs.zone_transfer.Tie as tie
@@ -19,16 +20,16 @@ per-layer-requires : tie.Need-per-layer-requires
 per-layer-requires c κs = search needs
 
 returns : tie.Need-returns
-unfolding zoneTransfer
+unfolding zoneTransfer logarithmsOf sharedTransfer
 returns c = rw (c .enum-told .given .1)
 
 returns-2 : tie.Need-returns-2
-unfolding zoneTransfer
+unfolding zoneTransfer logarithmsOf sharedTransfer
 returns-2 c = rw (c .enum-told2 .given .1)
 
 returns-3 : tie.Need-returns-3
-unfolding zoneTransfer
-returns-3 c = rw (c .before .before .enum-told3 .given .1, ← (c .before .calculate-heat-transfer-kw-per-k .ensures), ← (c .per-layer .ensures))
+unfolding zoneTransfer logarithmsOf sharedTransfer countedTransfer
+returns-3 c = rw (c .before .before .enum-told3 .given .1, c .per-layer .ensures, c .before .calculate-heat-transfer-kw-per-k .ensures)
 
 pub zone-transfer-spec : {M : Type 1} → statement M
 zone-transfer-spec =

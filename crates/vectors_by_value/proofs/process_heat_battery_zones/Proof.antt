@@ -1,5 +1,5 @@
 use Rattle.substep.specs.Substep.{withoutLogarithm, substepFrom}
-use Rattle.substep.proofs.SubstepLaws.{passed, refused-here, whole, not-alike}
+use Rattle.substep.proofs.SubstepLaws.{passed, refused-here, transfer-value, transfer-count, whole, not-alike}
 use mathlib.Core.Path.{refl, sym, _∙_}
 use borrow.Author.Needs.{needs}
 use Rattle.vectors_by_value.proofs.process_heat_battery_zones.Statement.{statement}
@@ -24,7 +24,7 @@ returns : tie.Need-returns
 unfolding withoutLogarithm
 returns c =
     let b = c .before .before .before .before .before .before in
-    let e = refused-here (b .args .card) (b .args .pcm) _ (b .args .input) (b .args .zones) _ (c .before .before .before .before .zone-transfer .ensures) (c .before .before .enum-told .given .1) in
+    let e = refused-here (b .args .card) (b .args .pcm) _ (b .args .input) (b .args .zones) _ (transfer-value _ _ _ _ (c .before .before .before .before .zone-transfer .ensures)) (c .before .before .enum-told .given .1) in
     c .bare .ensures ∙ (whole _ _ _ (withoutLogarithm (b .args .zones)) (refl, c .before .without-logarithm .ensures _) refl ∙ sym e)
 
 common-of-requires : tie.Need-common-of-requires
@@ -45,7 +45,8 @@ returns-2 : tie.Need-returns-2
 unfolding substepFrom
 returns-2 c =
     let b = c .before .before .before .before .before .before .before .before .before .before in
-    let e = passed (b .args .card) (b .args .pcm) _ (b .args .input) (b .args .zones) _ _ _ (c .before .before .before .before .before .before .before .before .zone-transfer .ensures) (c .before .before .before .before .before .before .share .given .1) (c .before .before .before .before .common-of .ensures) in
+    let shared = c .before .before .before .before .before .before .before .before .zone-transfer .ensures in
+    let e = passed (b .args .card) (b .args .pcm) _ (b .args .input) (b .args .zones) _ _ _ _ (transfer-value _ _ _ _ shared) (c .before .before .before .before .before .before .share .given .1) (c .before .before .before .before .common-of .ensures) (transfer-count _ _ _ _ shared) in
     c .with-arrays .ensures ∙ (whole _ _ _ _ (c .before .before .zones-in-place .ensures) (c .before .zone-energies .ensures) ∙ sym e)
 
 pub process-heat-battery-zones-spec : {M : Type 1} → statement M

@@ -1,4 +1,4 @@
-use Rattle.zone_water.specs.Water.{heatTransfer, transferOf}
+use Rattle.zone_water.specs.Water.{heatTransfer, countedTransfer}
 use borrow.Author.Needs.{needs}
 use Rattle.zone_water.proofs.calculate_heat_transfer_kw_per_k.Statement.{statement}
 use Rattle.zone_water.proofs.calculate_heat_transfer_kw_per_k.Tie as tie
@@ -6,20 +6,12 @@ use Rattle.zone_water.proofs.calculate_heat_transfer_kw_per_k.Tie as ti
 ln-requires : tie.Need-ln-requires
 ln-requires c κs = search needs
 
-enum-known-log : tie.Need-enum-known-log
-enum-known-log c = search needs
-
-enum-told : tie.Need-enum-told
-enum-told c = search needs
+transfer-of-requires : tie.Need-transfer-of-requires
+transfer-of-requires c κs = search needs
 
 returns : tie.Need-returns
-unfolding heatTransfer transferOf
-returns c = rw (← (c .before .before .before .ln .ensures), c .before .log .given .1)
-
-returns-2 : tie.Need-returns-2
-unfolding heatTransfer transferOf
-returns-2 c = rw (← (c .before .before .ln .ensures), c .enum-told .given .1)
+unfolding countedTransfer heatTransfer
+returns c = rw (← (c .before .ln .ensures), ← (c .transfer-of .ensures))
 
 pub calculate-heat-transfer-kw-per-k-spec : {M : Type 1} → statement M
-calculate-heat-transfer-kw-per-k-spec =
-    tie.close (tie.spec ln-requires enum-known-log enum-told returns returns-2)
+calculate-heat-transfer-kw-per-k-spec = tie.close (tie.spec ln-requires transfer-of-requires returns)

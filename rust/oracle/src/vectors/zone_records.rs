@@ -375,12 +375,13 @@ pub fn substep(random: &mut Random) -> Record {
         .floats(&[pass.inlet, pass.time_step, pass.reynolds, pass.flow, pass.power, pass.target])
         .floats(&[pass.hex_a, pass.hex_b]);
     match Zone::of_card(&card).process_heat_battery_zones(&mut zones, &pass) {
-        Ok((outlet, energies, charged)) => record
+        Ok((outlet, energies, charged, logarithms)) => record
             .word(0)
             .floats(&[outlet, judge::sum2(&energies), charged])
             .floats(&zones)
-            .floats(&energies),
-        Err(refusal) => record.word(u64::from(refusal)).floats(&vec![0.0; 3 + 2 * zones.len()]),
+            .floats(&energies)
+            .word(logarithms),
+        Err(refusal) => record.word(u64::from(refusal)).floats(&vec![0.0; 4 + 2 * zones.len()]),
     }
 }
 

@@ -1,4 +1,4 @@
-use Rattle.substep.proofs.SubstepLaws.{passed, without-logarithm-charge, common-mode, common-level}
+use Rattle.substep.proofs.SubstepLaws.{passed, without-logarithm-charge, none-in-a-charge, common-mode, common-level}
 use mathlib.Core.Path.{refl, sym, _∙_}
 use borrow.Author.Needs.{needs}
 use Rattle.substep_loops.proofs.charging_alone.charge_in_place.Statement.{statement}
@@ -18,7 +18,7 @@ charge-zones-requires c κs =
 returns : tie.Need-returns
 returns c =
     let b = c .before .before .before .before .before in
-    rw (passed (b .args .card) (b .args .pcm) _ (b .args .input) (b .args .zones .now) _ _ _ (sym (without-logarithm-charge _ _ (b .pre .1 .1))) refl (c .before .before .common-of .ensures)) (c .charge-zones .ensures)
+    rw (passed (b .args .card) (b .args .pcm) _ (b .args .input) (b .args .zones .now) _ _ _ _ (sym (without-logarithm-charge _ _ (b .pre .1 .1))) refl (c .before .before .common-of .ensures) (none-in-a-charge (b .args .input) (b .pre .1 .1))) (c .charge-zones .ensures)
 
 pub charge-in-place-spec : {M : Type 1} → statement M
 charge-in-place-spec =

@@ -1,10 +1,12 @@
 use lib.Ieee.{ofBits, add}
+use Rattle.floats.specs.Constants.{zero}
 use Rattle.zone.specs.Lent.{zoneSalt}
 use Rattle.zone.proofs.Salts.{one-salt}
-use Rattle.substep.proofs.OneLoop.{Underway, startOf, underway-start, underway-end}
+use Rattle.substep.specs.declared.ZoneStep.{ZoneStep}
+use Rattle.substep.proofs.OneLoop.{Underway, startOf, underway-start, underway-end, zone-takes-none, no-more-logarithms}
 use Rattle.floats.proofs.Sum2Laws.{noSum}
 use Rattle.substep_loops.proofs.ChargingSteps.{charging-more}
-use mathlib.Core.Path.{refl}
+use mathlib.Core.Path.{_≡_, refl, _∙_, ap}
 use Prim.Native.Nat.{_≤_, _-_}
 use native.Mathlib.Omega.{arith}
 use borrow.Author.Tests.{eqb-true}
@@ -13,11 +15,11 @@ use Rattle.substep_loops.proofs.charging_alone.charge_zones.Statement.{
 use Rattle.substep_loops.proofs.charging_alone.charge_zones.Tie as tie
 
 abbrev Inv-loop : tie.InvT-loop
-Inv-loop common salts step target zones₀ n mode first outlet₀ left₀ charged₀ spread₀ k₀ zones outlet left charged spread k =
-    (k ≤ n) × Underway common (zoneSalt salts step) n k (startOf zones₀ outlet₀ left₀ charged₀) zones outlet left charged noSum spread
+Inv-loop common salts step target zones₀ n mode first outlet₀ left₀ charged₀ spread₀ logarithms₀ k₀ zones outlet left charged spread logarithms k =
+    (k ≤ n) × ((logarithms ≡ logarithms₀) × Underway common (zoneSalt salts step) n k (startOf zones₀ outlet₀ left₀ charged₀) zones outlet left charged noSum spread)
 
 abbrev μ-loop : tie.MeasureT-loop
-μ-loop common salts step target zones₀ n mode first outlet₀ left₀ charged₀ spread₀ k₀ zones outlet left charged spread k = n - k
+μ-loop common salts step target zones₀ n mode first outlet₀ left₀ charged₀ spread₀ logarithms₀ k₀ zones outlet left charged spread logarithms k = n - k
 
 cast-n : tie.Need-cast-n Inv-loop μ-loop
 cast-n c = search needs
@@ -29,7 +31,7 @@ charger-heat-requires : tie.Need-charger-heat-requires Inv-loop μ-loop
 charger-heat-requires c κs = search needs
 
 loop-holds : tie.Need-loop-holds Inv-loop μ-loop
-loop-holds c = (omega arith, underway-start _ _ _ _ _ _ _)
+loop-holds c = (omega arith, (refl, underway-start _ _ _ _ _ _ _))
 
 zone-index-requires : tie.Need-zone-index-requires Inv-loop μ-loop
 zone-index-requires c κs = search needs
@@ -64,10 +66,16 @@ element-copy-out-finite-step c = search needs
 finite-step-requires : tie.Need-finite-step-requires Inv-loop μ-loop
 finite-step-requires c κs = search needs
 
+add-logarithms : tie.Need-add-logarithms Inv-loop μ-loop
+add-logarithms c =
+    let none = ap (λ (z : ZoneStep). z .logarithms) (c .before .before .before .before .before .charging-step .ensures zero) ∙ zone-takes-none _ _ _ _ _ _ in
+    let same = c .before .before .before .before .before .before .before .before .before .before .loop .inv .1 .0 in
+    search needs
+
 add-k : tie.Need-add-k Inv-loop μ-loop
 add-k c =
-    let taken = c .before .before .before .before .before .before .before .before .loop-test .taken in
-    let few = c .before .before .before .before .before .before .before .before .before .before .before .before .before .before .pre .0 in
+    let taken = c .before .before .before .before .before .before .before .before .before .loop-test .taken in
+    let few = c .before .before .before .before .before .before .before .before .before .before .before .before .before .before .before .pre .0 in
     search needs
 
 loop-less : tie.Need-loop-less Inv-loop μ-loop
@@ -75,11 +83,15 @@ loop-less c = search needs
 
 loop-again : tie.Need-loop-again Inv-loop μ-loop
 loop-again c =
-    let i = c .before .before .before .before .before .before .before in
+    let i = c .before .before .before .before .before .before .before .before in
     let b = i .before .before .before .before .before .before .before in
-    let p = b .pre in (
+    let p = b .pre in
+    let step = c .before .before .before .before .before .charging-step .ensures _ in (
       omega arith,
-      charging-more (b .args .common) _ _ _ refl (p .0) _ (i .before .loop-test .taken) _ _ _ _ _ _ _ _ _ (i .zone-index .ensures .0) (c .before .before .before .before .before .before .own-salt .ensures) (c .before .before .before .before .charging-step .ensures _) (c .before .before .finite-step .ensures) (p .1 .1 .0) (i .before .before .loop .inv .1),
+      (
+        no-more-logarithms _ _ _ _ _ _ _ _ _ step (i .before .before .loop .inv .1 .0),
+        charging-more (b .args .common) _ _ _ refl (p .0) _ (i .before .loop-test .taken) _ _ _ _ _ _ _ _ _ (i .zone-index .ensures .0) (c .before .before .before .before .before .before .before .own-salt .ensures) step (c .before .before .before .finite-step .ensures) (p .1 .1 .0) (i .before .before .loop .inv .1 .1),
+      ),
     )
 
 progress-fault-requires : tie.Need-progress-fault-requires Inv-loop μ-loop
@@ -90,7 +102,7 @@ returns : tie.Need-returns Inv-loop μ-loop
 unfolding ofBits add
 returns c =
     let l = c .before .before .loop in
-    underway-end _ _ _ _ _ _ (c .before .before .before .before .before .before .before .pre .0) _ _ _ _ _ noSum _ _ (c .before .before .before .charger-heat .ensures) (l .inv .0) (c .before .loop-test .left) (l .inv .1) (c .progress-fault .ensures)
+    underway-end _ _ _ _ _ _ (c .before .before .before .before .before .before .before .pre .0) _ _ _ _ _ noSum _ _ _ _ (l .inv .1 .0) (c .before .before .before .charger-heat .ensures) (l .inv .0) (c .before .loop-test .left) (l .inv .1 .1) (c .progress-fault .ensures)
 
 pub charge-zones-spec : {M : Type 1} → statement M
 charge-zones-spec =
@@ -112,6 +124,7 @@ charge-zones-spec =
     mul-finite-step
     element-copy-out-finite-step
     finite-step-requires
+    add-logarithms
     add-k
     loop-less
     loop-again

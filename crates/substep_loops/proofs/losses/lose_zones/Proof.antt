@@ -1,7 +1,9 @@
+use Rattle.floats.specs.Constants.{zero}
 use Rattle.zone.specs.Lent.{zoneSalt}
-use Rattle.substep.proofs.OneLoop.{Underway, startOf, underway-start, underway-end}
+use Rattle.substep.specs.declared.ZoneStep.{ZoneStep}
+use Rattle.substep.proofs.OneLoop.{Underway, startOf, underway-start, underway-end, zone-takes-none, no-more-logarithms}
 use Rattle.substep_loops.proofs.LossSteps.{upward, losing-more}
-use mathlib.Core.Path.{refl}
+use mathlib.Core.Path.{_≡_, refl, _∙_, ap}
 use Prim.Native.Nat.{_≤_, _-_}
 use native.Mathlib.Omega.{arith}
 use borrow.Author.Needs.{needs}
@@ -9,11 +11,11 @@ use Rattle.substep_loops.proofs.losses.lose_zones.Statement.{statement}
 use Rattle.substep_loops.proofs.losses.lose_zones.Tie as tie
 
 abbrev Inv-loop : tie.InvT-loop
-Inv-loop common salts step zones₀ n first left charged share outlet₀ sum₀ spread₀ k₀ zones outlet sum spread k =
-    (k ≤ n) × Underway common (zoneSalt salts step) n k (startOf zones₀ outlet₀ left charged) zones outlet left charged sum spread
+Inv-loop common salts step zones₀ n first left charged share outlet₀ sum₀ spread₀ logarithms₀ k₀ zones outlet sum spread logarithms k =
+    (k ≤ n) × ((logarithms ≡ logarithms₀) × Underway common (zoneSalt salts step) n k (startOf zones₀ outlet₀ left charged) zones outlet left charged sum spread)
 
 abbrev μ-loop : tie.MeasureT-loop
-μ-loop common salts step zones₀ n first left charged share outlet₀ sum₀ spread₀ k₀ zones outlet sum spread k = n - k
+μ-loop common salts step zones₀ n first left charged share outlet₀ sum₀ spread₀ logarithms₀ k₀ zones outlet sum spread logarithms k = n - k
 
 cast-n : tie.Need-cast-n Inv-loop μ-loop
 cast-n c = search needs
@@ -28,7 +30,7 @@ int-to-float-share : tie.Need-int-to-float-share Inv-loop μ-loop
 int-to-float-share c = search needs
 
 loop-holds : tie.Need-loop-holds Inv-loop μ-loop
-loop-holds c = (omega arith, underway-start _ _ _ _ _ _ _)
+loop-holds c = (omega arith, (refl, underway-start _ _ _ _ _ _ _))
 
 own-salt-requires : tie.Need-own-salt-requires Inv-loop μ-loop
 own-salt-requires c κs = (c .before .before .before .before .before .before .before .before .pre .1 .0 .1 _ (c .loop-test .taken), c .before .before .before .before .before .zone-salt .ensures)
@@ -74,11 +76,16 @@ finite-step-requires c κs = search needs
 sum2-step-requires : tie.Need-sum2-step-requires Inv-loop μ-loop
 sum2-step-requires c κs = search needs
 
+add-logarithms : tie.Need-add-logarithms Inv-loop μ-loop
+add-logarithms c =
+    let none = ap (λ (z : ZoneStep). z .logarithms) (c .before .before .before .before .before .loss-step .ensures zero) ∙ zone-takes-none _ _ _ _ _ _ in
+    let same = c .before .before .before .before .before .before .before .before .before .loop .inv .1 .0 in
+    search needs
+
 add-k : tie.Need-add-k Inv-loop μ-loop
 add-k c =
-    let i = c .before .before .before .before .before .before .before in
-    let taken = i .loop-test .taken in
-    let few = i .before .before .before .before .before .before .before .before .pre .0 in
+    let taken = c .before .before .before .before .before .before .before .before .loop-test .taken in
+    let few = c .before .before .before .before .before .before .before .before .before .before .before .before .before .before .before .before .pre .0 in
     search needs
 
 loop-less : tie.Need-loop-less Inv-loop μ-loop
@@ -86,11 +93,15 @@ loop-less c = search needs
 
 loop-again : tie.Need-loop-again Inv-loop μ-loop
 loop-again c =
-    let i = c .before .before .before .before .before .before .before in
+    let i = c .before .before .before .before .before .before .before .before in
     let b = i .before .before .before .before .before .before .before .before in
-    let p = b .pre in (
+    let p = b .pre in
+    let step = c .before .before .before .before .before .loss-step .ensures _ in (
       omega arith,
-      losing-more (b .args .common) _ _ _ refl (p .0) _ (i .loop-test .taken) _ _ _ _ _ _ _ _ _ (upward _ _ _ (p .1 .1 .0)) (c .before .before .before .before .before .before .own-salt .ensures) (c .before .before .before .before .loss-step .ensures _) (c .before .before .finite-step .ensures) _ _ (p .1 .1 .0) (rw (i .before .before .before .before .charger-heat .ensures) (p .1 .1 .1)) (c .sum2-step .ensures) (i .before .loop .inv .1),
+      (
+        no-more-logarithms _ _ _ _ _ _ _ _ _ step (i .before .loop .inv .1 .0),
+        losing-more (b .args .common) _ _ _ refl (p .0) _ (i .loop-test .taken) _ _ _ _ _ _ _ _ _ (upward _ _ _ (p .1 .1 .0)) (c .before .before .before .before .before .before .before .own-salt .ensures) step (c .before .before .before .finite-step .ensures) _ _ (p .1 .1 .0) (rw (i .before .before .before .before .charger-heat .ensures) (p .1 .1 .1)) (c .before .sum2-step .ensures) (i .before .loop .inv .1 .1),
+      ),
     )
 
 progress-fault-requires : tie.Need-progress-fault-requires Inv-loop μ-loop
@@ -99,7 +110,7 @@ progress-fault-requires c κs = search needs
 returns : tie.Need-returns Inv-loop μ-loop
 returns c =
     let l = c .before .before .before .loop in
-    underway-end _ _ _ _ _ _ (c .before .before .before .before .before .before .before .before .before .before .pre .0) _ _ _ _ _ _ _ _ (c .before .before .before .before .before .before .charger-heat .ensures) (l .inv .0) (c .before .before .loop-test .left) (l .inv .1) (c .progress-fault .ensures)
+    underway-end _ _ _ _ _ _ (c .before .before .before .before .before .before .before .before .before .before .pre .0) _ _ _ _ _ _ _ _ _ _ (l .inv .1 .0) (c .before .before .before .before .before .before .charger-heat .ensures) (l .inv .0) (c .before .before .loop-test .left) (l .inv .1 .1) (c .progress-fault .ensures)
 
 pub lose-zones-spec : {M : Type 1} → statement M
 lose-zones-spec =
@@ -122,6 +133,7 @@ lose-zones-spec =
     element-copy-out-finite-step
     finite-step-requires
     sum2-step-requires
+    add-logarithms
     add-k
     loop-less
     loop-again

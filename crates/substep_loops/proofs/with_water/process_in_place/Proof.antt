@@ -1,7 +1,7 @@
-use Rattle.substep.specs.Substep.{zoneTransfer, withoutLogarithm, outcomeOf}
+use Rattle.substep.specs.Substep.{zoneTransfer, logarithmsOf, withoutLogarithm, outcomeOf}
 use Rattle.zone_water.specs.declared.Mode.{Mode}
 use Rattle.substep.specs.declared.Substep.{Substep}
-use Rattle.substep.proofs.SubstepLaws.{passed, refused-here, common-level}
+use Rattle.substep.proofs.SubstepLaws.{passed, refused-here, transfer-value, transfer-count, common-level}
 use mathlib.Core.Path.{sym, _∙_, ap}
 use borrow.Author.Needs.{needs}
 use Rattle.substep_loops.proofs.with_water.process_in_place.Statement.{statement}
@@ -10,8 +10,8 @@ use Rattle.substep_loops.proofs.with_water.process_in_place.Tie as tie
 zone-transfer-requires : tie.Need-zone-transfer-requires
 zone-transfer-requires c κs = search needs
 
-enum-known-transfer : tie.Need-enum-known-transfer
-enum-known-transfer c = search needs
+enum-known-share : tie.Need-enum-known-share
+enum-known-share c = search needs
 
 enum-told : tie.Need-enum-told
 enum-told c = search needs
@@ -23,7 +23,7 @@ returns : tie.Need-returns
 unfolding withoutLogarithm
 returns c =
     let b = c .before .before .before .before .before in
-    let e = sym (refused-here (b .args .card) (b .args .pcm) _ (b .args .input) (b .args .zones .now) _ (c .before .before .before .zone-transfer .ensures ∙ ap (λ (m : Mode). zoneTransfer m (b .args .card) (b .args .input)) (sym (b .pre .1 .1 .0))) (c .before .enum-told .given .1)) in
+    let e = sym (refused-here (b .args .card) (b .args .pcm) _ (b .args .input) (b .args .zones .now) _ (transfer-value _ _ _ _ (c .before .before .before .zone-transfer .ensures) ∙ ap (λ (m : Mode). zoneTransfer m (b .args .card) (b .args .input)) (sym (b .pre .1 .1 .0))) (c .before .enum-told .given .1)) in
     (ap (λ (v : Substep). v .zones) e, c .without-logarithm .ensures _ ∙ ap outcomeOf e)
 
 common-of-requires : tie.Need-common-of-requires
@@ -37,15 +37,16 @@ zones-in-place-requires c κs =
 returns-2 : tie.Need-returns-2
 returns-2 c =
     let b = c .before .before .before .before .before .before .before .before in
-    let t = c .before .before .before .before .before .before .zone-transfer .ensures ∙ ap (λ (m : Mode). zoneTransfer m (b .args .card) (b .args .input)) (sym (b .pre .1 .1 .0)) in
-    rw (passed (b .args .card) (b .args .pcm) _ (b .args .input) (b .args .zones .now) _ _ _ t (c .before .before .before .before .transfer .given .1) (c .before .before .common-of .ensures)) (c .zones-in-place .ensures)
+    let shared = c .before .before .before .before .before .before .zone-transfer .ensures in
+    let t = transfer-value _ _ _ _ shared ∙ ap (λ (m : Mode). zoneTransfer m (b .args .card) (b .args .input)) (sym (b .pre .1 .1 .0)) in
+    rw (passed (b .args .card) (b .args .pcm) _ (b .args .input) (b .args .zones .now) _ _ _ _ t (c .before .before .before .before .share .given .1) (c .before .before .common-of .ensures) (transfer-count _ _ _ _ shared ∙ ap logarithmsOf (sym (b .pre .1 .1 .0)))) (c .zones-in-place .ensures)
 
 pub process-in-place-spec : {M : Type 1} → statement M
 process-in-place-spec =
     tie.close
     (tie.spec
     zone-transfer-requires
-    enum-known-transfer
+    enum-known-share
     enum-told
     without-logarithm-requires
     returns
