@@ -75,7 +75,7 @@ auditLines same version card bs = auditFrom same version card (length bs) (fresh
 unfoldable pub auditCard : Rules → ℕ → Card → List ℕ → Verdict
 auditCard rules version card bs = cond (rules .test version card) (auditLines (rules .same) version card bs) (Refused 70 0)
 
--- '40 no first byte or not 1 (index 0)': the first byte is the version
+-- document 02, Three: '40 means a first byte that is missing or no known version', at index 0; the first byte is the version
 unfoldable pub auditOf : Rules → List ℕ → Verdict
 auditOf rules bs =
     let version = getD bs 0 0 in

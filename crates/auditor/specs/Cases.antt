@@ -16,7 +16,7 @@ use Rattle.auditor.specs.declared.Verdict.the-variants.{Accepted, Refuse
 use Rattle.auditor.specs.Rules.{Rules}
 use Rattle.auditor.specs.Sheet.{Line, bytesOf, Laid, CardAccepted, expected, Sheet}
 
--- '40 no first byte or not 1': no version that is known
+-- '40 means a first byte that is missing or no known version'
 abbrev pub NoVersion : List ℕ → Type 0
 NoVersion bs = (version : ℕ) (rest : List ℕ) → knownVersion version ≡ true → bs ≡ version ∷ rest → ⊥
 

@@ -20,9 +20,9 @@ pub card-refusal : (version : ℕ) (c : Card) → (cardRefusal version c ≡ 0 �
 unfolding cardRefusal
 card-refusal version c h = verdict-refusal (cardVerdict version c) h
 
--- 0 is an answer, 10 and 11 are the caller's
-pub card-refusal-own : (r : ℕ) → CardRefusal r → (r ≡ 0 → ⊥) × (r ≡ 10 → ⊥) × (r ≡ 11 → ⊥)
-card-refusal-own r (inl e) = (λ z. omega arith, λ z. omega arith, λ z. omega arith)
-card-refusal-own r (inr (inl e)) = (λ z. omega arith, λ z. omega arith, λ z. omega arith)
-card-refusal-own r (inr (inr (inl e))) = (λ z. omega arith, λ z. omega arith, λ z. omega arith)
-card-refusal-own r (inr (inr (inr (inl e)))) = (λ z. omega arith, λ z. omega arith, λ z. omega arith)
+-- 0 is an answer, 10, 11 and 40 are the caller's
+pub card-refusal-own : (r : ℕ) → CardRefusal r → (r ≡ 0 → ⊥) × (r ≡ 10 → ⊥) × (r ≡ 11 → ⊥) × (r ≡ 40 → ⊥)
+card-refusal-own r (inl e) = (λ z. omega arith, λ z. omega arith, λ z. omega arith, λ z. omega arith)
+card-refusal-own r (inr (inl e)) = (λ z. omega arith, λ z. omega arith, λ z. omega arith, λ z. omega arith)
+card-refusal-own r (inr (inr (inl e))) = (λ z. omega arith, λ z. omega arith, λ z. omega arith, λ z. omega arith)
+card-refusal-own r (inr (inr (inr (inl e)))) = (λ z. omega arith, λ z. omega arith, λ z. omega arith, λ z. omega arith)

@@ -3,13 +3,9 @@ use mathlib.Core.Path.{_≡_, refl}
 use mathlib.Core.Bool.{true, false}
 use Prim.Native.Nat.{ℕ, _<_}
 use native.Mathlib.Omega.{arith}
-use borrow.Author.Tests.{eqb-true}
-use Rattle.card.specs.Version.{onlyVersion, knownVersion}
-
--- the entries' own is known
-pub only-known : knownVersion onlyVersion ≡ true
-unfolding knownVersion
-only-known = refl
+use lib.Dec.{leb, leb→le}
+use Rattle.logic.proofs.Tests.{and-true, holds}
+use Rattle.card.specs.Version.{oldestVersion, newestVersion, knownVersion}
 
 -- 0 is read where there is no first byte
 pub zero-unknown : knownVersion 0 ≡ false
@@ -19,4 +15,4 @@ zero-unknown = refl
 -- a version is one byte
 pub known-byte : (version : ℕ) → knownVersion version ≡ true → version < 256
 unfolding knownVersion
-known-byte version h = let e = eqb-true version onlyVersion h in omega arith
+known-byte version h = let e = leb→le version newestVersion (holds (and-true (leb oldestVersion version) (leb version newestVersion) h .1)) in omega (arith, e)

@@ -8,7 +8,7 @@ use Rattle.engine.specs.declared.Operation.{Operation}
 use Rattle.engine.specs.Operations.{operationOf, operationStep}
 use Rattle.engine.specs.Steps.{stepOf}
 
-by-kind : (version : ℕ) (b : Battery) (call : Call) → operationStep b (operationOf call) ≡ stepOf version b call
+by-kind : (version : ℕ) (b : Battery) (call : Call) → operationStep version b (operationOf call) ≡ stepOf version b call
 unfolding operationOf operationStep stepOf
 by-kind version b (DemandEnergy d) = refl
 by-kind version b (ChargeElectric power target) = refl
@@ -18,5 +18,5 @@ by-kind version b CloseTimestep = refl
 by-kind version b ReadStateOfCharge = refl
 by-kind version b (ChargeEnergyDemand most target) = refl
 
-pub stepped : (version : ℕ) (b : Battery) (call : Call) (a : Operation) → a ≡ operationOf call → operationStep b a ≡ stepOf version b call
-stepped version b call a e = ap (operationStep b) e ∙ by-kind version b call
+pub stepped : (version : ℕ) (b : Battery) (call : Call) (a : Operation) → a ≡ operationOf call → operationStep version b a ≡ stepOf version b call
+stepped version b call a e = ap (operationStep version b) e ∙ by-kind version b call

@@ -36,7 +36,7 @@ use Rattle.engine_replies.specs.Classes.{serviceClass, unserved}
 use Rattle.engine_replies.specs.Replies.{checked, unlessRefused, demandAnswer, chargedAnswer, cooledAnswer, closedBattery}
 use Rattle.engine.specs.Steps.{demandRunOf, demandRan, demandFrom, demandGiven, demandEnergy, charge, heatLoss, level, readLevel, demandToLevel, wetSource, stepOf}
 use Rattle.engine.specs.Budget.{hydronicRunOf, BudgetUsed}
-use Rattle.engine.specs.Faults.{DemandFaulted, AnswerNotFinite, NotFiniteFound, NoLogarithmTaken, OverFull}
+use Rattle.engine.specs.Faults.{DemandFaulted, AnswerNotFinite, NoDemandNotFinite, NotFiniteFound, NoLogarithmTaken, OverFull}
 use Rattle.engine.specs.Cases.{Runs}
 use Rattle.engine.proofs.Promises.{refused-number}
 use Rattle.engine.proofs.Refused.{RunWhy, DemandWhy, LevelWhy, ChargeWhy, Why}
@@ -79,7 +79,7 @@ module _ (n : ℕ) (l : 22 ≤ n) (b : Battery) where
         let r = demandRan b d (w .feed) in
         rw (is-served (w .asked) (w .feed) (w .given)) (run-refuses (r .part .end) (demandAnswer b d r) (w .why))
 
-    demand-refuses : Why n b (DemandEnergy d) → demandEnergy b d .refusal ≡ n
+    demand-refuses : ((n ≡ 23) × NoDemandNotFinite b d) ⊎ DemandWhy n b d → demandEnergy b d .refusal ≡ n
     unfolding demandEnergy demandGiven
     demand-refuses (inl w) = rw (w .1 .asked) (checked-refuses (plainAnswer zero b) (w .0) (w .1 .found))
     demand-refuses (inr w) = rw (w .asked) (ap (λ (g : Given). demandGiven b d g .refusal) (w .given) ∙ from-refuses w)
@@ -96,23 +96,23 @@ module _ (n : ℕ) (l : 22 ≤ n) (b : Battery) where
   to-level-refuses most target (inr w) =
       rw (w .1 .read) (checked-refuses (plainAnswer (chargeEnergyDemand (b .card) most target (w .1 .soc) .0) b) (w .0) (w .1 .found))
 
-  charge-refuses : (source : Source) (target : Float) → ChargeWhy n b source target → charge b source target .refusal ≡ n
+  charge-refuses : (version : ℕ) (source : Source) (target : Float) → ChargeWhy n version b source target → charge version b source target .refusal ≡ n
   unfolding charge
-  charge-refuses source target w =
+  charge-refuses version source target w =
       let r = chargeBattery b source target in
-      run-refuses (r .part .end) (chargedAnswer b r) w
+      run-refuses (r .part .end) (chargedAnswer version b r) w
 
-  loss-refuses : Why n b HeatLoss → heatLoss b .refusal ≡ n
+  loss-refuses : RunWhy n (batteryHeatLoss b .part .end) (cooledAnswer b (batteryHeatLoss b)) → heatLoss b .refusal ≡ n
   unfolding heatLoss
   loss-refuses w =
       let r = batteryHeatLoss b in
       run-refuses (r .part .end) (cooledAnswer b r) w
 
-pub why-refuses : (n : ℕ) → 22 ≤ n → (version : ℕ) (b : Battery) (call : Call) → callInRange version (b .card) call ≡ true → Runs b call → Why n b call → stepOf version b call .refusal ≡ n
+pub why-refuses : (n : ℕ) → 22 ≤ n → (version : ℕ) (b : Battery) (call : Call) → callInRange version (b .card) call ≡ true → Runs b call → Why n version b call → stepOf version b call .refusal ≡ n
 unfolding stepOf callInRange
 why-refuses n l version b (DemandEnergy d) i runs w = demand-refuses n l b d i runs w
-why-refuses n l version b (ChargeElectric power target) i runs w = charge-refuses n l b (Electric power) target w
-why-refuses n l version b (ChargeHydronic h) i runs w = charge-refuses n l b (wetSource h) (h .target) w
+why-refuses n l version b (ChargeElectric power target) i runs w = charge-refuses n l b version (Electric power) target w
+why-refuses n l version b (ChargeHydronic h) i runs w = charge-refuses n l b version (wetSource h) (h .target) w
 why-refuses n l version b HeatLoss i runs w = loss-refuses n l b w
 why-refuses n l version b CloseTimestep i runs w = checked-refuses n l b (plainAnswer zero (closedBattery b)) (w .0) (w .1)
 why-refuses n l version b ReadStateOfCharge i runs w = level-refuses n l b w
@@ -133,7 +133,7 @@ not-finite-23 : (e : End) → e ≡ faultEnd NotFinite → endRefusal e ≡ 23
 unfolding endRefusal faultEnd
 not-finite-23 e h = rw h
 
-module _ (b : Battery) where
+module _ (version : ℕ) (b : Battery) where
   -- the ends of the runs are those that the calls hand out
   demand-end : (d : Demand) (feed : Float) → demandRan b d feed .part .end ≡ demandRunOf b d feed .part .end
   unfolding demandEnded
@@ -155,7 +155,7 @@ module _ (b : Battery) where
   demand-ended n f number d w =
       record { asked = w .asked; feed = w .feed; given = w .given; why = inl (number _ (demand-end d (w .feed) ∙ w .ended)) }
 
-  pub budget-why : (call : Call) → BudgetUsed b call → Why 22 b call
+  pub budget-why : (call : Call) → BudgetUsed b call → Why 22 version b call
   budget-why (DemandEnergy d) w =
       inr (record { asked = w .asked; feed = w .feed; given = w .given; why = inl (over-22 _ (demand-end d (w .feed) ∙ w .over .ended)) })
   budget-why (ChargeElectric power target) w = absurd w
@@ -165,7 +165,7 @@ module _ (b : Battery) where
   budget-why ReadStateOfCharge w = absurd w
   budget-why (ChargeEnergyDemand most target) w = absurd w
 
-  pub logarithm-why : (call : Call) → NoLogarithmTaken b call → Why 24 b call
+  pub logarithm-why : (call : Call) → NoLogarithmTaken b call → Why 24 version b call
   logarithm-why (DemandEnergy d) w = inr (demand-ended 24 Logarithm logarithm-24 d w)
   logarithm-why (ChargeElectric power target) w = absurd w
   logarithm-why (ChargeHydronic h) w = inl (logarithm-24 _ (hydronic-end h ∙ w .ended))
@@ -179,7 +179,7 @@ module _ (b : Battery) where
   run-23 end a f (inl w) = inl (not-finite-23 end (f w))
   run-23 end a f (inr w) = inr (refl, w)
 
-  pub not-finite-why : (call : Call) → NotFiniteFound b call → Why 23 b call
+  pub not-finite-why : (call : Call) → NotFiniteFound version b call → Why 23 version b call
   not-finite-why (DemandEnergy d) (inl w) = inr (demand-ended 23 NotFinite not-finite-23 d w)
   not-finite-why (DemandEnergy d) (inr (inl w)) = inr (record { asked = w .asked; feed = w .feed; given = w .given; why = inr (refl, w .answer) })
   not-finite-why (DemandEnergy d) (inr (inr w)) = inl (refl, w)
@@ -190,7 +190,7 @@ module _ (b : Battery) where
   not-finite-why ReadStateOfCharge w = inr (refl, w)
   not-finite-why (ChargeEnergyDemand most target) w = inr (refl, w)
 
-  pub full-why : (call : Call) → OverFull b call → Why 25 b call
+  pub full-why : (call : Call) → OverFull b call → Why 25 version b call
   full-why (DemandEnergy d) w = absurd w
   full-why (ChargeElectric power target) w = absurd w
   full-why (ChargeHydronic h) w = absurd w

@@ -74,9 +74,9 @@ module _ (b : Battery) (a : Answer) (z : a .refusal ≡ 0) where
       on false = unfold refusedWith in end-late end
 
 module _ (b : Battery) where
-  pub charge-late : (source : Source) (target : Float) → Late (charge b source target .refusal)
+  pub charge-late : (version : ℕ) (source : Source) (target : Float) → Late (charge version b source target .refusal)
   unfolding charge runAnswer
-  charge-late source target = let r = chargeBattery b source target in run-late b (chargedAnswer b r) refl (r .part .end)
+  charge-late version source target = let r = chargeBattery b source target in run-late b (chargedAnswer version b r) refl (r .part .end)
 
   pub loss-late : Late (heatLoss b .refusal)
   unfolding heatLoss runAnswer
@@ -145,8 +145,8 @@ module _ (b : Battery) (d : Demand) where
 pub demand-or-late : (version : ℕ) (b : Battery) (c : Call) → ((d : Demand) × (c ≡ DemandEnergy d)) ⊎ Late (stepOf version b c .refusal)
 unfolding stepOf
 demand-or-late version b (DemandEnergy d) = inl (d, refl)
-demand-or-late version b (ChargeElectric power target) = inr (charge-late b (Electric power) target)
-demand-or-late version b (ChargeHydronic h) = inr (charge-late b (wetSource h) (h .target))
+demand-or-late version b (ChargeElectric power target) = inr (charge-late b version (Electric power) target)
+demand-or-late version b (ChargeHydronic h) = inr (charge-late b version (wetSource h) (h .target))
 demand-or-late version b HeatLoss = inr (loss-late b)
 demand-or-late version b CloseTimestep = inr (plain-late b (closedBattery b) zero)
 demand-or-late version b ReadStateOfCharge = inr (level-late b (level b))

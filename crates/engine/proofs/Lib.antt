@@ -23,3 +23,6 @@ pub mod ByValue
 pub mod DemandCases
 pub mod Causes
 pub mod StepCases
+pub mod Times
+pub mod TimeFinite
+pub mod Versions

@@ -132,9 +132,9 @@ run-24 : (end : End) (a : Answer) → RunWhy 24 end a → endFault end ≡ Logar
 run-24 end a (inl h) = end-fault-24 end h
 run-24 end a (inr w) = let n = w .0 in absurd (omega arith)
 
-demand-24 : (b : Battery) (d : Demand) → Why 24 b (DemandEnergy d) → DemandFaulted Logarithm b d
-demand-24 b d (inl w) = let n = w .0 in absurd (omega arith)
-demand-24 b d (inr w) =
+demand-24 : (version : ℕ) (b : Battery) (d : Demand) → Why 24 version b (DemandEnergy d) → DemandFaulted Logarithm b d
+demand-24 version b d (inl w) = let n = w .0 in absurd (omega arith)
+demand-24 version b d (inr w) =
     demand-faults Logarithm some-logarithm b d (w .asked) (w .feed) (w .given) (run-24 _ _ (w .why))
 
 level-24 : (b : Battery) (energy : Float → Float) → LevelWhy 24 b energy → ⊥
@@ -154,14 +154,14 @@ module _ (b : Battery) where
       let m = logarithm-only (b .card) (derived (b .card)) (saltAt (saltsOf (b .card))) (lossInput (b .card)) (b .zones) (sym (fault-of-end _) ∙ h) .normal in
       losses-apart m
 
-why-24 : (b : Battery) (call : Call) → Why 24 b call → NoLogarithmTaken b call
-why-24 b (DemandEnergy d) w = demand-24 b d w
-why-24 b (ChargeElectric power target) w = electric-24 b power target (run-24 _ _ w)
-why-24 b (ChargeHydronic h) w = hydronic-faults Logarithm some-logarithm b h (run-24 _ _ w)
-why-24 b HeatLoss w = loss-24 b (run-24 _ _ w)
-why-24 b CloseTimestep w = let n = w .0 in omega arith
-why-24 b ReadStateOfCharge w = level-24 b _ w
-why-24 b (ChargeEnergyDemand most target) w = level-24 b _ w
+why-24 : (version : ℕ) (b : Battery) (call : Call) → Why 24 version b call → NoLogarithmTaken b call
+why-24 version b (DemandEnergy d) w = demand-24 version b d w
+why-24 version b (ChargeElectric power target) w = electric-24 b power target (run-24 _ _ w)
+why-24 version b (ChargeHydronic h) w = hydronic-faults Logarithm some-logarithm b h (run-24 _ _ w)
+why-24 version b HeatLoss w = loss-24 b (run-24 _ _ w)
+why-24 version b CloseTimestep w = let n = w .0 in omega arith
+why-24 version b ReadStateOfCharge w = level-24 b _ w
+why-24 version b (ChargeEnergyDemand most target) w = level-24 b _ w
 
 pub no-logarithm-only : (version : ℕ) (b : Battery) (call : Call) → stepOf version b call .refusal ≡ 24 → NoLogarithmTaken b call
-no-logarithm-only version b call h = why-24 b call (refused-why 24 (omega arith) version b call h)
+no-logarithm-only version b call h = why-24 version b call (refused-why 24 (omega arith) version b call h)

@@ -37,16 +37,16 @@ level-23 : (b : Battery) (energy : Float → Float) → LevelWhy 23 b energy →
 level-23 b energy (inl w) = let n = w .0 in absurd (omega arith)
 level-23 b energy (inr w) = w .1
 
-module _ (b : Battery) where
+module _ (version : ℕ) (b : Battery) where
   module _ (d : Demand) (w : DemandWhy 23 b d) where
     demand-run-23 :
-        RunWhy 23 (demandRan b d (w .feed) .part .end) (demandAnswer b d (demandRan b d (w .feed))) → NotFiniteFound b (DemandEnergy d)
+        RunWhy 23 (demandRan b d (w .feed) .part .end) (demandAnswer b d (demandRan b d (w .feed))) → NotFiniteFound version b (DemandEnergy d)
     demand-run-23 (inl h) =
         let e = end-fault-23 (demandRan b d (w .feed) .part .end) h in
         inl (demand-faults NotFinite some-not-finite b d (w .asked) (w .feed) (w .given) e)
     demand-run-23 (inr v) = inr (inl (record { asked = w .asked; feed = w .feed; given = w .given; answer = v .1 }))
 
-  demand-23 : (d : Demand) → Why 23 b (DemandEnergy d) → NotFiniteFound b (DemandEnergy d)
+  demand-23 : (d : Demand) → Why 23 version b (DemandEnergy d) → NotFiniteFound version b (DemandEnergy d)
   demand-23 d (inl w) = inr (inr (w .1))
   demand-23 d (inr w) = demand-run-23 d w (w .why)
 
@@ -61,14 +61,14 @@ module _ (b : Battery) where
   unfolding batteryHeatLoss lossEnded outcomeOf
   loss-23 h = substep-fault (b .card) (derived (b .card)) (saltAt (saltsOf (b .card))) (lossInput (b .card)) (b .zones) NotFinite some-not-finite (sym (fault-of-end _) ∙ h)
 
-why-23 : (b : Battery) (call : Call) → Why 23 b call → NotFiniteFound b call
-why-23 b (DemandEnergy d) w = demand-23 b d w
-why-23 b (ChargeElectric power target) w = run-23 _ _ (electric-23 b power target) w
-why-23 b (ChargeHydronic h) w = run-23 _ _ (hydronic-faults NotFinite some-not-finite b h) w
-why-23 b HeatLoss w = run-23 _ _ (loss-23 b) w
-why-23 b CloseTimestep w = w .1
-why-23 b ReadStateOfCharge w = level-23 b _ w
-why-23 b (ChargeEnergyDemand most target) w = level-23 b _ w
+why-23 : (version : ℕ) (b : Battery) (call : Call) → Why 23 version b call → NotFiniteFound version b call
+why-23 version b (DemandEnergy d) w = demand-23 version b d w
+why-23 version b (ChargeElectric power target) w = run-23 _ _ (electric-23 version b power target) w
+why-23 version b (ChargeHydronic h) w = run-23 _ _ (hydronic-faults NotFinite some-not-finite b h) w
+why-23 version b HeatLoss w = run-23 _ _ (loss-23 version b) w
+why-23 version b CloseTimestep w = w .1
+why-23 version b ReadStateOfCharge w = level-23 b _ w
+why-23 version b (ChargeEnergyDemand most target) w = level-23 b _ w
 
-pub not-finite-only : (version : ℕ) (b : Battery) (call : Call) → stepOf version b call .refusal ≡ 23 → NotFiniteFound b call
-not-finite-only version b call h = why-23 b call (refused-why 23 (omega arith) version b call h)
+pub not-finite-only : (version : ℕ) (b : Battery) (call : Call) → stepOf version b call .refusal ≡ 23 → NotFiniteFound version b call
+not-finite-only version b call h = why-23 version b call (refused-why 23 (omega arith) version b call h)

@@ -110,9 +110,9 @@ closed-kept b =
     }
 
 module _ (b : Battery) (r : Zoned Stopped) (h : SameAbove (b .card .layers) (b .zones) (r .zones)) (n : 1 ≤ b .card .budget → r .part .substeps ≤ b .card .budget) where
-  pub charged-kept : Kept b true false (chargedAnswer b r)
+  pub charged-kept : (version : ℕ) → Kept b true false (chargedAnswer version b r)
   unfolding runAnswer chargedBattery
-  charged-kept =
+  charged-kept version =
       record {
         refusal = refl;
         mark = inl (refl, refl);

@@ -93,25 +93,25 @@ module _ (b : Battery) where
       (λ t h. absurd (checked-not-over b (plainAnswer Constants.zero b) (plain-answers Constants.zero b) h))
       (λ t h. demand-given b d t (d .feed) refl h)
 
-  electric-over : (power target : Float) → charge b (Electric power) target .refusal ≡ 22 → ⊥
+  electric-over : (version : ℕ) (power target : Float) → charge version b (Electric power) target .refusal ≡ 22 → ⊥
   unfolding charge chargeBattery chargeElectric electricEnded
-  electric-over power target h =
+  electric-over version power target h =
       let r = chargeBattery b (Electric power) target in
-      fault-not-over _ (run-over b (r .part .end) (chargedAnswer b r) (run-answers (r .part) (chargedBattery b r)) h)
+      fault-not-over _ (run-over b (r .part .end) (chargedAnswer version b r) (run-answers _ (r .part) (chargedBattery b r)) h)
 
-  hydronic-over : (w : Hydronic) → charge b (wetSource w) (w .target) .refusal ≡ 22 → HydronicUsed b w
+  hydronic-over : (version : ℕ) (w : Hydronic) → charge version b (wetSource w) (w .target) .refusal ≡ 22 → HydronicUsed b w
   unfolding charge chargeBattery wetSource chargeHydronic hydronicEnded
-  hydronic-over w h =
+  hydronic-over version w h =
       let r = chargeBattery b (wetSource w) (w .target) in
       let x = hydronicTask (b .card) (wetOf w) (w .target) in
-      let e = run-over b (r .part .end) (chargedAnswer b r) (run-answers (r .part) (chargedBattery b r)) h in
+      let e = run-over b (r .part .end) (chargedAnswer version b r) (run-answers _ (r .part) (chargedBattery b r)) h in
       record { over = rw zero-add at (hydronic-run-over x (saltAt (saltsOf (b .card))) (wholeSubsteps x) 0 (zoned (hydronicStart (b .card) (wetOf w)) (b .zones)) e) }
 
   loss-over : heatLoss b .refusal ≡ 22 → ⊥
   unfolding heatLoss batteryHeatLoss lossEnded
   loss-over h =
       let r = batteryHeatLoss b in
-      fault-not-over _ (run-over b (r .part .end) (cooledAnswer b r) (run-answers (r .part) (cooledBattery b r)) h)
+      fault-not-over _ (run-over b (r .part .end) (cooledAnswer b r) (run-answers _ (r .part) (cooledBattery b r)) h)
 
   level-over : (s : StateOfCharge) → readLevel b s .refusal ≡ 22 → ⊥
   unfolding readLevel
@@ -128,8 +128,8 @@ module _ (b : Battery) where
 pub over-budget-only : (version : ℕ) (b : Battery) (call : Call) → stepOf version b call .refusal ≡ 22 → BudgetUsed b call
 unfolding stepOf
 over-budget-only version b (DemandEnergy d) h = demand-over b d h
-over-budget-only version b (ChargeElectric power target) h = electric-over b power target h
-over-budget-only version b (ChargeHydronic w) h = hydronic-over b w h
+over-budget-only version b (ChargeElectric power target) h = electric-over b version power target h
+over-budget-only version b (ChargeHydronic w) h = hydronic-over b version w h
 over-budget-only version b HeatLoss h = loss-over b h
 over-budget-only version b CloseTimestep h =
     checked-not-over b (plainAnswer Constants.zero (closedBattery b)) (plain-answers Constants.zero (closedBattery b)) h

@@ -57,22 +57,22 @@ run-not-full : (end : End) (a : Answer) → RunWhy 25 end a → ⊥
 run-not-full end a (inl h) = end-not-full end h
 run-not-full end a (inr w) = let n = w .0 in omega arith
 
-demand-not-full : (b : Battery) (d : Demand) → Why 25 b (DemandEnergy d) → ⊥
-demand-not-full b d (inl w) = let n = w .0 in omega arith
-demand-not-full b d (inr w) = run-not-full _ _ (w .why)
+demand-not-full : (version : ℕ) (b : Battery) (d : Demand) → Why 25 version b (DemandEnergy d) → ⊥
+demand-not-full version b d (inl w) = let n = w .0 in omega arith
+demand-not-full version b d (inr w) = run-not-full _ _ (w .why)
 
 level-full : (b : Battery) (energy : Float → Float) → LevelWhy 25 b energy → AboveFull b
 level-full b energy (inl w) = above-full b (w .1)
 level-full b energy (inr w) = let n = w .0 in absurd (omega arith)
 
-why-full : (b : Battery) (call : Call) → Why 25 b call → OverFull b call
-why-full b (DemandEnergy d) w = demand-not-full b d w
-why-full b (ChargeElectric power target) w = run-not-full _ _ w
-why-full b (ChargeHydronic h) w = run-not-full _ _ w
-why-full b HeatLoss w = run-not-full _ _ w
-why-full b CloseTimestep w = let n = w .0 in omega arith
-why-full b ReadStateOfCharge w = level-full b _ w
-why-full b (ChargeEnergyDemand most target) w = level-full b _ w
+why-full : (version : ℕ) (b : Battery) (call : Call) → Why 25 version b call → OverFull b call
+why-full version b (DemandEnergy d) w = demand-not-full version b d w
+why-full version b (ChargeElectric power target) w = run-not-full _ _ w
+why-full version b (ChargeHydronic h) w = run-not-full _ _ w
+why-full version b HeatLoss w = run-not-full _ _ w
+why-full version b CloseTimestep w = let n = w .0 in omega arith
+why-full version b ReadStateOfCharge w = level-full b _ w
+why-full version b (ChargeEnergyDemand most target) w = level-full b _ w
 
 pub over-full-only : (version : ℕ) (b : Battery) (call : Call) → stepOf version b call .refusal ≡ 25 → OverFull b call
-over-full-only version b call h = why-full b call (refused-why 25 (omega arith) version b call h)
+over-full-only version b call h = why-full version b call (refused-why 25 (omega arith) version b call h)

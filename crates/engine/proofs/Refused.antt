@@ -45,17 +45,17 @@ pub record DemandWhy (n : ℕ) (b : Battery) (d : Demand) : Type 0 where
 abbrev pub LevelWhy : ℕ → Battery → (Float → Float) → Type 0
 LevelWhy n b energy = ((n ≡ 25) × (level b ≡ Above)) ⊎ ((n ≡ 23) × LevelNotFinite b energy)
 
-abbrev pub ChargeWhy : ℕ → Battery → Source → Float → Type 0
-ChargeWhy n b source target = RunWhy n (chargeBattery b source target .part .end) (chargedAnswer b (chargeBattery b source target))
+abbrev pub ChargeWhy : ℕ → ℕ → Battery → Source → Float → Type 0
+ChargeWhy n version b source target = RunWhy n (chargeBattery b source target .part .end) (chargedAnswer version b (chargeBattery b source target))
 
-abbrev pub Why : ℕ → Battery → Call → Type 0
-Why n b (DemandEnergy d) = ((n ≡ 23) × NoDemandNotFinite b d) ⊎ DemandWhy n b d
-Why n b (ChargeElectric power target) = ChargeWhy n b (Electric power) target
-Why n b (ChargeHydronic h) = ChargeWhy n b (wetSource h) (h .target)
-Why n b HeatLoss = RunWhy n (batteryHeatLoss b .part .end) (cooledAnswer b (batteryHeatLoss b))
-Why n b CloseTimestep = (n ≡ 23) × (answerFinite (plainAnswer zero (closedBattery b)) ≡ false)
-Why n b ReadStateOfCharge = LevelWhy n b (λ soc. soc)
-Why n b (ChargeEnergyDemand most target) = LevelWhy n b (λ soc. chargeEnergyDemand (b .card) most target soc .0)
+abbrev pub Why : ℕ → ℕ → Battery → Call → Type 0
+Why n version b (DemandEnergy d) = ((n ≡ 23) × NoDemandNotFinite b d) ⊎ DemandWhy n b d
+Why n version b (ChargeElectric power target) = ChargeWhy n version b (Electric power) target
+Why n version b (ChargeHydronic h) = ChargeWhy n version b (wetSource h) (h .target)
+Why n version b HeatLoss = RunWhy n (batteryHeatLoss b .part .end) (cooledAnswer b (batteryHeatLoss b))
+Why n version b CloseTimestep = (n ≡ 23) × (answerFinite (plainAnswer zero (closedBattery b)) ≡ false)
+Why n version b ReadStateOfCharge = LevelWhy n b (λ soc. soc)
+Why n version b (ChargeEnergyDemand most target) = LevelWhy n b (λ soc. chargeEnergyDemand (b .card) most target soc .0)
 
 module _ (n : ℕ) (l : 22 ≤ n) (b : Battery) where
   checked-why : (a : Answer) → a .refusal ≡ 0 → checked b a .refusal ≡ n → (n ≡ 23) × (answerFinite a ≡ false)
@@ -95,17 +95,17 @@ module _ (n : ℕ) (l : 22 ≤ n) (b : Battery) where
       (λ t h. let w = checked-why (plainAnswer zero b) (plain-answers zero b) h in inl (w .0, record { asked = is-true (le (d .required) tolerance) t; found = w .1 }))
       (λ t h. inr (demand-given d t (d .feed) refl h))
 
-  charge-why : (source : Source) (target : Float) → charge b source target .refusal ≡ n → ChargeWhy n b source target
+  charge-why : (version : ℕ) (source : Source) (target : Float) → charge version b source target .refusal ≡ n → ChargeWhy n version b source target
   unfolding charge
-  charge-why source target h =
+  charge-why version source target h =
       let r = chargeBattery b source target in
-      run-why (r .part .end) (chargedAnswer b r) (run-answers (r .part) (chargedBattery b r)) h
+      run-why (r .part .end) (chargedAnswer version b r) (run-answers _ (r .part) (chargedBattery b r)) h
 
-  loss-why : heatLoss b .refusal ≡ n → Why n b HeatLoss
+  loss-why : heatLoss b .refusal ≡ n → RunWhy n (batteryHeatLoss b .part .end) (cooledAnswer b (batteryHeatLoss b))
   unfolding heatLoss
   loss-why h =
       let r = batteryHeatLoss b in
-      run-why (r .part .end) (cooledAnswer b r) (run-answers (r .part) (cooledBattery b r)) h
+      run-why (r .part .end) (cooledAnswer b r) (run-answers _ (r .part) (cooledBattery b r)) h
 
   level-why : (s : StateOfCharge) → level b ≡ s → readLevel b s .refusal ≡ n → LevelWhy n b (λ soc. soc)
   unfolding readLevel
@@ -124,11 +124,11 @@ module _ (n : ℕ) (l : 22 ≤ n) (b : Battery) where
       let w = checked-why (plainAnswer g b) (plain-answers g b) h in
       inr (w .0, record { soc = soc; read = e; found = w .1 })
 
-pub refused-why : (n : ℕ) → 22 ≤ n → (version : ℕ) (b : Battery) (call : Call) → stepOf version b call .refusal ≡ n → Why n b call
+pub refused-why : (n : ℕ) → 22 ≤ n → (version : ℕ) (b : Battery) (call : Call) → stepOf version b call .refusal ≡ n → Why n version b call
 unfolding stepOf
 refused-why n l version b (DemandEnergy d) h = demand-why n l b d h
-refused-why n l version b (ChargeElectric power target) h = charge-why n l b (Electric power) target h
-refused-why n l version b (ChargeHydronic w) h = charge-why n l b (wetSource w) (w .target) h
+refused-why n l version b (ChargeElectric power target) h = charge-why n l b version (Electric power) target h
+refused-why n l version b (ChargeHydronic w) h = charge-why n l b version (wetSource w) (w .target) h
 refused-why n l version b HeatLoss h = loss-why n l b h
 refused-why n l version b CloseTimestep h = checked-why n l b (plainAnswer zero (closedBattery b)) (plain-answers zero (closedBattery b)) h
 refused-why n l version b ReadStateOfCharge h = level-why n l b (level b) refl h

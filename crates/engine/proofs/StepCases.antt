@@ -51,8 +51,8 @@ no-21 n l = (late-not n l .1, λ z. absurd z)
 pub step-20 : (version : ℕ) (b : Battery) (call : Call) → callInRange version (b .card) call ≡ true → (stepOf version b call .refusal ≡ 20) ↔ Case20 b call
 unfolding stepOf callInRange
 step-20 version b (DemandEnergy d) r = demand-is-20 b d r
-step-20 version b (ChargeElectric power target) r = no-20 _ (charge-late b (Electric power) target)
-step-20 version b (ChargeHydronic h) r = no-20 _ (charge-late b (wetSource h) (h .target))
+step-20 version b (ChargeElectric power target) r = no-20 _ (charge-late b version (Electric power) target)
+step-20 version b (ChargeHydronic h) r = no-20 _ (charge-late b version (wetSource h) (h .target))
 step-20 version b HeatLoss r = no-20 _ (loss-late b)
 step-20 version b CloseTimestep r = no-20 _ (plain-late b (closedBattery b) zero)
 step-20 version b ReadStateOfCharge r = no-20 _ (level-late b (level b))
@@ -61,8 +61,8 @@ step-20 version b (ChargeEnergyDemand most target) r = no-20 _ (to-level-late b 
 pub step-21 : (version : ℕ) (b : Battery) (call : Call) → callInRange version (b .card) call ≡ true → (stepOf version b call .refusal ≡ 21) ↔ Case21 b call
 unfolding stepOf callInRange
 step-21 version b (DemandEnergy d) r = demand-is-21 b d r
-step-21 version b (ChargeElectric power target) r = no-21 _ (charge-late b (Electric power) target)
-step-21 version b (ChargeHydronic h) r = no-21 _ (charge-late b (wetSource h) (h .target))
+step-21 version b (ChargeElectric power target) r = no-21 _ (charge-late b version (Electric power) target)
+step-21 version b (ChargeHydronic h) r = no-21 _ (charge-late b version (wetSource h) (h .target))
 step-21 version b HeatLoss r = no-21 _ (loss-late b)
 step-21 version b CloseTimestep r = no-21 _ (plain-late b (closedBattery b) zero)
 step-21 version b ReadStateOfCharge r = no-21 _ (level-late b (level b))
@@ -76,23 +76,23 @@ module _ (version : ℕ) (b : Battery) (call : Call) (r : callInRange version (b
   pub step-22 : (stepOf version b call .refusal ≡ 22) ↔ Case22 b call
   step-22 = (
     λ h. (ran 22 (λ z. omega arith) (λ z. omega arith) h, over-budget-only version b call h),
-    λ w. why-refuses 22 (omega arith) version b call r (w .0) (budget-why b call (w .1)),
+    λ w. why-refuses 22 (omega arith) version b call r (w .0) (budget-why version b call (w .1)),
   )
 
-  pub step-23 : (stepOf version b call .refusal ≡ 23) ↔ Case23 b call
+  pub step-23 : (stepOf version b call .refusal ≡ 23) ↔ Case23 version b call
   step-23 = (
     λ h. (ran 23 (λ z. omega arith) (λ z. omega arith) h, not-finite-only version b call h),
-    λ w. why-refuses 23 (omega arith) version b call r (w .0) (not-finite-why b call (w .1)),
+    λ w. why-refuses 23 (omega arith) version b call r (w .0) (not-finite-why version b call (w .1)),
   )
 
   pub step-24 : (stepOf version b call .refusal ≡ 24) ↔ Case24 b call
   step-24 = (
     λ h. (ran 24 (λ z. omega arith) (λ z. omega arith) h, no-logarithm-only version b call h),
-    λ w. why-refuses 24 (omega arith) version b call r (w .0) (logarithm-why b call (w .1)),
+    λ w. why-refuses 24 (omega arith) version b call r (w .0) (logarithm-why version b call (w .1)),
   )
 
   pub step-25 : (stepOf version b call .refusal ≡ 25) ↔ Case25 b call
   step-25 = (
     λ h. (ran 25 (λ z. omega arith) (λ z. omega arith) h, over-full-only version b call h),
-    λ w. why-refuses 25 (omega arith) version b call r (w .0) (full-why b call (w .1)),
+    λ w. why-refuses 25 (omega arith) version b call r (w .0) (full-why version b call (w .1)),
   )

@@ -110,12 +110,12 @@ module _ (b : Battery) (d : Demand) where
       (λ h. demand-given (d .feed))
 
 module _ (b : Battery) where
-  charge-outcome : (source : Source) (target : Float) → Outcome b true false (charge b source target)
+  charge-outcome : (version : ℕ) (source : Source) (target : Float) → Outcome b true false (charge version b source target)
   unfolding charge
-  charge-outcome source target =
+  charge-outcome version source target =
       let r = chargeBattery b source target in
       let k = charge-ended b source target in
-      run-outcome b true false (chargedAnswer b r) (charged-kept b r (k .above) (k .substeps)) (r .part .end)
+      run-outcome b true false (chargedAnswer version b r) (charged-kept b r (k .above) (k .substeps) version) (r .part .end)
 
   loss-outcome : Outcome b false false (heatLoss b)
   unfolding heatLoss
@@ -139,8 +139,8 @@ module _ (b : Battery) where
 pub step-outcome : (version : ℕ) (b : Battery) (call : Call) → Outcome b (isCharge call) (onlyAsks call) (stepOf version b call)
 unfolding stepOf isCharge onlyAsks
 step-outcome version b (DemandEnergy d) = demand-outcome b d
-step-outcome version b (ChargeElectric power target) = charge-outcome b (Electric power) target
-step-outcome version b (ChargeHydronic h) = charge-outcome b (wetSource h) (h .target)
+step-outcome version b (ChargeElectric power target) = charge-outcome b version (Electric power) target
+step-outcome version b (ChargeHydronic h) = charge-outcome b version (wetSource h) (h .target)
 step-outcome version b HeatLoss = loss-outcome b
 step-outcome version b CloseTimestep = checked-outcome b false false (plainAnswer zero (closedBattery b)) (closed-kept b)
 step-outcome version b ReadStateOfCharge = level-outcome b (level b)

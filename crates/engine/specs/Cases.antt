@@ -1,5 +1,6 @@
 -- Document 01, 'Who can cause a refusal': the case of each of 20 to 25, by the battery and the call. A case says what its number's sentence says, and that
 -- what comes before it doesn't apply.
+use Prim.Native.Nat.{ℕ}
 use mathlib.Core.Path.{_≡_}
 use mathlib.Core.Bool.{true}
 use lib.Ieee.{Float, lt}
@@ -51,8 +52,8 @@ Runs battery call = (Case20 battery call → ⊥) × (Case21 battery call → �
 abbrev pub Case22 : Battery → Call → Type 0
 Case22 battery call = Runs battery call × BudgetUsed battery call
 
-abbrev pub Case23 : Battery → Call → Type 0
-Case23 battery call = Runs battery call × NotFiniteFound battery call
+abbrev pub Case23 : ℕ → Battery → Call → Type 0
+Case23 version battery call = Runs battery call × NotFiniteFound version battery call
 
 abbrev pub Case24 : Battery → Call → Type 0
 Case24 battery call = Runs battery call × NoLogarithmTaken battery call

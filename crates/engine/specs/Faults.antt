@@ -150,17 +150,17 @@ pub record LevelNotFinite (battery : Battery) (energy : Float → Float) : Type 
   pub read : level battery ≡ Level soc
   pub found : answerFinite (plainAnswer (energy soc) battery) ≡ false
 
-abbrev pub NotFiniteFound : Battery → Call → Type 0
-NotFiniteFound battery (DemandEnergy d) = DemandFaulted NotFinite battery d ⊎ (DemandNotFinite battery d ⊎ NoDemandNotFinite battery d)
-NotFiniteFound battery (ChargeElectric power target) =
+abbrev pub NotFiniteFound : ℕ → Battery → Call → Type 0
+NotFiniteFound version battery (DemandEnergy d) = DemandFaulted NotFinite battery d ⊎ (DemandNotFinite battery d ⊎ NoDemandNotFinite battery d)
+NotFiniteFound version battery (ChargeElectric power target) =
     SubstepFault NotFinite (battery .card) (derived (battery .card)) (saltAt (saltsOf (battery .card))) (electricInput (ledgerOf battery) power target) (battery .zones)
-    ⊎ AnswerNotFinite (chargeBattery battery (Electric power) target .part .end) (chargedAnswer battery (chargeBattery battery (Electric power) target))
-NotFiniteFound battery (ChargeHydronic h) =
+    ⊎ AnswerNotFinite (chargeBattery battery (Electric power) target .part .end) (chargedAnswer version battery (chargeBattery battery (Electric power) target))
+NotFiniteFound version battery (ChargeHydronic h) =
     HydronicFaulted NotFinite battery h
-    ⊎ AnswerNotFinite (chargeBattery battery (wetSource h) (h .target) .part .end) (chargedAnswer battery (chargeBattery battery (wetSource h) (h .target)))
-NotFiniteFound battery HeatLoss =
+    ⊎ AnswerNotFinite (chargeBattery battery (wetSource h) (h .target) .part .end) (chargedAnswer version battery (chargeBattery battery (wetSource h) (h .target)))
+NotFiniteFound version battery HeatLoss =
     SubstepFault NotFinite (battery .card) (derived (battery .card)) (saltAt (saltsOf (battery .card))) (lossInput (battery .card)) (battery .zones)
     ⊎ AnswerNotFinite (batteryHeatLoss battery .part .end) (cooledAnswer battery (batteryHeatLoss battery))
-NotFiniteFound battery CloseTimestep = answerFinite (plainAnswer zero (closedBattery battery)) ≡ false
-NotFiniteFound battery ReadStateOfCharge = LevelNotFinite battery (λ soc. soc)
-NotFiniteFound battery (ChargeEnergyDemand most target) = LevelNotFinite battery (λ soc. chargeEnergyDemand (battery .card) most target soc .0)
+NotFiniteFound version battery CloseTimestep = answerFinite (plainAnswer zero (closedBattery battery)) ≡ false
+NotFiniteFound version battery ReadStateOfCharge = LevelNotFinite battery (λ soc. soc)
+NotFiniteFound version battery (ChargeEnergyDemand most target) = LevelNotFinite battery (λ soc. chargeEnergyDemand (battery .card) most target soc .0)

@@ -3,3 +3,4 @@ pub mod Operations
 pub mod Budget
 pub mod Faults
 pub mod Cases
+pub mod Times

@@ -1,4 +1,5 @@
 -- What a call asks, the charges by their source: 'A charging source is electric with its rated power, or wet'.
+use Prim.Native.Nat.{ℕ}
 use Rattle.battery.specs.declared.Battery.{Battery}
 use Rattle.battery.specs.declared.Answer.{Answer}
 use Rattle.battery.specs.declared.Call.{Call}
@@ -19,10 +20,10 @@ operationOf Call.ReadStateOfCharge = ReadStateOfCharge
 operationOf (Call.ChargeEnergyDemand most target) = ChargeEnergyDemand most target
 
 -- the steps by what is asked: `stepOf`, by crates/engine/proofs/ByKind.antt
-unfoldable pub operationStep : Battery → Operation → Answer
-operationStep battery (DemandEnergy d) = demandEnergy battery d
-operationStep battery (Charge source target) = charge battery source target
-operationStep battery HeatLoss = heatLoss battery
-operationStep battery CloseTimestep = closed battery
-operationStep battery ReadStateOfCharge = readLevel battery (level battery)
-operationStep battery (ChargeEnergyDemand most target) = demandToLevel battery most target (level battery)
+unfoldable pub operationStep : ℕ → Battery → Operation → Answer
+operationStep version battery (DemandEnergy d) = demandEnergy battery d
+operationStep version battery (Charge source target) = charge version battery source target
+operationStep version battery HeatLoss = heatLoss battery
+operationStep version battery CloseTimestep = closed battery
+operationStep version battery ReadStateOfCharge = readLevel battery (level battery)
+operationStep version battery (ChargeEnergyDemand most target) = demandToLevel battery most target (level battery)

@@ -76,10 +76,10 @@ demandGiven battery demand (Value feed) = demandFrom battery demand feed
 unfoldable pub demandEnergy : Battery → Demand → Answer
 demandEnergy battery demand = cond (le (demand .required) tolerance) (checked battery (plainAnswer zero battery)) (demandGiven battery demand (demand .feed))
 
-unfoldable pub charge : Battery → Source → Float → Answer
-charge battery source target =
+unfoldable pub charge : ℕ → Battery → Source → Float → Answer
+charge version battery source target =
     let r = chargeBattery battery source target in
-    unlessRefused battery (r .part .end) (chargedAnswer battery r)
+    unlessRefused battery (r .part .end) (chargedAnswer version battery r)
 
 unfoldable pub heatLoss : Battery → Answer
 heatLoss battery =
@@ -114,8 +114,8 @@ wetSource call = Wet (wetOf call)
 -- 7 `calculate_charge_energy_demand` ..; 5 sets the running times to 0'
 unfoldable pub stepOf : ℕ → Battery → Call → Answer
 stepOf version battery (DemandEnergy d) = demandEnergy battery d
-stepOf version battery (ChargeElectric power target) = charge battery (Electric power) target
-stepOf version battery (ChargeHydronic h) = charge battery (wetSource h) (h .target)
+stepOf version battery (ChargeElectric power target) = charge version battery (Electric power) target
+stepOf version battery (ChargeHydronic h) = charge version battery (wetSource h) (h .target)
 stepOf version battery HeatLoss = heatLoss battery
 stepOf version battery CloseTimestep = closed battery
 stepOf version battery ReadStateOfCharge = readLevel battery (level battery)

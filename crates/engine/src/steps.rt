@@ -27,6 +27,7 @@ ghost use Rattle.engine.specs.Operations.{operationOf, operationStep};
 ghost use Rattle.engine.specs.Steps.{charge as chargeOf, heatLoss, closed, level as levelOf, readLevel, demandToLevel, wetSource, advanceOf};
 
 fn charge(
+    version: u8,
     ledger: Ledger,
     salts: &[f64],
     step: usize,
@@ -35,11 +36,12 @@ fn charge(
     zones: &mut [f64; 64],
 ) -> Reply
     requires { ⌜ (ledger .card .layers ≤ 64) × SaltsLent (ledger .card) (now salts) step × (zonesFinite (now zones) (ledger .card .layers) ≡ true) ⌝ }
-    ensures { λ r. ⌜ settled ledger (now (zones .entry)) r (now (zones .exit)) ≡ chargeOf (whole ledger (now (zones .entry))) source target ⌝ }
+    ensures { λ r. ⌜ settled ledger (now (zones .entry)) r (now (zones .exit)) ≡ chargeOf version (whole ledger (now (zones .entry))) source target ⌝ }
 {
     let s = run_charges::charge_battery(ledger, salts, step, source, target, zones);
+    let time = engine_replies::charged_time(version, s);
     let totals = engine_replies::totals::charged_totals(ledger, s);
-    let a = engine_replies::run_reply(s, totals);
+    let a = engine_replies::run_reply(time, s, totals);
     let end = s.end;
     engine_replies::unless_refused(end, a)
 }
@@ -50,7 +52,7 @@ fn heat_loss(ledger: Ledger, salts: &[f64], step: usize, zones: &mut [f64; 64]) 
 {
     let s = run_charges::battery_heat_loss(ledger, salts, step, zones);
     let totals = ledger.totals;
-    let a = engine_replies::run_reply(s, totals);
+    let a = engine_replies::run_reply(0.0, s, totals);
     let end = s.end;
     engine_replies::unless_refused(end, a)
 }
@@ -178,6 +180,7 @@ fn charge_energy_demand(
 
 // The electric and the wet charge are one call of `charge`, so that one copy of it is compiled, in place.
 fn operation_step(
+    version: u8,
     ledger: Ledger,
     salts: &[f64],
     step: usize,
@@ -185,11 +188,13 @@ fn operation_step(
     zones: &mut [f64; 64],
 ) -> Reply
     requires { ⌜ (ledger .card .layers ≤ 64) × SaltsLent (ledger .card) (now salts) step × (zonesFinite (now zones) (ledger .card .layers) ≡ true) × (lt (chargerHeat (lossInput (ledger .card)) .0) zero ≡ false) ⌝ }
-    ensures { λ r. ⌜ settled ledger (now (zones .entry)) r (now (zones .exit)) ≡ operationStep (whole ledger (now (zones .entry))) what ⌝ }
+    ensures { λ r. ⌜ settled ledger (now (zones .entry)) r (now (zones .exit)) ≡ operationStep version (whole ledger (now (zones .entry))) what ⌝ }
 {
     match what {
         Operation::DemandEnergy(d) => demand::demand_energy(ledger, salts, step, d, zones),
-        Operation::Charge(source, target) => charge(ledger, salts, step, source, target, zones),
+        Operation::Charge(source, target) => {
+            charge(version, ledger, salts, step, source, target, zones)
+        }
         Operation::HeatLoss => heat_loss(ledger, salts, step, zones),
         Operation::CloseTimestep => close_timestep(ledger, zones),
         Operation::ReadStateOfCharge => state_of_charge(ledger, salts, step, zones),
@@ -214,7 +219,7 @@ pub fn advance_accepted(
     let card = ledger.card;
     if battery::call_ranges::call_in_range(version, card, call) {
         let what = operation(call);
-        return operation_step(ledger, salts, step, what, zones);
+        return operation_step(version, ledger, salts, step, what, zones);
     }
     battery::answers::refused_reply(refusals::BAD_CALL)
 }

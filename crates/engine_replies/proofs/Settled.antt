@@ -6,6 +6,7 @@ use Prim.Native.Nat.{ℕ}
 use borrow.Author.Tests.{ne-eqb, eqb-true}
 use lib.Dec.{eqb}
 use lib.Ieee.{Float}
+use Rattle.floats.specs.Constants.{zero}
 use Rattle.logic.proofs.Branch.{via-false}
 use Rattle.battery.specs.declared.Battery.{Battery}
 use Rattle.battery.specs.declared.Demand.{Demand}
@@ -22,7 +23,7 @@ use Rattle.runs.specs.Zoned.{Zoned, AsDefined}
 use Rattle.engine_replies.specs.declared.totals.ServiceClass.{ServiceClass}
 use Rattle.engine_replies.specs.Totals.{servedTotals, chargedTotals, closedTotals}
 use Rattle.engine_replies.specs.Classes.{serviceClass}
-use Rattle.engine_replies.specs.Replies.{checked, unlessRefused, served, demandKept, demandReply, demandAnswer, chargedBattery, cooledBattery, runReply, runAnswer, chargedAnswer, cooledAnswer, closedBattery}
+use Rattle.engine_replies.specs.Replies.{checked, unlessRefused, served, demandKept, demandReply, demandAnswer, chargedBattery, cooledBattery, chargedTime, runReply, runAnswer, chargedAnswer, cooledAnswer, closedBattery}
 
 module _ (l : Ledger) (before zones : List Float) (r : Reply) where
   pub settled-answer : r .refusal ≡ 0 → settled l before r zones ≡ answerWith l r zones
@@ -54,9 +55,9 @@ module _ (l : Ledger) (before zones : List Float) (r : Reply) where
   closed-with energy totals t e = rw (e, t)
 
 -- an answer to a run is no refusal
-pub run-answers : (s : Stopped) (b : Battery) → runAnswer s b .refusal ≡ 0
+pub run-answers : (time : Float) (s : Stopped) (b : Battery) → runAnswer time s b .refusal ≡ 0
 unfolding runAnswer
-run-answers s b = refl
+run-answers time s b = refl
 
 pub demand-answers : (b : Battery) (d : Demand) (r : Zoned Stopped) → demandAnswer b d r .refusal ≡ 0
 unfolding demandAnswer
@@ -82,13 +83,13 @@ module _ (l : Ledger) (before zones : List Float) (s : Stopped) (e : Zoned Stopp
 
   module _ (r : Reply) where
     pub charged-with :
-        (totals : Totals) → totals ≡ chargedTotals l s → r ≡ runReply s totals →
-        unlessRefused (whole l before) (s .end) (answerWith l r zones) ≡ unlessRefused (whole l before) (e .part .end) (chargedAnswer (whole l before) e)
+        (version : ℕ) (time : Float) (totals : Totals) → time ≡ chargedTime version s → totals ≡ chargedTotals l s → r ≡ runReply time s totals →
+        unlessRefused (whole l before) (s .end) (answerWith l r zones) ≡ unlessRefused (whole l before) (e .part .end) (chargedAnswer version (whole l before) e)
     unfolding runAnswer chargedBattery
-    charged-with totals t g = answered _ _ (λ z. rw (g, t, z, same .0))
+    charged-with version time totals shown t g = answered _ _ (λ z. rw (g, shown, t, z, same .0))
 
     pub cooled-with :
-        r ≡ runReply s (l .totals) →
+        r ≡ runReply zero s (l .totals) →
         unlessRefused (whole l before) (s .end) (answerWith l r zones) ≡ unlessRefused (whole l before) (e .part .end) (cooledAnswer (whole l before) e)
     unfolding runAnswer cooledBattery
     cooled-with g = answered _ _ (λ z. rw (g, z, same .0))

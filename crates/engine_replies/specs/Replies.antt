@@ -1,4 +1,5 @@
 -- Document 01: what the steps answer after a run, and the battery that it leaves.
+use Prim.Native.Nat.{ℕ}
 use mathlib.Core.Bool.{cond}
 use lib.Dec.{eqb}
 use lib.IntN.{pos}
@@ -8,6 +9,7 @@ use Rattle.floats.specs.F64.{_⊗_}
 use Rattle.floats.specs.Constants.{zero, one}
 use Rattle.zone.specs.Heat.{kwh}
 use Rattle.card.specs.Derived.{derived}
+use Rattle.card.specs.Version.{showsHydronicTime}
 use Rattle.card.specs.declared.Card.{Card}
 use Rattle.battery.specs.Answer.{answerOf, refusedWith, answerFinite}
 use Rattle.battery.specs.Ledger.{totalsOf, ledgerOf, renewedBattery}
@@ -71,19 +73,23 @@ chargedBattery battery ended = renewedBattery (ledgerOf battery) (chargedTotals 
 unfoldable pub cooledBattery : Battery → Zoned Stopped → Battery
 cooledBattery battery ended = renewedBattery (ledgerOf battery) (totalsOf battery) (ended .zones)
 
--- a line of kinds 2 to 4: no outlet, no time
-abbrev pub runReply : Stopped → Totals → Reply
-runReply ended totals =
-    record { refusal = 0; energy = ended .energy .0; mark = 0; outlet = zero; time = zero; substeps = ended .substeps; totals = totals }
+-- a charge's time: 'Version 1 sheets are audited with 0 there'; an electric charge has none in any version
+unfoldable pub chargedTime : ℕ → Stopped → Float
+chargedTime version ended = cond (showsHydronicTime version) (ended .time) zero
 
-unfoldable pub runAnswer : Stopped → Battery → Answer
-runAnswer ended battery = answerOf (runReply ended (totalsOf battery)) battery
+-- a line of kinds 2 to 4, with its time: no outlet
+abbrev pub runReply : Float → Stopped → Totals → Reply
+runReply time ended totals =
+    record { refusal = 0; energy = ended .energy .0; mark = 0; outlet = zero; time = time; substeps = ended .substeps; totals = totals }
 
-abbrev pub chargedAnswer : Battery → Zoned Stopped → Answer
-chargedAnswer battery ended = runAnswer (ended .part) (chargedBattery battery ended)
+unfoldable pub runAnswer : Float → Stopped → Battery → Answer
+runAnswer time ended battery = answerOf (runReply time ended (totalsOf battery)) battery
+
+abbrev pub chargedAnswer : ℕ → Battery → Zoned Stopped → Answer
+chargedAnswer version battery ended = runAnswer (chargedTime version (ended .part)) (ended .part) (chargedBattery battery ended)
 
 abbrev pub cooledAnswer : Battery → Zoned Stopped → Answer
-cooledAnswer battery ended = runAnswer (ended .part) (cooledBattery battery ended)
+cooledAnswer battery ended = runAnswer zero (ended .part) (cooledBattery battery ended)
 
 -- kind 5: 'the three running times become 0'
 unfoldable pub closedBattery : Battery → Battery

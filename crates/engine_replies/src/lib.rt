@@ -18,7 +18,7 @@ ghost use Rattle.battery.specs.Battery.{zonesFinite};
 ghost use Rattle.battery.specs.Answer.{answerWith, settled};
 ghost use Rattle.battery.specs.Ledger.{whole};
 ghost use Rattle.runs.specs.Runs.{endRefusal};
-ghost use Rattle.engine_replies.specs.Replies.{checked as checkedOf, unlessRefused, demandStart, demandReply, runReply};
+ghost use Rattle.engine_replies.specs.Replies.{checked as checkedOf, unlessRefused, demandStart, demandReply, chargedTime, runReply};
 
 // 23 where a reported number or total is not finite.
 pub fn checked(ledger: Ledger, reply: Reply, zones: &[f64; 64]) -> Reply
@@ -79,16 +79,26 @@ pub fn demand_reply(ledger: Ledger, stopped: Stopped, totals: Totals) -> Reply
     }
 }
 
-// A line of kinds 2 to 4: no outlet, no time.
-pub fn run_reply(stopped: Stopped, totals: Totals) -> Reply
-    ensures { λ r. ⌜ r ≡ runReply stopped totals ⌝ }
+// The seconds that a charge's line shows: those of a hydronic run from version 2 on, else 0.
+pub fn charged_time(version: u8, stopped: Stopped) -> f64
+    ensures { λ r. ⌜ r ≡ chargedTime version stopped ⌝ }
+{
+    if card::version::shows_hydronic_time(version) {
+        return stopped.time;
+    }
+    0.0
+}
+
+// A line of kinds 2 to 4, with its time: no outlet.
+pub fn run_reply(time: f64, stopped: Stopped, totals: Totals) -> Reply
+    ensures { λ r. ⌜ r ≡ runReply time stopped totals ⌝ }
 {
     Reply {
         refusal: 0,
         energy: stopped.energy.0,
         mark: 0,
         outlet: 0.0,
-        time: 0.0,
+        time,
         substeps: stopped.substeps,
         totals,
     }

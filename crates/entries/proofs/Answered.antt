@@ -5,6 +5,8 @@ use mathlib.Core.Path.{_≡_, refl, sym, _∙_, ap}
 use mathlib.Core.List.{List}
 use native.Mathlib.Omega.{arith}
 use lib.Ieee.{Float}
+use Rattle.logic.proofs.Branch.{by-test}
+use Rattle.card.specs.Version.{knownVersion}
 use Rattle.card.proofs.Accepted.{accepted-layers}
 use Rattle.battery.specs.Answer.{refusedWith, answerWith, settled}
 use Rattle.battery.specs.Ledger.{whole}
@@ -17,10 +19,12 @@ use Rattle.battery.specs.Places.{SameAbove}
 use Rattle.battery.proofs.Accepted.{AcceptedBattery, accepted-battery}
 use Rattle.battery.proofs.Zones.{same-above}
 use Rattle.engine_replies.proofs.Settled.{settled-answer}
+use Rattle.engine.proofs.Promises.{refused-number}
 use Rattle.engine.proofs.AdvanceKeeps.{not-accepted-ten, advance-keeps-above, advance-answered-accepted}
+use Rattle.sheet_calls.specs.Calls.{callOf}
 use Rattle.sheet_calls.specs.declared.ReadCall.{ReadCall}
 use Rattle.sheet_calls.specs.declared.ReadCall.the-variants.{Good, Bad}
-use Rattle.entries.specs.Record.{renewedZones, advanceRead}
+use Rattle.entries.specs.Record.{renewedZones, advanceRead, answerOwn}
 use Rattle.entries.proofs.Zones.{renewed-whole}
 
 -- a call that is answered has been read, and its battery accepted
@@ -35,21 +39,36 @@ unfolding advanceRead
 not-accepted-read version b Bad h = refl
 not-accepted-read version b (Good call) h = not-accepted-ten version b call h
 
--- any call leaves what lies above the zones
-pub read-leaves-above : (version : ℕ) (b : Battery) (read : ReadCall) → SameAbove (b .card .layers) (b .zones) (advanceRead version b read .battery .zones)
+read-leaves-above : (version : ℕ) (b : Battery) (read : ReadCall) → SameAbove (b .card .layers) (b .zones) (advanceRead version b read .battery .zones)
 unfolding advanceRead refusedWith
 read-leaves-above version b Bad = same-above (b .card .layers) (b .zones)
 read-leaves-above version b (Good call) = advance-keeps-above version b call
 
-module _ (version : ℕ) (l : Ledger) (read : ReadCall) (before own : List Float) (r : Reply) (answered : r .refusal ≡ 0)
-    (said : settled l before r own ≡ advanceRead version (whole l before) read) where
-  pub answer-is : answerWith l r own ≡ advanceRead version (whole l before) read
+-- the same in any version
+own-accepted : (version : ℕ) (b : Battery) (call : List ℕ) → answerOwn version b call .refusal ≡ 0 → batteryAccepted version b ≡ true
+unfolding answerOwn
+own-accepted version b call =
+    by-test (λ (a : Answer). a .refusal ≡ 0 → batteryAccepted version b ≡ true) (knownVersion version) _ _
+    (λ t h. answered-accepted version b (callOf version call) h)
+    (λ t h. let n = refused-number 40 b in absurd (omega arith))
+
+-- any call leaves what lies above the zones
+pub own-leaves-above : (version : ℕ) (b : Battery) (call : List ℕ) → SameAbove (b .card .layers) (b .zones) (answerOwn version b call .battery .zones)
+unfolding answerOwn
+own-leaves-above version b call =
+    by-test (λ (a : Answer). SameAbove (b .card .layers) (b .zones) (a .battery .zones)) (knownVersion version) _ _
+    (λ t. read-leaves-above version b (callOf version call))
+    (λ t. unfold refusedWith in same-above (b .card .layers) (b .zones))
+
+module _ (version : ℕ) (l : Ledger) (call : List ℕ) (before own : List Float) (r : Reply) (answered : r .refusal ≡ 0)
+    (said : settled l before r own ≡ answerOwn version (whole l before) call) where
+  pub answer-is : answerWith l r own ≡ answerOwn version (whole l before) call
   answer-is = sym (settled-answer l before own r answered) ∙ said
 
   accepted : AcceptedBattery version (whole l before)
   accepted =
       accepted-battery version (whole l before)
-      (answered-accepted version (whole l before) read (sym (ap (λ (a : Answer). a .refusal) answer-is) ∙ answered))
+      (own-accepted version (whole l before) call (sym (ap (λ (a : Answer). a .refusal) answer-is) ∙ answered))
 
   pub answered-few : l .count ≤ 64
   answered-few =
@@ -61,4 +80,4 @@ module _ (version : ℕ) (l : Ledger) (read : ReadCall) (before own : List Float
   pub answered-zones : renewedZones before own (l .count) ≡ own
   answered-zones =
       renewed-whole before own (l .count)
-      (rw (accepted .count, ap (λ (a : Answer). a .battery .zones) answer-is) (read-leaves-above version (whole l before) read))
+      (rw (accepted .count, ap (λ (a : Answer). a .battery .zones) answer-is) (own-leaves-above version (whole l before) call))

@@ -5,9 +5,10 @@ use mathlib.Core.Bool.{Bool, false, cond}
 use mathlib.Core.List.{List}
 use lib.Dec.{leb, eqb}
 use lib.ListN.{length, take}
-use Rattle.refusals.specs.Refusals.{cardOutOfRange, badCall, noRoom}
+use Rattle.refusals.specs.Refusals.{cardOutOfRange, badCall, noRoom, noVersion}
 use Rattle.codec.specs.Bytes.{over}
 use Rattle.card.specs.Card.{cardRefusal}
+use Rattle.card.specs.Version.{knownVersion}
 use Rattle.battery.specs.Battery.{fresh}
 use Rattle.battery.specs.declared.Answer.{Answer}
 use Rattle.sheet_records.specs.Cards.{cardLength, cardAt}
@@ -37,10 +38,10 @@ abbrev pub openedWith : ℕ → List ℕ → List ℕ → After
 openedWith version card free =
     record { code = 0; record' = recordBytes version card (fresh (cardAt version card)); sheet = over (openingBytes version card) free }
 
--- opening: 'There a card is its bytes as in line 0 (another length is 1)', 1 to 4, then 10 for another length of the record,
+-- opening a sheet of a known version: 'There a card is its bytes as in line 0 (another length is 1)', 1 to 4, then 10 for another length of the record,
 -- then 11: 'fewer free sheet bytes than the line needs (for line 0 the version byte too, after 1 to 4)'
-unfoldable pub openOf : ℕ → List ℕ → List ℕ → List ℕ → After
-openOf version card rec free =
+unfoldable pub openKnown : ℕ → List ℕ → List ℕ → List ℕ → After
+openKnown version card rec free =
     let c = cardAt version card in
     cond (eqb (length card) (cardLength version card))
     (cond (eqb (cardRefusal version c) 0)
@@ -51,6 +52,13 @@ openOf version card rec free =
     (unchanged badCall rec free))
     (unchanged (cardRefusal version c) rec free))
     (unchanged cardOutOfRange rec free)
+
+-- document 02, Three: 'All entries for cards and calls take the version as one more number; an unknown one is 40 there, before all'
+unfoldable pub ofVersion : ℕ → List ℕ → List ℕ → After → After
+ofVersion version rec free after = cond (knownVersion version) after (unchanged noVersion rec free)
+
+unfoldable pub openOf : ℕ → List ℕ → List ℕ → List ℕ → After
+openOf version card rec free = ofVersion version rec free (openKnown version card rec free)
 
 -- the record renewed; a refused call leaves zones and totals as they are
 unfoldable pub renewed : ℕ → List ℕ → Answer → List ℕ

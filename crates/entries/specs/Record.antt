@@ -1,9 +1,11 @@
 -- Document 01, module 9: 'One more entry takes the caller's own battery record and advances it by a call.' There is no sheet, so no 11.
 use Prim.Native.Nat.{ℕ, zero, suc}
+use mathlib.Core.Bool.{cond}
 use mathlib.Core.List.{List}
 use lib.ListN.{getD, set}
 use lib.Ieee.{Float, nan}
-use Rattle.refusals.specs.Refusals.{badCall}
+use Rattle.refusals.specs.Refusals.{badCall, noVersion}
+use Rattle.card.specs.Version.{knownVersion}
 use Rattle.battery.specs.Answer.{replyOf, refusedReply, refusedWith}
 use Rattle.battery.specs.Ledger.{renewedBattery}
 use Rattle.battery.specs.declared.Battery.{Battery}
@@ -52,5 +54,9 @@ unfoldable pub advanceRead : ℕ → Battery → ReadCall → Answer
 advanceRead version battery Bad = refusedWith badCall battery
 advanceRead version battery (Good call) = advanceOf version battery call
 
+-- document 02, Three: 'an unknown one is 40 there, before all'
+unfoldable pub answerOwn : ℕ → Battery → List ℕ → Answer
+answerOwn version battery call = cond (knownVersion version) (advanceRead version battery (callOf version call)) (refusedWith noVersion battery)
+
 unfoldable pub advancedOf : ℕ → Battery → List ℕ → Advanced
-advancedOf version battery call = advancedBy (advanceRead version battery (callOf version call))
+advancedOf version battery call = advancedBy (answerOwn version battery call)

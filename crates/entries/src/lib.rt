@@ -12,7 +12,7 @@ ghost use Rattle.sheet_records.specs.Cards.{cardLength};
 ghost use Rattle.sheet_records.specs.Records.{stateLength};
 ghost use Rattle.card.specs.Card.{cardRefusal};
 ghost use Rattle.battery.specs.Battery.{batteryAccepted};
-ghost use Rattle.entries.specs.Entry.{WasAfter, openOf, lineAfter, recordCard};
+ghost use Rattle.entries.specs.Entry.{WasAfter, openKnown, lineAfter, recordCard};
 
 // What the card of a record is: bad ones are refused with 10.
 pub enum RecordCard {
@@ -20,9 +20,9 @@ pub enum RecordCard {
     Bad,
 }
 
-// Opens a sheet: its version and card line, and a fresh battery.
+// Opens a sheet of a known version: its version and card line, and a fresh battery.
 pub fn open(version: u8, card: &[u8], record: &mut [u8], sheet: &mut [u8]) -> u8
-    ensures { λ r. ⌜ WasAfter (openOf version (now (card .entry)) (now («record» .entry)) (now (sheet .entry))) r (now («record» .exit)) (now (sheet .exit)) ⌝ }
+    ensures { λ r. ⌜ WasAfter (openKnown version (now (card .entry)) (now («record» .entry)) (now (sheet .entry))) r (now («record» .exit)) (now (sheet .exit)) ⌝ }
 {
     if card.len() != sheet_records::cards::card_length(version, card) {
         return refusals::CARD_OUT_OF_RANGE;

@@ -9,7 +9,7 @@ ghost use Rattle.card.specs.Lent.{SaltsLent};
 ghost use Rattle.battery.specs.Answer.{settled};
 ghost use Rattle.battery.specs.Ledger.{whole};
 ghost use Rattle.sheet_calls.specs.Calls.{callOf};
-ghost use Rattle.entries.specs.Record.{replyShown, refusedShown, renewedWith, renewedZones, advanceRead, advancedOf};
+ghost use Rattle.entries.specs.Record.{replyShown, refusedShown, renewedWith, renewedZones, advanceRead, answerOwn, advancedOf};
 
 // What a call answers, without the battery.
 #[repr(C)]
@@ -97,13 +97,31 @@ fn advance_read(
     }
 }
 
+// The same in any version: 40 where it isn't known.
+fn advance_version(
+    version: u8,
+    ledger: Ledger,
+    salts: &[f64],
+    step: usize,
+    call: &[u8],
+    zones: &mut [f64; 64],
+) -> Reply
+    requires { ⌜ SaltsLent (ledger .card) (now salts) step ⌝ }
+    ensures { λ r. ⌜ settled ledger (now (zones .entry)) r (now (zones .exit)) ≡ answerOwn version (whole ledger (now (zones .entry))) (now (call .entry)) ⌝ }
+{
+    if card::version::known_version(version) {
+        return advance_read(version, ledger, salts, step, call, zones);
+    }
+    battery::answers::refused_reply(refusals::NO_VERSION)
+}
+
 // A call's bytes on a battery whose zones lie apart. It runs on a copy of them: answered, the first `count` are stored, and refused, none.
 pub fn advance_apart(version: u8, ledger: Ledger, call: &[u8], zones: &mut [f64; 64]) -> Renewed
     ensures { λ r. ⌜ renewedWith ledger r (now (zones .exit)) ≡ advancedOf version (whole ledger (now (zones .entry))) (now (call .entry)) ⌝ }
 {
     let salts = card::pcm::figures_of(ledger.card);
     let mut own = *zones;
-    let a = advance_read(version, ledger, &salts, 0, call, &mut own);
+    let a = advance_version(version, ledger, &salts, 0, call, &mut own);
     if a.refusal == 0 {
         let n = ledger.count as usize;
         renew_zones(zones, &own, n);

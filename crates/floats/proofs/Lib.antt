@@ -35,3 +35,4 @@ pub mod Constants
 pub mod Sum2Laws
 pub mod LnLaws
 pub mod Truncation
+pub mod Operands

@@ -7,6 +7,7 @@ use Prim.Native.Nat.{ℕ, _≤_, _<_}
 use native.Mathlib.Decide.{decLe}
 use native.Mathlib.Omega.{arith}
 use lib.ListN.{length}
+use Rattle.card.specs.Version.{knownVersion}
 use Rattle.card.specs.declared.Card.{Card}
 use Rattle.logic.proofs.Tests.{no-both}
 use Rattle.battery.specs.declared.Battery.{Battery}
@@ -56,7 +57,7 @@ refused-is version b c h =
     let l = refused-line version b c h in
     λ i. record { refusal = stepOf version b c .refusal; energy = l .energy i; mark = l .mark i; outlet = l .outlet i; time = l .time i; substeps = l .substeps i; battery = l .battery i }
 
-module _ (version : ℕ) (rec call free : List ℕ) where
+module _ (version : ℕ) (known : knownVersion version ≡ true) (rec call free : List ℕ) where
   abbrev b : Battery
   b = recordOf version rec
 
@@ -67,7 +68,7 @@ module _ (version : ℕ) (rec call free : List ℕ) where
   unfolding advanceOf refusedWith
   refused-ten c h l e =
       let r : advanceOf version b c ≡ refusedWith 10 b = rw h in
-      entry-read version rec call free l c e ∙ line-ten version rec call free (advanceOf version b c) (ap (λ (a : Answer). a .refusal) r)
+      entry-read version rec call free known l c e ∙ line-ten version rec call free (advanceOf version b c) (ap (λ (a : Answer). a .refusal) r)
 
   -- with a good record and a good call the step runs: 11, or its line
   stepped : GoodRecord version rec → recordLaid version rec ≡ true → (c : Call) → callOf version call ≡ Good c → batteryAccepted version b ≡ true → callInRange version (b .card) c ≡ true
@@ -81,7 +82,7 @@ module _ (version : ℕ) (rec call free : List ℕ) where
       card = step-keeps-card version b c ∙ record-card version rec
 
       is : o ≡ lineAfter version rec call free s
-      is = entry-read version rec call free l c e ∙ ap (lineAfter version rec call free) (advance-is-step version b c accepted in-range)
+      is = entry-read version rec call free known l c e ∙ ap (lineAfter version rec call free) (advance-is-step version b c accepted in-range)
 
       good : GoodCall version (cardAt version rec) call
       good =
@@ -109,12 +110,12 @@ module _ (version : ℕ) (rec call free : List ℕ) where
       ten (bad-record (λ g. no-both (sym (good-accepted version rec (record-laid version rec l) g) ∙ h))) (refused-ten c (rw h) l e)
 
   laid-way : recordLaid version rec ≡ true → (r : ReadCall) → callOf version call ≡ r → CallWay version rec call free o
-  laid-way l Bad e = ten (bad-call (λ g. let x = laid-call version call (g .laid) in no-call (callOf version call) e (x .1))) (entry-bad version rec call free l e)
+  laid-way l Bad e = ten (bad-call (λ g. let x = laid-call version call (g .laid) in no-call (callOf version call) e (x .1))) (entry-bad version rec call free known l e)
   laid-way l (Good c) e = read-way l c e (batteryAccepted version b) (callInRange version (b .card) c) refl refl
 
   any-way : (t : Bool) → recordLaid version rec ≡ t → CallWay version rec call free o
   any-way true l = laid-way l (callOf version call) refl
-  any-way false l = ten (bad-record (λ g. no-both (sym (laid-record version rec (good-laid version rec g)) ∙ l))) (entry-unlaid version rec call free l)
+  any-way false l = ten (bad-record (λ g. no-both (sym (laid-record version rec (good-laid version rec g)) ∙ l))) (entry-unlaid version rec call free known l)
 
   pub call-way : CallWay version rec call free (entryOf version rec call free)
   call-way = any-way (recordLaid version rec) refl

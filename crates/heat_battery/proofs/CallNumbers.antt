@@ -5,6 +5,7 @@ use mathlib.Core.List.{List}
 use mathlib.Core.Bool.{true}
 use Prim.Native.Nat.{ℕ, _≤_}
 use native.Mathlib.Omega.{arith}
+use Rattle.card.specs.Version.{knownVersion}
 use Rattle.card.specs.declared.Card.{Card}
 use Rattle.battery.specs.Call.{callInRange}
 use Rattle.battery.specs.declared.Battery.{Battery}
@@ -22,7 +23,7 @@ use Rattle.heat_battery.specs.Cases.{GetsLine, LineCase}
 use Rattle.heat_battery.proofs.Finite.{record-card}
 use Rattle.heat_battery.proofs.CallCases.{CallWay, ten, eleven, line, call-way, gets-step}
 
-module _ (version : ℕ) (rec call free : List ℕ) where
+module _ (version : ℕ) (known : knownVersion version ≡ true) (rec call free : List ℕ) where
   abbrev b : Battery
   b = recordOf version rec
 
@@ -36,7 +37,7 @@ module _ (version : ℕ) (rec call free : List ℕ) where
   -- a number that the steps give in its case
   line-is : (n : ℕ) → 20 ≤ n → (Case : Battery → Call → Type 0) → ((c : Call) → callInRange version (b .card) c ≡ true → (stepOf version b c .refusal ≡ n) ↔ Case b c)
       → (entryOf version rec call free .code ≡ n) ↔ LineCase Case version rec call free
-  line-is n l Case given = (on (call-way version rec call free), back)
+  line-is n l Case given = (on (call-way version known rec call free), back)
     where
       on : CallWay version rec call free o → o .code ≡ n → LineCase Case version rec call free
       on (ten x e) h = let m = code-of (unchanged 10 rec free) e in absurd (omega arith)
@@ -51,7 +52,7 @@ module _ (version : ℕ) (rec call free : List ℕ) where
 
       back : LineCase Case version rec call free → o .code ≡ n
       back y =
-          code-of (entered version rec call free (stepOf version b (y .asked))) (gets-step version rec call free (y .gets-line) (y .asked) (y .read))
+          code-of (entered version rec call free (stepOf version b (y .asked))) (gets-step version known rec call free (y .gets-line) (y .asked) (y .read))
           ∙ given (y .asked) (in-range (y .gets-line) (y .asked) (y .read)) .1 (y .case-of)
 
   pub call-20 : (entryOf version rec call free .code ≡ 20) ↔ LineCase Case20 version rec call free
@@ -63,8 +64,8 @@ module _ (version : ℕ) (rec call free : List ℕ) where
   pub call-22 : (entryOf version rec call free .code ≡ 22) ↔ LineCase Case22 version rec call free
   call-22 = line-is 22 (omega arith) Case22 (step-22 version b)
 
-  pub call-23 : (entryOf version rec call free .code ≡ 23) ↔ LineCase Case23 version rec call free
-  call-23 = line-is 23 (omega arith) Case23 (step-23 version b)
+  pub call-23 : (entryOf version rec call free .code ≡ 23) ↔ LineCase (Case23 version) version rec call free
+  call-23 = line-is 23 (omega arith) (Case23 version) (step-23 version b)
 
   pub call-24 : (entryOf version rec call free .code ≡ 24) ↔ LineCase Case24 version rec call free
   call-24 = line-is 24 (omega arith) Case24 (step-24 version b)

@@ -10,6 +10,7 @@ use borrow.Author.Tests.{eq-eqb, ne-eqb}
 use lib.ListN.{length, take, drop, getD}
 use lib.Seq.{take-at}
 use Rattle.codec.specs.Bytes.{over}
+use Rattle.card.specs.Version.{knownVersion}
 use Rattle.card.specs.declared.Card.{Card}
 use Rattle.battery.specs.declared.Battery.{Battery}
 use Rattle.battery.specs.declared.Call.{Call}
@@ -74,8 +75,8 @@ module _ (version : ℕ) (card : List ℕ) (b : Battery) (rec : List ℕ) (e : E
       on (yes z) = unfold renewed in rw (eq-eqb (stepOf version b c .refusal) 0 z, front)
       on (no n) = unfold renewed in rw (ne-eqb (stepOf version b c .refusal) 0 n) (e .bytes ∙ ap (recordBytes version card) (sym (refused-keeps-state version b c n)))
 
-  pub entry-on-encoding : (call free : List ℕ) → Entered version card b rec call free
-  entry-on-encoding call free = on (call-way version rec call free)
+  pub entry-on-encoding : knownVersion version ≡ true → (call free : List ℕ) → Entered version card b rec call free
+  entry-on-encoding known call free = on (call-way version known rec call free)
     where
       on : CallWay version rec call free (entryOf version rec call free) → Entered version card b rec call free
       on (ten x h) = kept-10 h
@@ -101,8 +102,8 @@ module _ (version : ℕ) (card : List ℕ) (b : Battery) (rec : List ℕ) (e : E
     has-line = on (step-refusals version b c)
       where
         on : (s .refusal ≡ 0) ⊎ ((20 ≤ s .refusal) × (s .refusal ≤ 25)) → noLine (lined version card call free s) ≡ false
-        on (inl z) = unfold noLine in rw (ne-eqb (s .refusal) 10 (λ h. omega arith), ne-eqb (s .refusal) 11 (λ h. omega arith))
-        on (inr z) = unfold noLine in rw (ne-eqb (s .refusal) 10 (λ h. omega arith), ne-eqb (s .refusal) 11 (λ h. omega arith))
+        on (inl z) = unfold noLine in rw (ne-eqb (s .refusal) 10 (λ h. omega arith), ne-eqb (s .refusal) 11 (λ h. omega arith), ne-eqb (s .refusal) 40 (λ h. omega arith))
+        on (inr z) = unfold noLine in rw (ne-eqb (s .refusal) 10 (λ h. omega arith), ne-eqb (s .refusal) 11 (λ h. omega arith), ne-eqb (s .refusal) 40 (λ h. omega arith))
 
     fits-line : lineLength version (s .battery .card) (length call) < 65536
     fits-line =

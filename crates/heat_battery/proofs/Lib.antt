@@ -10,3 +10,4 @@ pub mod OpenCases
 pub mod ZonesLent
 pub mod OwnCases
 pub mod RecordAfter
+pub mod AnyVersion

@@ -2,21 +2,22 @@
 use mathlib.Core.Path.{_≡_, refl, sym, _∙_, subst}
 use mathlib.Core.Logic.{_⊎_, _↔_, inl, inr}
 use mathlib.Core.List.{List}
-use mathlib.Core.Bool.{false}
+use mathlib.Core.Bool.{true, false}
 use Prim.Native.Nat.{ℕ, _≤_, _<_}
 use native.Mathlib.Decide.{ℕ-discrete, decLe}
 use native.Mathlib.Omega.{arith}
 use lib.ListN.{length}
 use Rattle.card.specs.Card.{cardInRange, cardRefusal, CardRefusal}
 use Rattle.card.proofs.Refusals.{card-refusal, card-refusal-own}
+use Rattle.card.specs.Version.{knownVersion}
 use Rattle.card.specs.declared.Card.{Card}
 use Rattle.sheet_records.specs.Cards.{cardLength, cardAt}
 use Rattle.sheet_records.specs.Records.{recordLength}
 use Rattle.sheet_lines.specs.Lines.{openingLength}
-use Rattle.entries.specs.Entry.{After, unchanged, openedWith, openOf}
+use Rattle.entries.specs.Entry.{After, unchanged, openedWith, openKnown, openOf}
 use Rattle.entries.proofs.Entering.{code-of, unchanged-by}
 use Rattle.heat_battery.specs.Cases.{OpenCase1, OpenCase2, OpenCase3, OpenCase4, OpenCase10, OpenCase11, Opens}
-use Rattle.entries.proofs.Opening.{open-length, open-card, open-record, open-room, opened}
+use Rattle.entries.proofs.Opening.{open-length, open-card, open-record, open-room, opened, open-known}
 use Rattle.heat_battery.proofs.CardCases.{CardWay, out-of-range, lower-above, max-low, nothing, accepted, card-way, card-1, card-2, card-3, card-4, lower-above-is, max-above-is}
 
 -- which way opening goes
@@ -30,26 +31,32 @@ data OpenWay (version : ℕ) (card rec free : List ℕ) (a : After) : Type 0 whe
       → a ≡ openedWith version card free
       → OpenWay version card rec free a
 
-open-way : (version : ℕ) (card rec free : List ℕ) → OpenWay version card rec free (openOf version card rec free)
-open-way version card rec free =
+open-way : (version : ℕ) → knownVersion version ≡ true → (card rec free : List ℕ) → OpenWay version card rec free (openOf version card rec free)
+open-way version known card rec free =
     on (ℕ-discrete (length card) (cardLength version card)) (ℕ-discrete (cardRefusal version c) 0) (ℕ-discrete (length rec) (recordLength version card)) (decLe (openingLength version card) (length free))
   where
     c : Card
     c = cardAt version card
 
+    is : openOf version card rec free ≡ openKnown version card rec free
+    is = open-known version card rec free known
+
     on : Dec (length card ≡ cardLength version card) → Dec (cardRefusal version c ≡ 0) → Dec (length rec ≡ recordLength version card) → Dec (openingLength version card ≤ length free)
         → OpenWay version card rec free (openOf version card rec free)
-    on (no l) a k r = other-card l (open-length version card rec free l)
-    on (yes l) (no a) k r = refused l a (open-card version card rec free l a)
+    on (no l) a k r = other-card l (is ∙ open-length version card rec free l)
+    on (yes l) (no a) k r = refused l a (is ∙ open-card version card rec free l a)
     on (yes l) (yes a) (no k) r =
-        other-record (record { card-good = record { long = l; accepted = a }; other-length = k }) (open-record version card rec free l a k)
+        other-record (record { card-good = record { long = l; accepted = a }; other-length = k }) (is ∙ open-record version card rec free l a k)
     on (yes l) (yes a) (yes k) (no r) =
         let h : length free < openingLength version card = omega arith in
-        no-room (record { card-good = record { long = l; accepted = a }; long = k; no-room = h }) (open-room version card rec free l a k h)
+        no-room (record { card-good = record { long = l; accepted = a }; long = k; no-room = h }) (is ∙ open-room version card rec free l a k h)
     on (yes l) (yes a) (yes k) (yes r) =
-        opens (record { card-good = record { long = l; accepted = a }; long = k; room = r }) (opened version card rec free l a k r)
+        opens (record { card-good = record { long = l; accepted = a }; long = k; room = r }) (is ∙ opened version card rec free l a k r)
 
-module _ (version : ℕ) (card rec free : List ℕ) where
+module _ (version : ℕ) (known : knownVersion version ≡ true) (card rec free : List ℕ) where
+  is-known : openOf version card rec free ≡ openKnown version card rec free
+  is-known = open-known version card rec free known
+
   abbrev c : Card
   c = cardAt version card
 
@@ -58,7 +65,7 @@ module _ (version : ℕ) (card rec free : List ℕ) where
 
   -- a number that is neither 0 nor 10 nor 11 is the card's
   by-card : (o .code ≡ 0 → ⊥) → (o .code ≡ 10 → ⊥) → (o .code ≡ 11 → ⊥) → ((length card ≡ cardLength version card → ⊥) × (o .code ≡ 1)) ⊎ ((length card ≡ cardLength version card) × (cardRefusal version c ≡ o .code))
-  by-card z ten eleven = on (open-way version card rec free)
+  by-card z ten eleven = on (open-way version known card rec free)
     where
       on : OpenWay version card rec free o → ((length card ≡ cardLength version card → ⊥) × (o .code ≡ 1)) ⊎ ((length card ≡ cardLength version card) × (cardRefusal version c ≡ o .code))
       on (other-card l e) = inl (l, code-of (unchanged 1 rec free) e)
@@ -68,7 +75,7 @@ module _ (version : ℕ) (card rec free : List ℕ) where
       on (opens x e) = absurd (z (code-of (openedWith version card free) e))
 
   card-code : length card ≡ cardLength version card → (cardRefusal version c ≡ 0 → ⊥) → o .code ≡ cardRefusal version c
-  card-code l h = code-of (unchanged (cardRefusal version c) rec free) (open-card version card rec free l h)
+  card-code l h = code-of (unchanged (cardRefusal version c) rec free) (is-known ∙ open-card version card rec free l h)
 
   pub open-1 : (openOf version card rec free .code ≡ 1) ↔ OpenCase1 version card
   open-1 = (λ h. on h (by-card (λ z. omega arith) (λ z. omega arith) (λ z. omega arith)), back)
@@ -86,10 +93,10 @@ module _ (version : ℕ) (card rec free : List ℕ) where
 
       long : cardInRange c ≡ false → Dec (length card ≡ cardLength version card) → o .code ≡ 1
       long k (yes l) = let r = card-1 version c k in card-code l (λ z. omega arith) ∙ r
-      long k (no l) = code-of (unchanged 1 rec free) (open-length version card rec free l)
+      long k (no l) = code-of (unchanged 1 rec free) (is-known ∙ open-length version card rec free l)
 
       back : OpenCase1 version card → o .code ≡ 1
-      back (inl l) = code-of (unchanged 1 rec free) (open-length version card rec free l)
+      back (inl l) = code-of (unchanged 1 rec free) (is-known ∙ open-length version card rec free l)
       back (inr k) = long k (ℕ-discrete (length card) (cardLength version card))
 
   pub open-2 : (openOf version card rec free .code ≡ 2) ↔ OpenCase2 version card
@@ -157,7 +164,7 @@ module _ (version : ℕ) (card rec free : List ℕ) where
       subst CardRefusal (sym (code-of (unchanged (cardRefusal version c) rec free) e) ∙ h) (card-refusal version c a)
 
   pub open-10 : (openOf version card rec free .code ≡ 10) ↔ OpenCase10 version card rec
-  open-10 = (on (open-way version card rec free), λ x. code-of (unchanged 10 rec free) (open-record version card rec free (x .card-good .long) (x .card-good .accepted) (x .other-length)))
+  open-10 = (on (open-way version known card rec free), λ x. code-of (unchanged 10 rec free) (is-known ∙ open-record version card rec free (x .card-good .long) (x .card-good .accepted) (x .other-length)))
     where
       on : OpenWay version card rec free o → o .code ≡ 10 → OpenCase10 version card rec
       on (other-card l e) h = let n = code-of (unchanged 1 rec free) e in absurd (omega arith)
@@ -167,7 +174,7 @@ module _ (version : ℕ) (card rec free : List ℕ) where
       on (opens x e) h = let n = code-of (openedWith version card free) e in absurd (omega arith)
 
   pub open-11 : (openOf version card rec free .code ≡ 11) ↔ OpenCase11 version card rec free
-  open-11 = (on (open-way version card rec free), λ x. code-of (unchanged 11 rec free) (open-room version card rec free (x .card-good .long) (x .card-good .accepted) (x .long) (x .no-room)))
+  open-11 = (on (open-way version known card rec free), λ x. code-of (unchanged 11 rec free) (is-known ∙ open-room version card rec free (x .card-good .long) (x .card-good .accepted) (x .long) (x .no-room)))
     where
       on : OpenWay version card rec free o → o .code ≡ 11 → OpenCase11 version card rec free
       on (other-card l e) h = let n = code-of (unchanged 1 rec free) e in absurd (omega arith)
@@ -178,7 +185,7 @@ module _ (version : ℕ) (card rec free : List ℕ) where
 
   -- 0 exactly when the card has its length, 1 to 4 don't apply, the record has its length and there is room for the version and line 0
   pub open-0 : (openOf version card rec free .code ≡ 0) ↔ Opens version card rec free
-  open-0 = (on (open-way version card rec free), λ x. code-of (openedWith version card free) (opened version card rec free (x .card-good .long) (x .card-good .accepted) (x .long) (x .room)))
+  open-0 = (on (open-way version known card rec free), λ x. code-of (openedWith version card free) (is-known ∙ opened version card rec free (x .card-good .long) (x .card-good .accepted) (x .long) (x .room)))
     where
       on : OpenWay version card rec free o → o .code ≡ 0 → Opens version card rec free
       on (other-card l e) h = let n = code-of (unchanged 1 rec free) e in absurd (omega arith)
@@ -189,7 +196,7 @@ module _ (version : ℕ) (card rec free : List ℕ) where
 
   -- a refused opening changes no byte
   pub refused-opening-keeps : (openOf version card rec free .code ≡ 0 → ⊥) → openOf version card rec free ≡ unchanged (openOf version card rec free .code) rec free
-  refused-opening-keeps h = on (open-way version card rec free)
+  refused-opening-keeps h = on (open-way version known card rec free)
     where
       on : OpenWay version card rec free o → o ≡ unchanged (o .code) rec free
       on (other-card l e) = unchanged-by 1 e
@@ -200,7 +207,7 @@ module _ (version : ℕ) (card rec free : List ℕ) where
 
   -- opening gives no other number
   pub open-codes : (openOf version card rec free .code ≡ 0) ⊎ ((openOf version card rec free .code ≡ 10) ⊎ ((openOf version card rec free .code ≡ 11) ⊎ CardRefusal (openOf version card rec free .code)))
-  open-codes = on (open-way version card rec free)
+  open-codes = on (open-way version known card rec free)
     where
       on : OpenWay version card rec free o → (o .code ≡ 0) ⊎ ((o .code ≡ 10) ⊎ ((o .code ≡ 11) ⊎ CardRefusal (o .code)))
       on (other-card l e) = inr (inr (inr (inl (code-of (unchanged 1 rec free) e))))

@@ -6,6 +6,7 @@ use mathlib.Core.Bool.{Bool, true, false, _&&_}
 use Prim.Native.Nat.{ℕ, _≤_}
 use native.Mathlib.Omega.{arith}
 use Rattle.logic.proofs.Tests.{no-both, true-and}
+use Rattle.card.specs.Version.{knownVersion}
 use Rattle.battery.specs.declared.Battery.{Battery}
 use Rattle.battery.specs.declared.Call.{Call}
 use Rattle.battery.specs.declared.Answer.{Answer}
@@ -27,6 +28,7 @@ use Rattle.sheet_calls.specs.declared.ReadCall.the-variants.{Good, Bad}
 use Rattle.sheet_calls.proofs.CallLaws.{same-call, no-call}
 use Rattle.sheet_calls.proofs.CallExact.{call-laid, laid-call}
 use Rattle.entries.specs.Record.{shownOf, advancedBy, advanceRead, advancedOf}
+use Rattle.entries.proofs.OwnRecordLaws.{own-known}
 use Rattle.heat_battery.specs.Cases.{GoodCall, GoodOwn, OwnCase10, bad-own, bad-own-call, OwnCase}
 use Rattle.heat_battery.proofs.CallCases.{not-ten}
 
@@ -65,18 +67,18 @@ data OwnWay (version : ℕ) (b : Battery) (call : List ℕ) (n : ℕ) : Type 0 w
   own-step : GoodOwn version b → GoodCall version (b .card) call → (c : Call) → callOf version call ≡ Good c → callInRange version (b .card) c ≡ true → n ≡ stepOf version b c .refusal
       → OwnWay version b call n
 
-module _ (version : ℕ) (b : Battery) (call : List ℕ) where
+module _ (version : ℕ) (known : knownVersion version ≡ true) (b : Battery) (call : List ℕ) where
   abbrev n : ℕ
   n = advancedOf version b call .shown .refusal
 
   -- the number of a call that is read
   number : (c : Call) → callOf version call ≡ Good c → n ≡ advanceOf version b c .refusal
   unfolding advancedOf advanceRead advancedBy shownOf
-  number c e = ap (λ (r : ReadCall). advanceRead version b r .refusal) e
+  number c e = ap (λ (a : Answer). a .refusal) (own-known version b call known) ∙ ap (λ (r : ReadCall). advanceRead version b r .refusal) e
 
   bad-number : callOf version call ≡ Bad → n ≡ 10
   unfolding advancedOf advanceRead advancedBy shownOf refusedWith
-  bad-number e = ap (λ (r : ReadCall). advanceRead version b r .refusal) e
+  bad-number e = ap (λ (a : Answer). a .refusal) (own-known version b call known) ∙ ap (λ (r : ReadCall). advanceRead version b r .refusal) e
 
   refused-ten : (c : Call) → callOf version call ≡ Good c → (batteryAccepted version b && callInRange version (b .card) c) ≡ false → n ≡ 10
   unfolding advanceOf refusedWith
@@ -134,8 +136,8 @@ module _ (version : ℕ) (b : Battery) (call : List ℕ) where
   pub own-22 : (advancedOf version b call .shown .refusal ≡ 22) ↔ OwnCase Case22 version b call
   own-22 = own-is 22 (omega arith) Case22 (step-22 version b)
 
-  pub own-23 : (advancedOf version b call .shown .refusal ≡ 23) ↔ OwnCase Case23 version b call
-  own-23 = own-is 23 (omega arith) Case23 (step-23 version b)
+  pub own-23 : (advancedOf version b call .shown .refusal ≡ 23) ↔ OwnCase (Case23 version) version b call
+  own-23 = own-is 23 (omega arith) (Case23 version) (step-23 version b)
 
   pub own-24 : (advancedOf version b call .shown .refusal ≡ 24) ↔ OwnCase Case24 version b call
   own-24 = own-is 24 (omega arith) Case24 (step-24 version b)

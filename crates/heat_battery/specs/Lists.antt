@@ -5,7 +5,7 @@ use mathlib.Core.List.{List, [], _∷_, _++_}
 use mathlib.Core.Bool.{Bool, cond, _||_}
 use lib.Dec.{eqb}
 use lib.ListN.{length, take, drop}
-use Rattle.refusals.specs.Refusals.{badCall, noRoom}
+use Rattle.refusals.specs.Refusals.{badCall, noRoom, noVersion}
 use Rattle.codec.specs.Bytes.{beAt}
 use Rattle.battery.specs.Answer.{refusedWith}
 use Rattle.battery.specs.Battery.{fresh, GoodBattery}
@@ -21,11 +21,24 @@ use Rattle.sheet_calls.specs.declared.ReadCall.the-variants.{Good, Bad}
 use Rattle.entries.specs.Entry.{After, openOf}
 use Rattle.heat_battery.specs.Entries.{entryOf}
 
+-- a call of a list: the version that it is given, and its bytes
+pub record ListedCall : Type 0 where
+  pub version : ℕ
+  pub bytes : List ℕ
+
+-- document 02, Three: 'The caller gives every call of a sheet the version it was opened with; demand 3 speaks of such lists'
+abbrev pub AllGiven : ℕ → List ListedCall → Type 0
+AllGiven version [] = Unit
+AllGiven version (call ∷ calls) = (call .version ≡ version) × AllGiven version calls
+
 -- ---- the entries
 
--- 10 or 11: no line was written
+abbrev pub entryTo : List ℕ → List ℕ → ListedCall → After
+entryTo rec free call = entryOf (call .version) rec (call .bytes) free
+
+-- 10, 11 or 40: no line was written
 unfoldable pub noLine : After → Bool
-noLine after = eqb (after .code) badCall || eqb (after .code) noRoom
+noLine after = eqb (after .code) badCall || (eqb (after .code) noRoom || eqb (after .code) noVersion)
 
 -- the bytes that the call's line takes at the front of the lent part, by its own length
 unfoldable pub lineTaken : After → ℕ
@@ -36,55 +49,55 @@ unfoldable pub freeRest : After → List ℕ
 freeRest after = drop (lineTaken after) (after .sheet)
 
 -- 'Each gets the battery that the last one left and the free bytes after the last line': the record, and the free bytes, after the calls
-unfoldable pub recordAfter : ℕ → List ℕ → List ℕ → List (List ℕ) → List ℕ
-recordAfter version rec free [] = rec
-recordAfter version rec free (call ∷ calls) =
-    let a = entryOf version rec call free in
-    recordAfter version (a .record') (freeRest a) calls
+unfoldable pub recordAfter : List ℕ → List ℕ → List ListedCall → List ℕ
+recordAfter rec free [] = rec
+recordAfter rec free (call ∷ calls) =
+    let a = entryTo rec free call in
+    recordAfter (a .record') (freeRest a) calls
 
-unfoldable pub freeAfter : ℕ → List ℕ → List ℕ → List (List ℕ) → List ℕ
-freeAfter version rec free [] = free
-freeAfter version rec free (call ∷ calls) =
-    let a = entryOf version rec call free in
-    freeAfter version (a .record') (freeRest a) calls
+unfoldable pub freeAfter : List ℕ → List ℕ → List ListedCall → List ℕ
+freeAfter rec free [] = free
+freeAfter rec free (call ∷ calls) =
+    let a = entryTo rec free call in
+    freeAfter (a .record') (freeRest a) calls
 
 -- the lines that the calls left, in order
-unfoldable pub written : ℕ → List ℕ → List ℕ → List (List ℕ) → List ℕ
-written version rec free [] = []
-written version rec free (call ∷ calls) =
-    let a = entryOf version rec call free in
-    take (lineTaken a) (a .sheet) ++ written version (a .record') (freeRest a) calls
+unfoldable pub written : List ℕ → List ℕ → List ListedCall → List ℕ
+written rec free [] = []
+written rec free (call ∷ calls) =
+    let a = entryTo rec free call in
+    take (lineTaken a) (a .sheet) ++ written (a .record') (freeRest a) calls
 
--- the calls to which neither 10 nor 11 applied, in order
-unfoldable pub spared : ℕ → List ℕ → List ℕ → List (List ℕ) → List (List ℕ)
-spared version rec free [] = []
-spared version rec free (call ∷ calls) =
-    let a = entryOf version rec call free in
-    let others = spared version (a .record') (freeRest a) calls in
-    cond (noLine a) others (call ∷ others)
+-- the bytes of the calls that got a line, in order
+unfoldable pub spared : List ℕ → List ℕ → List ListedCall → List (List ℕ)
+spared rec free [] = []
+spared rec free (call ∷ calls) =
+    let a = entryTo rec free call in
+    let others = spared (a .record') (freeRest a) calls in
+    cond (noLine a) others (call .bytes ∷ others)
 
 -- A's sheet: 'the version, line 0 and one call line .. for each call to which neither 10 nor 11 applies'; and the free bytes after it
-unfoldable pub sheetOf : ℕ → List ℕ → List ℕ → List ℕ → List (List ℕ) → List ℕ
+unfoldable pub sheetOf : ℕ → List ℕ → List ℕ → List ℕ → List ListedCall → List ℕ
 sheetOf version card rec free calls =
     let o = openOf version card rec free in
-    take (openingLength version card) (o .sheet) ++ written version (o .record') (drop (openingLength version card) (o .sheet)) calls
+    take (openingLength version card) (o .sheet) ++ written (o .record') (drop (openingLength version card) (o .sheet)) calls
 
-unfoldable pub freeAfterSheet : ℕ → List ℕ → List ℕ → List ℕ → List (List ℕ) → List ℕ
+unfoldable pub freeAfterSheet : ℕ → List ℕ → List ℕ → List ℕ → List ListedCall → List ℕ
 freeAfterSheet version card rec free calls =
     let o = openOf version card rec free in
-    freeAfter version (o .record') (drop (openingLength version card) (o .sheet)) calls
+    freeAfter (o .record') (drop (openingLength version card) (o .sheet)) calls
 
 -- the record that A keeps then
-unfoldable pub lastRecord : ℕ → List ℕ → List ℕ → List ℕ → List (List ℕ) → List ℕ
+unfoldable pub lastRecord : ℕ → List ℕ → List ℕ → List ℕ → List ListedCall → List ℕ
 lastRecord version card rec free calls =
     let o = openOf version card rec free in
-    recordAfter version (o .record') (drop (openingLength version card) (o .sheet)) calls
+    recordAfter (o .record') (drop (openingLength version card) (o .sheet)) calls
 
 -- the calls of the list that got a line
-unfoldable pub sparedOf : ℕ → List ℕ → List ℕ → List ℕ → List (List ℕ) → List (List ℕ)
+unfoldable pub sparedOf : ℕ → List ℕ → List ℕ → List ℕ → List ListedCall → List (List ℕ)
 sparedOf version card rec free calls =
     let o = openOf version card rec free in
-    spared version (o .record') (drop (openingLength version card) (o .sheet)) calls
+    spared (o .record') (drop (openingLength version card) (o .sheet)) calls
 
 -- ---- the steps, fed a call's kind and fields, never an answer
 
@@ -114,14 +127,14 @@ pub record Encoded (version : ℕ) (card : List ℕ) (battery : Battery) (rec : 
   pub bytes : rec ≡ recordBytes version card battery
 
 -- after the calls: each line and the record are the encodings of the steps' answer and state, the lines lie within the lent part, and the bytes after are as before
-pub record SameAsSteps (version : ℕ) (card : List ℕ) (battery : Battery) (rec free : List ℕ) (calls : List (List ℕ)) : Type 0 where
-  pub lines : written version rec free calls ≡ stepLines version battery (spared version rec free calls)
-  pub encoded : Encoded version card (stateAfter version battery (spared version rec free calls)) (recordAfter version rec free calls)
-  pub fits : length (written version rec free calls) ≤ length free
-  pub following : freeAfter version rec free calls ≡ drop (length (written version rec free calls)) free
+pub record SameAsSteps (version : ℕ) (card : List ℕ) (battery : Battery) (rec free : List ℕ) (calls : List ListedCall) : Type 0 where
+  pub lines : written rec free calls ≡ stepLines version battery (spared rec free calls)
+  pub encoded : Encoded version card (stateAfter version battery (spared rec free calls)) (recordAfter rec free calls)
+  pub fits : length (written rec free calls) ≤ length free
+  pub following : freeAfter rec free calls ≡ drop (length (written rec free calls)) free
 
 -- the same of A's sheet, from the fresh battery on
-pub record SheetOfSteps (version : ℕ) (card rec free : List ℕ) (calls : List (List ℕ)) : Type 0 where
+pub record SheetOfSteps (version : ℕ) (card rec free : List ℕ) (calls : List ListedCall) : Type 0 where
   pub sheet : sheetOf version card rec free calls ≡ openingBytes version card ++ stepLines version (fresh (cardAt version card)) (sparedOf version card rec free calls)
   pub encoded : Encoded version card (stateAfter version (fresh (cardAt version card)) (sparedOf version card rec free calls)) (lastRecord version card rec free calls)
   pub fits : length (sheetOf version card rec free calls) ≤ length free

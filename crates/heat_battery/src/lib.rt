@@ -4,7 +4,6 @@
 use auditor::AuditVerdict;
 use battery::Battery;
 use card::Card;
-use card::version::ONLY_VERSION;
 use entries::RecordCard;
 use entries::own_record::Shown;
 use sheet_calls::ReadCall;
@@ -14,19 +13,26 @@ ghost use Rattle.battery.specs.Battery.{batteryAccepted};
 ghost use Rattle.sheet_records.specs.Cards.{cardAt};
 ghost use Rattle.sheet_records.specs.Records.{recordOf};
 ghost use Rattle.sheet_calls.specs.Calls.{callOf};
-ghost use Rattle.card.specs.Version.{onlyVersion};
 ghost use Rattle.auditor.specs.Rules.{plain};
 ghost use Rattle.auditor.specs.Audit.{verdictWord, verdictFields, auditOf, limitedAuditOf};
 ghost use Rattle.entries.specs.Record.{advancedOf};
 ghost use Rattle.entries.specs.Entry.{WasAfter, openOf, recordLaid};
-ghost use Rattle.heat_battery.specs.Entries.{entryRead, entryOf};
+ghost use Rattle.heat_battery.specs.Entries.{entryRead, entryKnown, entryOf};
 
-// Opens a sheet: its version and card line, and a fresh battery.
+// Opens a sheet: its version and card line, and a fresh battery; 40 before all where the version isn't known.
 #[no_mangle]
-pub extern "C" fn heat_battery_open(card: &[u8], record: &mut [u8], sheet: &mut [u8]) -> u8
-    ensures { λ r. ⌜ WasAfter (openOf onlyVersion (now (card .entry)) (now («record» .entry)) (now (sheet .entry))) r (now («record» .exit)) (now (sheet .exit)) ⌝ }
+pub extern "C" fn heat_battery_open(
+    version: u8,
+    card: &[u8],
+    record: &mut [u8],
+    sheet: &mut [u8],
+) -> u8
+    ensures { λ r. ⌜ WasAfter (openOf version (now (card .entry)) (now («record» .entry)) (now (sheet .entry))) r (now («record» .exit)) (now (sheet .exit)) ⌝ }
 {
-    entries::open(ONLY_VERSION, card, record, sheet)
+    if card::version::known_version(version) {
+        return entries::open(version, card, record, sheet);
+    }
+    refusals::NO_VERSION
 }
 
 // A call on a record's accepted battery: read, advanced, entered.
@@ -57,16 +63,31 @@ fn with_card(version: u8, card: Card, record: &mut [u8], call: &[u8], sheet: &mu
     refusals::BAD_CALL
 }
 
-// One call on a battery record: its line at the front of the lent part of the sheet, and the record renewed.
-#[no_mangle]
-pub extern "C" fn heat_battery_call(record: &mut [u8], call: &[u8], sheet: &mut [u8]) -> u8
-    ensures { λ r. ⌜ WasAfter (entryOf onlyVersion (now («record» .entry)) (now (call .entry)) (now (sheet .entry))) r (now («record» .exit)) (now (sheet .exit)) ⌝ }
+// A call on a record of a known version: its card read and judged.
+fn with_version(version: u8, record: &mut [u8], call: &[u8], sheet: &mut [u8]) -> u8
+    ensures { λ r. ⌜ WasAfter (entryKnown version (now («record» .entry)) (now (call .entry)) (now (sheet .entry))) r (now («record» .exit)) (now (sheet .exit)) ⌝ }
 {
-    let read = entries::record_card(ONLY_VERSION, record);
+    let read = entries::record_card(version, record);
     match read {
         RecordCard::Bad => refusals::BAD_CALL,
-        RecordCard::Good(card) => with_card(ONLY_VERSION, card, record, call, sheet),
+        RecordCard::Good(card) => with_card(version, card, record, call, sheet),
     }
+}
+
+// One call on a battery record: its line at the front of the lent part of the sheet, and the record renewed; 40 before all.
+#[no_mangle]
+pub extern "C" fn heat_battery_call(
+    version: u8,
+    record: &mut [u8],
+    call: &[u8],
+    sheet: &mut [u8],
+) -> u8
+    ensures { λ r. ⌜ WasAfter (entryOf version (now («record» .entry)) (now (call .entry)) (now (sheet .entry))) r (now («record» .exit)) (now (sheet .exit)) ⌝ }
+{
+    if card::version::known_version(version) {
+        return with_version(version, record, call, sheet);
+    }
+    refusals::NO_VERSION
 }
 
 // Audits a sheet: line × 256 + refusal, or lines × 256 where it is accepted; 44 above 65,536 bytes.
@@ -85,13 +106,13 @@ pub extern "C" fn heat_battery_audit_whole(sheet: &[u8]) -> AuditVerdict
     auditor::audit_fields(sheet)
 }
 
-// Advances the caller's own battery by a call: 10, or the steps. Answered, its first `count` zones and five totals are stored; refused, nothing is.
+// Advances the caller's own battery by a call: 40, 10, or the steps. Answered, its first `count` zones and five totals are stored; refused, nothing is.
 #[no_mangle]
-pub extern "C" fn heat_battery_advance(battery: &mut Battery, call: &[u8]) -> Shown
-    ensures { λ r. ⌜ (r ≡ advancedOf onlyVersion (now (battery .entry)) (now (call .entry)) .shown) × (now (battery .exit) ≡ advancedOf onlyVersion (now (battery .entry)) (now (call .entry)) .battery) ⌝ }
+pub extern "C" fn heat_battery_advance(version: u8, battery: &mut Battery, call: &[u8]) -> Shown
+    ensures { λ r. ⌜ (r ≡ advancedOf version (now (battery .entry)) (now (call .entry)) .shown) × (now (battery .exit) ≡ advancedOf version (now (battery .entry)) (now (call .entry)) .battery) ⌝ }
 {
     let l = battery::ledger_of(*battery);
-    let out = entries::own_record::advance_apart(ONLY_VERSION, l, call, &mut battery.zones);
+    let out = entries::own_record::advance_apart(version, l, call, &mut battery.zones);
     if out.shown.refusal == 0 {
         battery.total = out.totals.total;
         battery.pump = out.totals.pump;

@@ -17,8 +17,8 @@ use Rattle.sheet_lines.specs.Answers.{AcceptsItself}
 use Rattle.sheet_lines.specs.Lines.{openingBytes}
 use Rattle.sheet_lines.proofs.LineLaws.{opening-starts}
 use Rattle.heat_battery.specs.Cases.{Opens}
-use Rattle.heat_battery.specs.Lists.{sheetOf, sparedOf}
-use Rattle.heat_battery.proofs.OpenCases.{open-0}
+use Rattle.heat_battery.specs.Lists.{ListedCall, AllGiven, sheetOf, sparedOf}
+use Rattle.heat_battery.proofs.AnyVersion.{opens-exactly}
 use Rattle.heat_battery.proofs.EqualSteps.{sheet-equal-to-steps, fresh-encoded, spared-is}
 use Rattle.auditor.specs.Rules.{Rules}
 use Rattle.auditor.specs.Sheet.{linesBytes, stepsFrom, Sheet}
@@ -28,8 +28,8 @@ use Rattle.promises.specs.Promises.{AcceptsAListByRules}
 use Rattle.promises.proofs.Spared.{AllGood, spared-good}
 use Rattle.promises.proofs.Lined.{LinedUp, lined-up}
 
-module _ (rules : Rules) (self : AcceptsItself (rules .same)) (version : ℕ) (known : knownVersion version ≡ true) (card rec free : List ℕ) (calls : List (List ℕ))
-    (h : Opens version card rec free) where
+module _ (rules : Rules) (self : AcceptsItself (rules .same)) (version : ℕ) (known : knownVersion version ≡ true) (card rec free : List ℕ) (calls : List ListedCall)
+    (given : AllGiven version calls) (h : Opens version card rec free) where
   abbrev b : Battery
   b = fresh (cardAt version card)
 
@@ -39,8 +39,8 @@ module _ (rules : Rules) (self : AcceptsItself (rules .same)) (version : ℕ) (k
   all-good : AllGood version (cardAt version card) spare
   unfolding fresh
   all-good =
-      rw (spared-is version card rec free h calls)
-      (spared-good version card calls b (recordBytes version card b) (drop (length (openingBytes version card)) free) (fresh-encoded version card (h .card-good)))
+      rw (spared-is version known card rec free h calls)
+      (spared-good version known card calls given b (recordBytes version card b) (drop (length (openingBytes version card)) free) (fresh-encoded version card (h .card-good)))
 
   up : LinedUp (rules .same) version (cardAt version card) b spare
   unfolding fresh
@@ -49,7 +49,7 @@ module _ (rules : Rules) (self : AcceptsItself (rules .same)) (version : ℕ) (k
   a-sheet : rules .test version (cardAt version card) ≡ true → Sheet rules (sheetOf version card rec free calls) (length spare)
   unfolding stepsFrom
   a-sheet passes =
-      let s = sheet-equal-to-steps version card rec free h calls in
+      let s = sheet-equal-to-steps version known card rec free h calls given in
       record {
         version = version;
         card = card;
@@ -70,14 +70,16 @@ module _ (rules : Rules) (self : AcceptsItself (rules .same)) (version : ℕ) (k
         count = up .count;
       }
 
--- A opens with code 0: its sheet, after any calls whatsoever, is accepted by every audit that takes its card, and is what it should be
+-- A opens with code 0: its sheet, after any calls whatsoever in its version, is accepted by every audit that takes its card, and is what it should be
 pub a-list : AcceptsAListByRules
-a-list rules self version known card rec free calls passes o =
-    let h = open-0 version card rec free .0 o in
-    let s = sheet-equal-to-steps version card rec free h calls in
+a-list rules self version card rec free calls passes o given =
+    let opens = opens-exactly version card rec free .0 o in
+    let known = opens .0 in
+    let h = opens .1 in
+    let s = sheet-equal-to-steps version known card rec free h calls given in
     record {
       verdict =
-          exact rules (sheetOf version card rec free calls) (length (sparedOf version card rec free calls)) .1 (a-sheet rules self version known card rec free calls h passes);
+          exact rules (sheetOf version card rec free calls) (length (sparedOf version card rec free calls)) .1 (a-sheet rules self version known card rec free calls given h passes);
       bytes = s .sheet;
       fits = s .fits;
       following = s .following;

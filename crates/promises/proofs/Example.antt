@@ -1,4 +1,5 @@
 -- The example is opened, answered, refused and accepted, by computation: the line `unfolding` names the definitions that are computed.
+use Prim.Native.Nat.{ℕ}
 use mathlib.Core.Path.{_≡_, refl}
 use lib.ListN.{replicate}
 use lib.Ieee.{ofBits, toBits, ofInt, add, sub, mul, div, neg, lt, le, eq, fits}
@@ -11,7 +12,7 @@ use Rattle.card.specs.Ranges.{within, isSubstep, isTimestep, isTemperature, isC
 use Rattle.zone_update.specs.Update.{retrievingFromBelow, retrieving, newZoneTemperature}
 use Rattle.zone_charging.specs.Charging.{counted, chargingWithdrawn, chargingAdded, zoneSimultaneousCharging}
 use Rattle.zone_water.specs.Water.{zoneProperties}
-use Rattle.card.specs.Version.{onlyVersion, knownVersion}
+use Rattle.card.specs.Version.{oldestVersion, newestVersion, knownVersion, showsHydronicTime}
 use Rattle.card.specs.Card.{countsInRange, timesInRange, temperaturesInRange, capacitiesInRange, exchangerInRange, powersInRange, cardInRange, cardVerdict, verdictNumber, cardRefusal}
 use Rattle.card.specs.Derived.{saltOf, saltsOf, derived}
 use Rattle.battery.specs.Answer.{refusedWith, plainAnswer, numbersFinite, answerFinite}
@@ -21,26 +22,29 @@ use Rattle.battery.specs.Call.{isLevel, isGivenTemperature, demandInRange, call
 use Rattle.substep.specs.Substep.{outcomeOf, zoneIndex, zoneCharge, zoneStep, zoneAt, zonesAfter, zoneTransfer, commonOf, chargerHeat, progressFrom, progressFinite, progressFault, substepFrom, withTransfer, processHeatBatteryZones}
 use Rattle.runs.specs.Charge.{electricInput, electricEnded, chargeElectric, chargeBattery}
 use Rattle.runs.specs.Runs.{faultEnd, endRefusal, timeAvailable}
-use Rattle.engine_replies.specs.Replies.{checked, unlessRefused, chargedBattery, runAnswer}
+use Rattle.engine_replies.specs.Replies.{checked, unlessRefused, chargedBattery, chargedTime, runAnswer}
 use Rattle.engine.specs.Steps.{demandGiven, demandEnergy, charge, stepOf, advanceOf}
 use Rattle.sheet_calls.specs.Calls.{commitPlace, callLength, markOk, givenAt, demandAt, demandCall, callBy, callOf}
 use Rattle.sheet_records.specs.Cards.{cardLength, cardAt}
 use Rattle.sheet_records.specs.Records.{zonesAt, zonesBytes, totalsBytes, stateLength, stateAt, stateBytes, recordLength, recordOf, recordBytes}
 use Rattle.sheet_lines.specs.Answers.{headLength, answerLength, answerAt, headBytes, answerBytes, marksOk, sameNumber, sameZones, sameTotals, agrees}
 use Rattle.sheet_lines.specs.Lines.{lineLength, lineSize, lineBytes, openingLength, openingBytes}
-use Rattle.entries.specs.Entry.{openOf, renewed, lineAfter, recordLaid}
+use Rattle.entries.specs.Entry.{openKnown, ofVersion, openOf, renewed, lineAfter, recordLaid}
 use Rattle.sheet_lines.specs.Front.{callPart, answerPart, following, headOk, lineCall}
 use Rattle.auditor.specs.Audit.{judge, auditLine, auditFrom, cardLineOk, auditLines, auditCard, auditOf}
 use Rattle.auditor.specs.Rules.{plain}
-use Rattle.heat_battery.specs.Entries.{entryRead, entryOf}
+use Rattle.heat_battery.specs.Entries.{entryRead, entryKnown, entryOf}
 use Rattle.auditor.specs.declared.Verdict.the-variants.{Accepted}
 use Rattle.promises.specs.Example.{exampleCard, freshRecord, exampleOpening, exampleCharge, chargeLine, chargedRecord, exampleDemand, refusedLine, exampleSheet}
 
 -- A opens with this card; the first call is answered and the second refused, and they write these bytes; B accepts the sheet
-pub example :
-    (openOf onlyVersion exampleCard (replicate 206 0) (replicate 161 0) ≡ record { code = 0; record' = freshRecord; sheet = exampleOpening })
-    × (entryOf onlyVersion freshRecord exampleCharge (replicate 97 0) ≡ record { code = 0; record' = chargedRecord; sheet = chargeLine })
-    × (entryOf onlyVersion chargedRecord exampleDemand (replicate 109 0) ≡ record { code = 20; record' = chargedRecord; sheet = refusedLine })
-    × (auditOf plain exampleSheet ≡ Accepted 2)
-unfolding knownVersion finite64 magnitude larger nearlyEqual maxZero sum2Step sum2After sum2 be beBytes f64Of f64Bytes over kilowattHours kilojoules layerEnergyStored tempAt socToTemp zoneEnergyRequired within isSubstep isTimestep isTemperature isCapacity isVelocity isDiameter isCoefficient isFlow isPower retrievingFromBelow retrieving newZoneTemperature counted chargingWithdrawn chargingAdded zoneSimultaneousCharging zoneProperties countsInRange timesInRange temperaturesInRange capacitiesInRange exchangerInRange powersInRange cardInRange cardVerdict verdictNumber cardRefusal saltOf saltsOf derived refusedWith plainAnswer numbersFinite answerFinite freshZones fresh zonesFinite totalsFinite batteryAccepted isLevel isGivenTemperature demandInRange callInRange zoneIndex zoneCharge zoneStep zoneAt zonesAfter zoneTransfer commonOf chargerHeat progressFrom progressFinite progressFault outcomeOf substepFrom withTransfer processHeatBatteryZones electricInput electricEnded chargeElectric chargeBattery faultEnd endRefusal timeAvailable checked unlessRefused chargedBattery runAnswer demandGiven demandEnergy charge stepOf advanceOf commitPlace callLength markOk givenAt demandAt demandCall callBy callOf cardLength cardAt zonesAt zonesBytes totalsBytes stateLength stateAt stateBytes recordLength recordOf recordBytes headLength answerLength answerAt headBytes answerBytes marksOk sameNumber sameZones sameTotals agrees lineLength lineSize lineBytes openingLength openingBytes openOf renewed lineAfter recordLaid callPart answerPart following headOk lineCall judge auditLine auditFrom cardLineOk auditLines auditCard auditOf entryRead entryOf ofBits toBits ofInt add sub mul div neg lt le eq fits
-example = (refl, refl, refl, refl)
+abbrev Works : ℕ → Type 0
+Works version =
+    (openOf version exampleCard (replicate 206 0) (replicate 161 0) ≡ record { code = 0; record' = freshRecord; sheet = exampleOpening version })
+    × (entryOf version freshRecord exampleCharge (replicate 97 0) ≡ record { code = 0; record' = chargedRecord; sheet = chargeLine })
+    × (entryOf version chargedRecord exampleDemand (replicate 109 0) ≡ record { code = 20; record' = chargedRecord; sheet = refusedLine })
+    × (auditOf plain (exampleSheet version) ≡ Accepted 2)
+
+pub example : Works oldestVersion × Works newestVersion
+unfolding knownVersion showsHydronicTime chargedTime finite64 magnitude larger nearlyEqual maxZero sum2Step sum2After sum2 be beBytes f64Of f64Bytes over kilowattHours kilojoules layerEnergyStored tempAt socToTemp zoneEnergyRequired within isSubstep isTimestep isTemperature isCapacity isVelocity isDiameter isCoefficient isFlow isPower retrievingFromBelow retrieving newZoneTemperature counted chargingWithdrawn chargingAdded zoneSimultaneousCharging zoneProperties countsInRange timesInRange temperaturesInRange capacitiesInRange exchangerInRange powersInRange cardInRange cardVerdict verdictNumber cardRefusal saltOf saltsOf derived refusedWith plainAnswer numbersFinite answerFinite freshZones fresh zonesFinite totalsFinite batteryAccepted isLevel isGivenTemperature demandInRange callInRange zoneIndex zoneCharge zoneStep zoneAt zonesAfter zoneTransfer commonOf chargerHeat progressFrom progressFinite progressFault outcomeOf substepFrom withTransfer processHeatBatteryZones electricInput electricEnded chargeElectric chargeBattery faultEnd endRefusal timeAvailable checked unlessRefused chargedBattery runAnswer demandGiven demandEnergy charge stepOf advanceOf commitPlace callLength markOk givenAt demandAt demandCall callBy callOf cardLength cardAt zonesAt zonesBytes totalsBytes stateLength stateAt stateBytes recordLength recordOf recordBytes headLength answerLength answerAt headBytes answerBytes marksOk sameNumber sameZones sameTotals agrees lineLength lineSize lineBytes openingLength openingBytes openKnown ofVersion openOf renewed lineAfter recordLaid callPart answerPart following headOk lineCall judge auditLine auditFrom cardLineOk auditLines auditCard auditOf entryRead entryKnown entryOf ofBits toBits ofInt add sub mul div neg lt le eq fits
+example = ((refl, refl, refl, refl), (refl, refl, refl, refl))

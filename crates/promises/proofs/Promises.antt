@@ -3,10 +3,13 @@ use mathlib.Core.Path.{refl}
 use Rattle.substep.proofs.Logarithms.{logarithms-taken}
 use Rattle.sheet_lines.proofs.Agreement.{same-number-self}
 use Rattle.auditor.specs.Rules.{plain}
-use Rattle.heat_battery.proofs.OpenCases.{open-0, open-1, open-2, open-3, open-4, open-10, open-11, open-codes, refused-opening-keeps}
-use Rattle.heat_battery.proofs.CallCases.{call-10, call-11, call-codes, refused-call-keeps, refusal-line-keeps}
+use Rattle.engine.proofs.Times.{hydronic-time, running-stays}
+use Rattle.engine.proofs.Versions.{hydronic-alike, others-equal}
+use Rattle.heat_battery.proofs.OpenCases.{open-1, open-2, open-3, open-4, open-10, open-11}
+use Rattle.heat_battery.proofs.CallCases.{call-10, call-11}
 use Rattle.heat_battery.proofs.CallNumbers.{call-20, call-21, call-22, call-23, call-24, call-25}
-use Rattle.heat_battery.proofs.OwnCases.{own-10, own-20, own-21, own-22, own-23, own-24, own-25, own-codes}
+use Rattle.heat_battery.proofs.OwnCases.{own-10, own-20, own-21, own-22, own-23, own-24, own-25}
+use Rattle.heat_battery.proofs.AnyVersion as any
 use Rattle.heat_battery.proofs.EqualSteps.{sheet-equal-to-steps}
 use Rattle.entries.proofs.OwnRecordLaws.{refused-record-stays, places-above-stay}
 use Rattle.auditor.specs.Audit.{limitedAuditOf}
@@ -16,18 +19,18 @@ use Rattle.auditor.proofs.Words.{verdict-given, plain-given, same-verdict, word
 use Rattle.auditor.proofs.Fields.{fields-accept, fields-refuse, fields-word}
 use Rattle.promises.proofs.Directions.{directions}
 use Rattle.promises.proofs.Charged.{charged-total}
-use Rattle.promises.specs.Promises.{OpeningNumbers, CallNumbers, OwnRecordNumbers, AuditVerdicts, AuditorVerdicts, RefusedOpeningChangesNothing, TenAndElevenChangeNothing, RefusalLineLeavesTheRecord, RefusedOwnRecordStays, PlacesAboveTheCountStay, EqualToTheSteps, Opening, AcceptsAList, AcceptsAListByRules, ExactlyWhen, ExactlyWhenInC, WordTellsTheVerdict, ExactlyWhenOfAnyLength, FieldsTellTheVerdict, BothAuditsAgree, ZonesMoveTheRightWay, ChargedTotalAddsUp, OpeningRefusals, CallRefusals, OwnRecordRefusals, AuditRefusals, LogarithmsCounted}
+use Rattle.promises.specs.Promises.{OpeningNumbers, CallNumbers, OwnRecordNumbers, AuditVerdicts, AuditorVerdicts, RefusedOpeningChangesNothing, CallWithoutLineChangesNothing, RefusalLineLeavesTheRecord, RefusedOwnRecordStays, PlacesAboveTheCountStay, EqualToTheSteps, Opening, AcceptsAList, AcceptsAListByRules, ExactlyWhen, ExactlyWhenInC, WordTellsTheVerdict, ExactlyWhenOfAnyLength, FieldsTellTheVerdict, BothAuditsAgree, ZonesMoveTheRightWay, ChargedTotalAddsUp, OpeningRefusals, CallRefusals, OwnRecordRefusals, AuditRefusals, FortyExactlyWhenUnknown, LogarithmsCounted, HydronicTime, RunningTotalsStay, OnlyTheTimeDiffers}
 use Rattle.promises.proofs.Numbers.{among-call, among-own}
 use Rattle.promises.proofs.AList.{a-list}
 
 pub opening-numbers : OpeningNumbers
-opening-numbers version known card rec free = open-codes version card rec free
+opening-numbers = any.open-numbers
 
 pub call-numbers : CallNumbers
-call-numbers version known rec call free = among-call _ (call-codes version rec call free)
+call-numbers version rec call free = among-call _ (any.call-numbers version rec call free)
 
 pub own-record-numbers : OwnRecordNumbers
-own-record-numbers version known b call = among-own _ (own-codes version b call)
+own-record-numbers version b call = among-own _ (any.own-numbers version b call)
 
 pub audit-verdicts : AuditVerdicts
 audit-verdicts = plain-given
@@ -36,28 +39,28 @@ pub auditor-verdicts : AuditorVerdicts
 auditor-verdicts = no-other
 
 pub refused-opening-changes-nothing : RefusedOpeningChangesNothing
-refused-opening-changes-nothing version known = refused-opening-keeps version
+refused-opening-changes-nothing = any.refused-opening-stays
 
-pub ten-and-eleven-change-nothing : TenAndElevenChangeNothing
-ten-and-eleven-change-nothing version known = refused-call-keeps version
+pub call-without-line-changes-nothing : CallWithoutLineChangesNothing
+call-without-line-changes-nothing = any.call-without-line-stays
 
 pub refusal-line-leaves-the-record : RefusalLineLeavesTheRecord
-refusal-line-leaves-the-record version known rec call free low high = refusal-line-keeps version rec call free low
+refusal-line-leaves-the-record = any.refusal-line-stays
 
 pub refused-own-record-stays : RefusedOwnRecordStays
-refused-own-record-stays version known = refused-record-stays version
+refused-own-record-stays = refused-record-stays
 
 pub places-above-the-count-stay : PlacesAboveTheCountStay
-places-above-the-count-stay version known = places-above-stay version
+places-above-the-count-stay = places-above-stay
 
 pub equal-to-the-steps : EqualToTheSteps
-equal-to-the-steps version known = sheet-equal-to-steps version
+equal-to-the-steps = sheet-equal-to-steps
 
 pub opening : Opening
-opening version known = open-0 version
+opening = any.opens-exactly
 
 pub accepts-a-list : AcceptsAList
-accepts-a-list version known card rec free calls = a-list plain same-number-self version known card rec free calls refl
+accepts-a-list version card rec free calls = a-list plain same-number-self version card rec free calls refl
 
 pub accepts-a-list-by-rules : AcceptsAListByRules
 accepts-a-list-by-rules = a-list
@@ -86,24 +89,27 @@ zones-move-the-right-way = directions
 pub charged-total-adds-up : ChargedTotalAddsUp
 charged-total-adds-up = charged-total
 
+pub forty-exactly-when-unknown : FortyExactlyWhenUnknown
+forty-exactly-when-unknown version = (any.open-40 version, any.call-40 version, any.own-40 version)
+
 pub opening-refusals : OpeningRefusals
 opening-refusals version known card rec free =
-    (open-1 version card rec free, open-2 version card rec free, open-3 version card rec free, open-4 version card rec free, open-10 version card rec free, open-11 version card rec free)
+    (open-1 version known card rec free, open-2 version known card rec free, open-3 version known card rec free, open-4 version known card rec free, open-10 version known card rec free, open-11 version known card rec free)
 
 pub call-refusals : CallRefusals
 call-refusals version known rec call free = (
-  call-10 version rec call free,
-  call-11 version rec call free,
-  call-20 version rec call free,
-  call-21 version rec call free,
-  call-22 version rec call free,
-  call-23 version rec call free,
-  call-24 version rec call free,
-  call-25 version rec call free,
+  call-10 version known rec call free,
+  call-11 version known rec call free,
+  call-20 version known rec call free,
+  call-21 version known rec call free,
+  call-22 version known rec call free,
+  call-23 version known rec call free,
+  call-24 version known rec call free,
+  call-25 version known rec call free,
 )
 
 pub own-record-refusals : OwnRecordRefusals
-own-record-refusals version known b call = (own-10 version b call, own-20 version b call, own-21 version b call, own-22 version b call, own-23 version b call, own-24 version b call, own-25 version b call)
+own-record-refusals version known b call = (own-10 version known b call, own-20 version known b call, own-21 version known b call, own-22 version known b call, own-23 version known b call, own-24 version known b call, own-25 version known b call)
 
 pub audit-refusals : AuditRefusals
 audit-refusals rules bs k =
@@ -111,3 +117,12 @@ audit-refusals rules bs k =
 
 pub logarithms-counted : LogarithmsCounted
 logarithms-counted = logarithms-taken
+
+pub hydronic-time-shown : HydronicTime
+hydronic-time-shown = hydronic-time
+
+pub running-totals-stay : RunningTotalsStay
+running-totals-stay = running-stays
+
+pub only-the-time-differs : OnlyTheTimeDiffers
+only-the-time-differs version other battery = (hydronic-alike version other battery, others-equal version other battery)

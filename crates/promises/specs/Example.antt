@@ -3,7 +3,6 @@ use Prim.Native.Nat.{ℕ}
 use mathlib.Core.List.{List, _∷_, _++_}
 use lib.ListN.{replicate}
 use Rattle.codec.specs.Bytes.{beBytes}
-use Rattle.card.specs.Version.{onlyVersion}
 
 -- an f64 by its bits
 abbrev num : ℕ → List ℕ
@@ -27,8 +26,8 @@ abbrev pub freshRecord : List ℕ
 freshRecord = recordAt 0x4044000000000000 0
 
 -- what opening writes: the version and line 0
-abbrev pub exampleOpening : List ℕ
-exampleOpening = onlyVersion ∷ (beBytes 2 158 ++ exampleCard)
+abbrev pub exampleOpening : ℕ → List ℕ
+exampleOpening version = version ∷ (beBytes 2 158 ++ exampleCard)
 
 -- an electric charge of 0.08 kW to level 1: answered, the zone at 56 °C, 0.08 kWh charged
 abbrev pub exampleCharge : List ℕ
@@ -52,5 +51,5 @@ refusedLine =
     ++ num 0x404C000000000000 ++ num 0 ++ num 0 ++ num 0 ++ num 0x3FB47AE147AE147B ++ num 0x3FB47AE147AE147B
 
 -- the sheet of the two
-abbrev pub exampleSheet : List ℕ
-exampleSheet = exampleOpening ++ chargeLine ++ refusedLine
+abbrev pub exampleSheet : ℕ → List ℕ
+exampleSheet version = exampleOpening version ++ chargeLine ++ refusedLine

@@ -1,8 +1,9 @@
 -- The promises: what the demands ask, each under its sentence, in the words of the crates below (the entries' openOf, entryOf and advancedOf, the auditor's
--- auditOf), for every known version: what A does takes it, and a sheet has its own. Each is a theorem of crates/promises/proofs/Promises.antt under the same name.
+-- auditOf), for every version: what A does takes it, a sheet has its own, and one that isn't known is 40. Each is a theorem of crates/promises/proofs/Promises.antt
+-- under the same name.
 use Prim.Native.Nat.{ℕ, _+_, _*_, _<_, _≤_}
 use mathlib.Core.Path.{_≡_}
-use mathlib.Core.Bool.{true}
+use mathlib.Core.Bool.{true, false, cond}
 use mathlib.Core.Logic.{_⊎_, _↔_}
 use mathlib.Core.List.{List, [], _∷_, _++_}
 use lib.ListN.{length, drop}
@@ -10,17 +11,27 @@ use lib.Ieee.{Float}
 use Rattle.floats.specs.Constants.{zero}
 use Rattle.codec.specs.Bytes.{over}
 use Rattle.zone.specs.declared.Salt.{Salt}
-use Rattle.card.specs.Version.{knownVersion}
-use Rattle.card.specs.Card.{OneOf, cardRefusals}
+use Rattle.zone.specs.Layer.{saltAt}
+use Rattle.card.specs.Version.{knownVersion, showsHydronicTime}
+use Rattle.card.specs.Derived.{saltsOf}
+use Rattle.card.specs.Card.{cardRefusal, OneOf, cardRefusals}
 use Rattle.card.specs.declared.Card.{Card}
 use Rattle.card.specs.declared.HeatBatteryPcm.{HeatBatteryPcm}
 use Rattle.battery.specs.Answer.{refusedWith}
 use Rattle.battery.specs.Battery.{fresh}
 use Rattle.battery.specs.Places.{SameAbove}
 use Rattle.battery.specs.declared.Battery.{Battery}
+use Rattle.battery.specs.declared.Hydronic.{Hydronic}
+use Rattle.battery.specs.declared.Call.{Call}
+use Rattle.battery.specs.declared.Call.the-variants.{ChargeHydronic}
 use Rattle.substep.specs.Substep.{logarithmsOf, processHeatBatteryZones}
 use Rattle.substep.specs.declared.SubstepInput.{SubstepInput}
 use Rattle.substep.specs.declared.Fault.the-variants.{Logarithm}
+use Rattle.runs.specs.Zoned.{zoned}
+use Rattle.runs.specs.Charge.{hydronicStart}
+use Rattle.engine.specs.Steps.{wetOf, stepOf}
+use Rattle.engine.specs.Budget.{hydronicTaskOf, hydronicRunOf}
+use Rattle.engine.specs.Times.{TimeRun, withTime}
 use Rattle.engine.specs.Cases.{Case20, Case21, Case22, Case23, Case24, Case25}
 use Rattle.sheet_records.specs.Cards.{cardAt}
 use Rattle.sheet_records.specs.Records.{recordOf}
@@ -30,7 +41,7 @@ use Rattle.entries.specs.Entry.{unchanged, openOf}
 use Rattle.entries.specs.Record.{advancedOf}
 use Rattle.heat_battery.specs.Entries.{entryOf}
 use Rattle.heat_battery.specs.Cases.{OpenCase1, OpenCase2, OpenCase3, OpenCase4, OpenCase10, OpenCase11, Opens, CallCase10, CallCase11, LineCase, OwnCase10, OwnCase}
-use Rattle.heat_battery.specs.Lists.{sheetOf, freeAfterSheet, sparedOf, stepLines, SheetOfSteps}
+use Rattle.heat_battery.specs.Lists.{ListedCall, AllGiven, sheetOf, freeAfterSheet, sparedOf, stepLines, SheetOfSteps}
 use Rattle.auditor.specs.declared.Verdict.the-variants.{Accepted, Refused}
 use Rattle.auditor.specs.Rules.{Rules, plain, NoLooser}
 use Rattle.auditor.specs.Audit.{limit, auditOf, limitedAuditOf, verdictWord, verdictFields}
@@ -39,18 +50,16 @@ use Rattle.auditor.specs.Cases.{NoVersion, NoCard, CardNotTaken, BadLine, Disag
 use Rattle.promises.specs.Claims.{AllDirected, AllSummed}
 
 -- ---- 1: 'A caller of any entry, with any numbers and any bytes, gets an answer or a refusal of document 01': the contracts of the five C entries
--- (crates/heat_battery/src/lib.rt) equate what each returns and leaves with openOf, entryOf and advancedOf of the version that they write, and with limitedAuditOf and auditOf of `plain`; these are their numbers, 0 for an answer
+-- (crates/heat_battery/src/lib.rt) equate what each returns and leaves with openOf, entryOf and advancedOf of the version that it is given, and with limitedAuditOf and auditOf of `plain`; these are their numbers, 0 for an answer
 
 abbrev pub OpeningNumbers : Type 0
-OpeningNumbers = (version : ℕ) → knownVersion version ≡ true → (card rec free : List ℕ) → OneOf (0 ∷ 10 ∷ 11 ∷ cardRefusals) (openOf version card rec free .code)
+OpeningNumbers = (version : ℕ) (card rec free : List ℕ) → OneOf (0 ∷ 10 ∷ 11 ∷ 40 ∷ cardRefusals) (openOf version card rec free .code)
 
 abbrev pub CallNumbers : Type 0
-CallNumbers =
-    (version : ℕ) → knownVersion version ≡ true → (rec call free : List ℕ) → OneOf (0 ∷ 10 ∷ 11 ∷ 20 ∷ 21 ∷ 22 ∷ 23 ∷ 24 ∷ 25 ∷ []) (entryOf version rec call free .code)
+CallNumbers = (version : ℕ) (rec call free : List ℕ) → OneOf (0 ∷ 10 ∷ 11 ∷ 20 ∷ 21 ∷ 22 ∷ 23 ∷ 24 ∷ 25 ∷ 40 ∷ []) (entryOf version rec call free .code)
 
 abbrev pub OwnRecordNumbers : Type 0
-OwnRecordNumbers =
-    (version : ℕ) → knownVersion version ≡ true → (battery : Battery) (call : List ℕ) → OneOf (0 ∷ 10 ∷ 20 ∷ 21 ∷ 22 ∷ 23 ∷ 24 ∷ 25 ∷ []) (advancedOf version battery call .shown .refusal)
+OwnRecordNumbers = (version : ℕ) (battery : Battery) (call : List ℕ) → OneOf (0 ∷ 10 ∷ 20 ∷ 21 ∷ 22 ∷ 23 ∷ 24 ∷ 25 ∷ 40 ∷ []) (advancedOf version battery call .shown .refusal)
 
 -- accepted, 40 or 41 at line 0, 42 or 43 at a call line, or 44 at line 0
 abbrev pub AuditVerdicts : Type 0
@@ -64,45 +73,47 @@ AuditorVerdicts = (bs : List ℕ) (r i : ℕ) → auditOf plain bs ≡ Refused r
 
 abbrev pub RefusedOpeningChangesNothing : Type 0
 RefusedOpeningChangesNothing =
-    (version : ℕ) → knownVersion version ≡ true → (card rec free : List ℕ) → (openOf version card rec free .code ≡ 0 → ⊥) → openOf version card rec free ≡ unchanged (openOf version card rec free .code) rec free
+    (version : ℕ) (card rec free : List ℕ) → (openOf version card rec free .code ≡ 0 → ⊥) → openOf version card rec free ≡ unchanged (openOf version card rec free .code) rec free
 
-abbrev pub TenAndElevenChangeNothing : Type 0
-TenAndElevenChangeNothing =
-    (version : ℕ) → knownVersion version ≡ true → (rec call free : List ℕ) → (entryOf version rec call free .code ≡ 10) ⊎ (entryOf version rec call free .code ≡ 11)
+-- 10, 11 and 40
+abbrev pub CallWithoutLineChangesNothing : Type 0
+CallWithoutLineChangesNothing =
+    (version : ℕ) (rec call free : List ℕ) → OneOf (10 ∷ 11 ∷ 40 ∷ []) (entryOf version rec call free .code)
     → entryOf version rec call free ≡ unchanged (entryOf version rec call free .code) rec free
 
 -- 20 to 25: 'A refusal line shows energy 0, outlet absent, time 0, substeps 0, and zones and totals as before'
 abbrev pub RefusalLineLeavesTheRecord : Type 0
 RefusalLineLeavesTheRecord =
-    (version : ℕ) → knownVersion version ≡ true → (rec call free : List ℕ) → 20 ≤ entryOf version rec call free .code → entryOf version rec call free .code ≤ 25
+    (version : ℕ) (rec call free : List ℕ) → 20 ≤ entryOf version rec call free .code → entryOf version rec call free .code ≤ 25
     → (entryOf version rec call free .record' ≡ rec)
     × (entryOf version rec call free .sheet ≡ over (lineBytes version call (refusedWith (entryOf version rec call free .code) (recordOf version rec))) free)
 
 abbrev pub RefusedOwnRecordStays : Type 0
 RefusedOwnRecordStays =
-    (version : ℕ) → knownVersion version ≡ true → (battery : Battery) (call : List ℕ) → (advancedOf version battery call .shown .refusal ≡ 0 → ⊥) → advancedOf version battery call .battery ≡ battery
+    (version : ℕ) (battery : Battery) (call : List ℕ) → (advancedOf version battery call .shown .refusal ≡ 0 → ⊥) → advancedOf version battery call .battery ≡ battery
 
 -- 'places above the count .. are never written': whatever the caller's own record holds there stays, answered or refused
 abbrev pub PlacesAboveTheCountStay : Type 0
-PlacesAboveTheCountStay =
-    (version : ℕ) → knownVersion version ≡ true → (battery : Battery) (call : List ℕ) → SameAbove (battery .card .layers) (battery .zones) (advancedOf version battery call .battery .zones)
+PlacesAboveTheCountStay = (version : ℕ) (battery : Battery) (call : List ℕ) → SameAbove (battery .card .layers) (battery .zones) (advancedOf version battery call .battery .zones)
 
 -- ---- 2: 'engine, sheet writer and sheet reader are proved against 01's steps'
 
--- after every list of calls the record and each line are the encodings of the steps' state and answer
+-- after every list of calls the record and each line are the encodings of the steps' state and answer. Document 02, Three: 'The caller gives every call of a sheet
+-- the version it was opened with; demand 3 speaks of such lists'
 abbrev pub EqualToTheSteps : Type 0
 EqualToTheSteps =
-    (version : ℕ) → knownVersion version ≡ true → (card rec free : List ℕ) → Opens version card rec free → (calls : List (List ℕ)) → SheetOfSteps version card rec free calls
+    (version : ℕ) → knownVersion version ≡ true → (card rec free : List ℕ) → Opens version card rec free → (calls : List ListedCall) → AllGiven version calls
+    → SheetOfSteps version card rec free calls
 
 -- ---- 3: 'For every accepted card that opens A's sheet'
 
 abbrev pub Opening : Type 0
-Opening = (version : ℕ) → knownVersion version ≡ true → (card rec free : List ℕ) → (openOf version card rec free .code ≡ 0) ↔ Opens version card rec free
+Opening = (version : ℕ) (card rec free : List ℕ) → (openOf version card rec free .code ≡ 0) ↔ ((knownVersion version ≡ true) × Opens version card rec free)
 
 -- 'and every list of calls from a fresh battery (any kind, any fields, refused ones included), B accepts the sheet that A then has, however few bytes were free.'
 -- `free` is the lent buffer, `calls` are any bytes whatsoever.
-pub record AList (rules : Rules) (version : ℕ) (card rec free : List ℕ) (calls : List (List ℕ)) : Type 0 where
-  -- as many lines as calls that 10 and 11 spared
+pub record AList (rules : Rules) (version : ℕ) (card rec free : List ℕ) (calls : List ListedCall) : Type 0 where
+  -- as many lines as calls that got one
   pub verdict : auditOf rules (sheetOf version card rec free calls) ≡ Accepted (length (sparedOf version card rec free calls))
   -- the version, line 0 and, for each such call in order, a line with the call's own bytes and the steps' answer
   pub bytes : sheetOf version card rec free calls ≡ openingBytes version card ++ stepLines version (fresh (cardAt version card)) (sparedOf version card rec free calls)
@@ -113,14 +124,14 @@ pub record AList (rules : Rules) (version : ℕ) (card rec free : List ℕ) (cal
 
 abbrev pub AcceptsAList : Type 0
 AcceptsAList =
-    (version : ℕ) → knownVersion version ≡ true → (card rec free : List ℕ) (calls : List (List ℕ)) → openOf version card rec free .code ≡ 0
+    (version : ℕ) (card rec free : List ℕ) (calls : List ListedCall) → openOf version card rec free .code ≡ 0 → AllGiven version calls
     → AList plain version card rec free calls
 
 -- the same of every audit whose comparison accepts a finite number beside itself, and which takes the card
 abbrev pub AcceptsAListByRules : Type 0
 AcceptsAListByRules =
-    (rules : Rules) → AcceptsItself (rules .same) → (version : ℕ) → knownVersion version ≡ true → (card rec free : List ℕ) (calls : List (List ℕ))
-    → rules .test version (cardAt version card) ≡ true → openOf version card rec free .code ≡ 0 → AList rules version card rec free calls
+    (rules : Rules) → AcceptsItself (rules .same) → (version : ℕ) (card rec free : List ℕ) (calls : List ListedCall) → rules .test version (cardAt version card) ≡ true
+    → openOf version card rec free .code ≡ 0 → AllGiven version calls → AList rules version card rec free calls
 
 -- 'Whatever bytes B is handed, it accepts them exactly when they have 01's layout, their card is accepted and every call line agrees with 01's steps for the calls up to it.'
 -- Of every comparison and card test: document 01's are `plain`.
@@ -167,6 +178,14 @@ ChargedTotalAddsUp =
 
 -- ---- document 01: 'Each is given only in its case', and in its case it is given
 
+-- document 02, Three: 'an unknown one is 40 there, before all', and only an unknown one
+abbrev pub FortyExactlyWhenUnknown : Type 0
+FortyExactlyWhenUnknown =
+    (version : ℕ)
+    → ((card rec free : List ℕ) → (openOf version card rec free .code ≡ 40) ↔ (knownVersion version ≡ false))
+    × ((rec call free : List ℕ) → (entryOf version rec call free .code ≡ 40) ↔ (knownVersion version ≡ false))
+    × ((battery : Battery) (call : List ℕ) → (advancedOf version battery call .shown .refusal ≡ 40) ↔ (knownVersion version ≡ false))
+
 abbrev pub OpeningRefusals : Type 0
 OpeningRefusals =
     (version : ℕ) → knownVersion version ≡ true → (card rec free : List ℕ)
@@ -179,7 +198,7 @@ CallRefusals =
     (version : ℕ) → knownVersion version ≡ true → (rec call free : List ℕ)
     → ((entryOf version rec call free .code ≡ 10) ↔ CallCase10 version rec call) × ((entryOf version rec call free .code ≡ 11) ↔ CallCase11 version rec call free)
     × ((entryOf version rec call free .code ≡ 20) ↔ LineCase Case20 version rec call free) × ((entryOf version rec call free .code ≡ 21) ↔ LineCase Case21 version rec call free)
-    × ((entryOf version rec call free .code ≡ 22) ↔ LineCase Case22 version rec call free) × ((entryOf version rec call free .code ≡ 23) ↔ LineCase Case23 version rec call free)
+    × ((entryOf version rec call free .code ≡ 22) ↔ LineCase Case22 version rec call free) × ((entryOf version rec call free .code ≡ 23) ↔ LineCase (Case23 version) version rec call free)
     × ((entryOf version rec call free .code ≡ 24) ↔ LineCase Case24 version rec call free) × ((entryOf version rec call free .code ≡ 25) ↔ LineCase Case25 version rec call free)
 
 abbrev pub OwnRecordRefusals : Type 0
@@ -187,7 +206,7 @@ OwnRecordRefusals =
     (version : ℕ) → knownVersion version ≡ true → (battery : Battery) (call : List ℕ)
     → ((advancedOf version battery call .shown .refusal ≡ 10) ↔ OwnCase10 version battery call)
     × ((advancedOf version battery call .shown .refusal ≡ 20) ↔ OwnCase Case20 version battery call) × ((advancedOf version battery call .shown .refusal ≡ 21) ↔ OwnCase Case21 version battery call)
-    × ((advancedOf version battery call .shown .refusal ≡ 22) ↔ OwnCase Case22 version battery call) × ((advancedOf version battery call .shown .refusal ≡ 23) ↔ OwnCase Case23 version battery call)
+    × ((advancedOf version battery call .shown .refusal ≡ 22) ↔ OwnCase Case22 version battery call) × ((advancedOf version battery call .shown .refusal ≡ 23) ↔ OwnCase (Case23 version) version battery call)
     × ((advancedOf version battery call .shown .refusal ≡ 24) ↔ OwnCase Case24 version battery call) × ((advancedOf version battery call .shown .refusal ≡ 25) ↔ OwnCase Case25 version battery call)
 
 -- 70 is given by no audit that takes every card, as document 01's (AuditorVerdicts)
@@ -207,3 +226,26 @@ LogarithmsCounted =
     (card : Card) (pcm : HeatBatteryPcm) (salts : ℕ → Salt) (input : SubstepInput) (zones : List Float)
     → (processHeatBatteryZones card pcm salts input zones .fault ≡ Logarithm → ⊥)
     → processHeatBatteryZones card pcm salts input zones .logarithms ≡ logarithmsOf (input .mode)
+
+-- Three: 'From sheet version 2 its time is the f64 sum, in order, of the substeps run, one whose outlet ends the loop too; where the limit ends the run with a replayed
+-- substep, substep × fraction replaces the last one.' Every answered hydronic charge shows so much, and in version 1 it shows 0
+abbrev pub HydronicTime : Type 0
+HydronicTime =
+    (version : ℕ) (battery : Battery) (hydronic : Hydronic) → stepOf version battery (ChargeHydronic hydronic) .refusal ≡ 0
+    → (stepOf version battery (ChargeHydronic hydronic) .time ≡ cond (showsHydronicTime version) (hydronicRunOf battery hydronic .part .state .time) zero)
+    × TimeRun (hydronicTaskOf battery hydronic) (saltAt (saltsOf (battery .card))) (zoned (hydronicStart (battery .card) (wetOf hydronic)) (battery .zones)) (hydronicRunOf battery hydronic .part)
+
+-- 'Running totals don't change', answered or refused
+abbrev pub RunningTotalsStay : Type 0
+RunningTotalsStay =
+    (version : ℕ) (battery : Battery) (hydronic : Hydronic)
+    → (stepOf version battery (ChargeHydronic hydronic) .battery .total ≡ battery .total) × (stepOf version battery (ChargeHydronic hydronic) .battery .pump ≡ battery .pump)
+    × (stepOf version battery (ChargeHydronic hydronic) .battery .direct ≡ battery .direct)
+
+-- and nothing else depends on the version: in two of them a hydronic charge on an accepted card is answered or refused alike but for its time, and every other call in all
+abbrev pub OnlyTheTimeDiffers : Type 0
+OnlyTheTimeDiffers =
+    (version other : ℕ) (battery : Battery)
+    → (cardRefusal version (battery .card) ≡ 0 → (hydronic : Hydronic)
+    → stepOf version battery (ChargeHydronic hydronic) ≡ withTime (stepOf version battery (ChargeHydronic hydronic) .time) (stepOf other battery (ChargeHydronic hydronic)))
+    × ((call : Call) → ((hydronic : Hydronic) → call ≡ ChargeHydronic hydronic → ⊥) → stepOf version battery call ≡ stepOf other battery call)

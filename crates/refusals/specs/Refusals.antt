@@ -62,7 +62,7 @@ overFull = 25
 
 -- ---- 'The sheet's sender'
 
--- 'no first byte or not 1'
+-- document 02, Three: 'a first byte that is missing or no known version'; the caller's too: 'an unknown one is 40 there, before all'
 abbrev pub noVersion : ℕ
 noVersion = 40
 

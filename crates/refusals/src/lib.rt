@@ -29,7 +29,7 @@ pub const NO_LOGARITHM: u8 = 24;
 
 pub const OVER_FULL: u8 = 25;
 
-// Of a sheet.
+// Of a sheet; of any entry that is given the version.
 pub const NO_VERSION: u8 = 40;
 
 pub const BAD_CARD: u8 = 41;

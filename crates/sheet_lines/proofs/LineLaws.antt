@@ -10,7 +10,6 @@ use Rattle.floats.specs.Constants as Constants
 use Rattle.codec.specs.Bytes.{beAt, beBytes, f64Bytes}
 use Rattle.codec.proofs.Laws.{length-beBytes}
 use Rattle.codec.proofs.Places.{bytes-here, number-here, byte-here}
-use Rattle.card.specs.Version.{onlyVersion}
 use Rattle.card.specs.declared.Card.{Card}
 use Rattle.battery.specs.declared.Battery.{Battery}
 use Rattle.battery.specs.declared.Answer.{Answer}
@@ -104,15 +103,15 @@ pub record Closing (b : Battery) : Type 0 where
   pub charged : b .charged ≡ Constants.zero
   pub electric : b .electric ≡ Constants.zero
 
-pub closing-line : (b : Battery) → Closing b → lineBytes onlyVersion (5 ∷ []) (plainAnswer Constants.zero b)
+pub closing-line : (version : ℕ) (b : Battery) → Closing b → lineBytes version (5 ∷ []) (plainAnswer Constants.zero b)
     ≡ 0x00 ∷ 0x4f ∷ 5 ∷ (replicate 30 0 ++ (0x40 ∷ 0x4e ∷ replicate 46 0))
 unfolding lineBytes lineLength plainAnswer answerLength headLength stateLength answerBytes headBytes stateBytes zonesBytes totalsBytes f64Bytes beBytes toBits ofBits
-closing-line b c = rw (c .layers, c .zone, c .total, c .pump, c .direct, c .charged, c .electric)
+closing-line version b c = rw (c .layers, c .zone, c .total, c .pump, c .direct, c .charged, c .electric)
 
 -- and its call is the closing of a timestep
-pub closing-call : callOf onlyVersion (5 ∷ []) ≡ Good CloseTimestep
+pub closing-call : (version : ℕ) → callOf version (5 ∷ []) ≡ Good CloseTimestep
 unfolding callOf callLength callBy bareCall
-closing-call = refl
+closing-call version = refl
 
 -- what a call's line says of its length fits two bytes
 pub line-fits : (version : ℕ) (card : Card) (n : ℕ) → card .layers ≤ 64 → n ≤ 73 → lineLength version card n < 65536

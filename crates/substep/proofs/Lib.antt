@@ -7,3 +7,4 @@ pub mod Ordered
 pub mod OneLoop
 pub mod Warmth
 pub mod Logarithms
+pub mod Seconds

@@ -1,14 +1,14 @@
 // Id 51: a call on the battery that the last record left.
 use battery::Answer;
-use vectors_words::cards::VERSION;
 
 fn advanced(bytes: &[u8], held: &[u8]) -> Answer {
+    let version = vectors_lists::version(held);
     let b = vectors_lists::battery(held);
     let call = vectors_lists::calls::read(bytes);
     let l = battery::ledger_of(b);
     let zones = b.zones;
-    if battery::is_accepted(VERSION, l, &zones) {
-        return engine::steps::advance(VERSION, b, call);
+    if battery::is_accepted(version, l, &zones) {
+        return engine::steps::advance(version, b, call);
     }
     battery::answers::refused(refusals::BAD_CALL, b)
 }

@@ -1,5 +1,5 @@
 // Lists of calls on one battery, ids 50 and 51 of rust/oracle/VECTORS.md, but for the engine: calls, batteries and answers in words.
-// Between the records of a list the battery is held as the words of record 50: card, zones, five totals. Where they have no layers,
+// Between the records of a list the battery is held as the words of record 50: card, zones, five totals, version. Where they have no layers,
 // every call is refused with 10, which no record has.
 pub mod calls;
 
@@ -12,10 +12,11 @@ const ZONES: usize = 24;
 // Id 50.
 pub fn start(bytes: &[u8], held: &mut [u8]) {
     let n = vectors_words::count(bytes, 23);
-    if logic::all_three(
-        vectors_words::has(bytes, n + 29),
+    if logic::all_four(
+        vectors_words::has(bytes, n + 30),
         vectors_words::word_is(bytes, 0, n as u64),
         n <= 64,
+        card::version::known_version(vectors_words::small(bytes, n + 29)),
     ) {
         vectors_words::set(held, bytes);
     } else {
@@ -31,6 +32,12 @@ fn zones_of(layers: u8) -> usize
         return layers as usize;
     }
     0
+}
+
+// The version of the words held.
+pub fn version(bytes: &[u8]) -> u8 {
+    let n = zones_of(vectors_words::small(bytes, 0));
+    vectors_words::small(bytes, n + 29)
 }
 
 // The battery of the words held.

@@ -1,8 +1,8 @@
 // Cards of 23 words.
 use card::Card;
 
-// The version of the cards and calls in words.
-pub const VERSION: u8 = card::version::ONLY_VERSION;
+// The version of a card without a list of calls.
+pub const VERSION: u8 = card::version::OLDEST_VERSION;
 
 // The card of the first 23 words.
 pub fn read(bytes: &[u8]) -> Card {

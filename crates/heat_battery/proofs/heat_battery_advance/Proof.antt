@@ -29,7 +29,7 @@ use sound.WpLaws.{FmC, fmOf, WpFn-mono}
 use denote.RattleType.{owns, flat}
 use denote.Laws.{Is, shows}
 use denote.Memory.{mem}
-use denote.Plain.{uint-vals, uint-makes}
+use denote.Plain.{uint-vals, uint-tells, uint-makes, uint-lawful}
 use denote.Builtin.{u8, f64}
 use denote.Floats.{float-lawful}
 use denote.Ref.{RefT, MutRef, ptr-vals, mut-tells}
@@ -47,8 +47,6 @@ use denote.Triple.Spec.{Meets, tripleOf}
 use denote.Triple.Table.{entered, cited}
 use denote.Triple.Walked.{says, Stays, stay-ref, stay-dropped, walkOf, AllGo, goes-dropped, goes-ref, Walks, ends-at, walked, walk-meets}
 use denote.Exit.{yes}
-use Rattle.card.specs.Version.{onlyVersion}
-use Rattle.card.proofs.Versions.{only-known, known-byte}
 use Rattle.battery.specs.Ledger.{whole as wholeOf, ledgerOf}
 use Rattle.battery.specs.declared.Battery.{Battery}
 use Rattle.battery.specs.declared.Ledger.{Ledger}
@@ -80,7 +78,7 @@ use Rattle.heat_battery.proofs.heat_battery_advance.Code.Mir as mir
 
 -- what is had of each parameter at exit
 abbrev stayed : Stays (f.ended .signature .params) (f.ended .kept)
-stayed = (stay-ref (0 ∷ []) tt (plain (λ _. T.the-row)), (stay-dropped (shrSliceOf (1 ∷ []) tt (plain (λ _. u8))) yes, tt))
+stayed = (stay-dropped (plain (λ _. u8)) yes, (stay-ref (0 ∷ []) tt (plain (λ _. T.the-row)), (stay-dropped (shrSliceOf (1 ∷ []) tt (plain (λ _. u8))) yes, tt)))
 
 -- the machine values of a ledger
 abbrev ledger-vals : Ledger → List Val
@@ -100,14 +98,14 @@ K 𝓤 H A mem run = tripleOf 𝓤 H A k.signature (k.spec 𝓤 H A mem run)
 abbrev G : {M : Type 1} (𝓤 : URA M) (H : Heap 𝓤) (A : Atoms 𝓤) (mem : Memory → SProp 𝓤) (run : Routine → Fun 𝓤) → Contract 𝓤
 G 𝓤 H A mem run = tripleOf 𝓤 H A g.signature (g.spec 𝓤 H A mem run)
 
-module _ {M : Type 1} (𝓤 : URA M) (H : Heap 𝓤) (A : Atoms 𝓤) (W : Given 𝓤 H A) (at-mem : Memory → SProp 𝓤) (run : Routine → Fun 𝓤) (κ₀ κ₁ : Lft) (q₀ q₁ : Share) (b o : ℕ) (γ : GName) (h : Battery)
+module _ {M : Type 1} (𝓤 : URA M) (H : Heap 𝓤) (A : Atoms 𝓤) (W : Given 𝓤 H A) (at-mem : Memory → SProp 𝓤) (run : Routine → Fun 𝓤) (κ₀ κ₁ : Lft) (q₀ q₁ : Share) (version : ℕ) (version-is : Is u8 version (uint-vals w8 version)) (b o : ℕ) (γ : GName) (h : Battery)
     (call : RefT (List ℕ)) (call-is : Is (ShrSlice (named 1) κ₁ u8) call (slice-vals call)) where
   -- this function's arguments and their machine values
   abbrev a : Args f.signature (κ₀, (κ₁, tt))
-  a = (record { ptr = (b, o); name = γ; now = h }, (call, tt))
+  a = (version, (record { ptr = (b, o); name = γ; now = h }, (call, tt)))
 
   abbrev vss : Vals f.signature (κ₀, (κ₁, tt))
-  vss = (vptr b o ∷ [], (slice-vals call, tt))
+  vss = (uint-vals w8 version, (vptr b o ∷ [], (slice-vals call, tt)))
 
   abbrev Post : Val → SProp 𝓤
   Post = walkOf 𝓤 H A f.ended stayed (f.clauses 𝓤 H A at-mem run) .post (((κ₀, (κ₁, tt)), (q₀, (q₁, tt)), tt, a, vss), tt)
@@ -132,10 +130,10 @@ module _ {M : Type 1} (𝓤 : URA M) (H : Heap 𝓤) (A : Atoms 𝓤) (W : Given
     lent = record { ptr = (b, o + 160); name = γ′; now = spread (h .zones) }
 
     abbrev a′ : Args g.signature κs′
-    a′ = (onlyVersion, (l, (call, (lent, tt))))
+    a′ = (version, (l, (call, (lent, tt))))
 
     abbrev to-apart : G 𝓤 H A at-mem run .Ghost
-    to-apart = ((κs′, (q₁, (fullShare, tt)), tt, a′, (uint-vals w8 onlyVersion, (ledger-vals l, (slice-vals call, (vptr b (o + 160) ∷ [], tt))))), tt)
+    to-apart = ((κs′, (q₁, (fullShare, tt)), tt, a′, (uint-vals w8 version, (ledger-vals l, (slice-vals call, (vptr b (o + 160) ∷ [], tt))))), tt)
 
     abbrev handed : List (Item 𝓤)
     handed = (‵ (flft κ₁ q₁) ⊛ ‵ ftrue) ∷ ‵ (flft (α ∷ []) fullShare) ∷ ‵ (ShrSlice (named 1) κ₁ u8 .own call (slice-vals call)) ∷ ‵ (MutRef (named 1) (α ∷ []) Zones .own lent (vptr b (o + 160) ∷ [])) ∷ []
@@ -143,33 +141,33 @@ module _ {M : Type 1} (𝓤 : URA M) (H : Heap 𝓤) (A : Atoms 𝓤) (W : Given
     apart-operation : Is L.the-row l (ledger-vals l) → ent 𝓤 (⋆ 𝓤 H A handed) (G 𝓤 H A at-mem run .pre to-apart)
     apart-operation is =
         qed W handed ∵ split ! $ move ! (4 ∷ 1 ∷ []) $ fjoin ! $ move ! (3 ∷ 0 ∷ []) $ fjoin ! $
-        owned ! L.the-row (Is L.the-row) (LL.makes L.the-type L′.the-plain 𝓤 H A) l _ is $ fjoin ! $ owned ! u8 (Is u8) (uint-makes 𝓤 H A W w8) onlyVersion _ (refl, known-byte onlyVersion only-known) $ fjoin ! $ nothing ! $ move ! (3 ∷ 0 ∷ []) $ join ! $ move ! (2 ∷ 0 ∷ []) $ join ! $ join ! $ frame ! $ done !
+        owned ! L.the-row (Is L.the-row) (LL.makes L.the-type L′.the-plain 𝓤 H A) l _ is $ fjoin ! $ owned ! u8 (Is u8) (uint-makes 𝓤 H A W w8) version _ version-is $ fjoin ! $ nothing ! $ move ! (3 ∷ 0 ∷ []) $ join ! $ move ! (2 ∷ 0 ∷ []) $ join ! $ join ! $ frame ! $ done !
 
     -- what it ensures
     abbrev Said : Renewed → List Float → Type 0
-    Said r zs = renewedWith l r zs ≡ advancedOf onlyVersion (wholeOf l (spread (h .zones))) (call .now)
+    Said r zs = renewedWith l r zs ≡ advancedOf version (wholeOf l (spread (h .zones))) (call .now)
 
   abbrev at-end : Battery → List (Item 𝓤)
   at-end now = ‵ (fobs γ (T.the-row .coded .code now)) ∷ ‵ (fbor κ₀ (Body (mem T.the-row) b o γ)) ∷ ‵ (flft κ₀ q₀) ∷ (‵ (flft κ₁ q₁) ⊛ ‵ ftrue) ∷ []
 
-  exits : (r : Renewed) (now : Battery) → r .shown ≡ advancedOf onlyVersion h (call .now) .shown → now ≡ advancedOf onlyVersion h (call .now) .battery → Is P·Shown.the-row (r .shown) (shown-vals (r .shown)) → ent 𝓤 (⋆ 𝓤 H A (at-end now)) (Post (only (shown-vals (r .shown))))
+  exits : (r : Renewed) (now : Battery) → r .shown ≡ advancedOf version h (call .now) .shown → now ≡ advancedOf version h (call .now) .battery → Is P·Shown.the-row (r .shown) (shown-vals (r .shown)) → ent 𝓤 (⋆ 𝓤 H A (at-end now)) (Post (only (shown-vals (r .shown))))
   exits r now shown battery s-is =
       qed W (at-end now) ∵
-      suffices ! _ (ends-at 𝓤 H A f.ended stayed (f.clauses 𝓤 H A at-mem run) W (((κ₀, (κ₁, tt)), (q₀, (q₁, tt)), tt, a, vss), tt) (only (shown-vals (r .shown))) (r .shown) (now, (tt, tt)) (tt, (tt, tt))) $
+      suffices ! _ (ends-at 𝓤 H A f.ended stayed (f.clauses 𝓤 H A at-mem run) W (((κ₀, (κ₁, tt)), (q₀, (q₁, tt)), tt, a, vss), tt) (only (shown-vals (r .shown))) (r .shown) (tt, (now, (tt, tt))) (tt, (tt, (tt, tt)))) $
       says ! (shown, battery) $
-      move ! (2 ∷ 3 ∷ []) $ join ! $ frame ! $ feqI ! (List Val) (vptr b o ∷ []) (vptr b o ∷ []) refl $ fjoin3 ! $ nothing ! $ nothing ! $ fjoin ! $ move ! (1 ∷ 0 ∷ []) $ fjoin ! $
+      move ! (2 ∷ 3 ∷ []) $ join ! $ frame ! $ feqI ! (List Val) (vptr b o ∷ []) (vptr b o ∷ []) refl $ fjoin3 ! $ nothing ! $ nothing ! $ fjoin ! $ move ! (1 ∷ 0 ∷ []) $ fjoin ! $ nothing ! $ fjoin ! $
       owned ! P·Shown.the-row (Is P·Shown.the-row) (LL.makes P·Shown.the-type P·Shown′.the-plain 𝓤 H A) (r .shown) _ s-is $ move ! (1 ∷ 0 ∷ []) $ done !
 
   module _ (C : Calls 𝓤 H) (Λ : Loops 𝓤 H) (fm : FmC 𝓤 H (W .laws) C) (ledger-known : Triple 𝓤 (C #k) (K 𝓤 H A at-mem run)) (known : Triple 𝓤 (C #g) (G 𝓤 H A at-mem run)) where
-    walk : ent 𝓤 (onEntry 𝓤 H A f.signature (κ₀, (κ₁, tt)) (q₀, (q₁, tt)) a vss) (WpFn 𝓤 H C Λ code.function (flat (MutRef (named 0) κ₀ T.the-row ∷ ShrSlice (named 1) κ₁ u8 ∷ []) vss) Post)
+    walk : ent 𝓤 (onEntry 𝓤 H A f.signature (κ₀, (κ₁, tt)) (q₀, (q₁, tt)) a vss) (WpFn 𝓤 H C Λ code.function (flat (u8 ∷ MutRef (named 0) κ₀ T.the-row ∷ ShrSlice (named 1) κ₁ u8 ∷ []) vss) Post)
     walk =
-        qed W ((‵ (flft κ₀ q₀) ⊛ ‵ (flft κ₁ q₁) ⊛ ‵ ftrue) ∷ ‵ (owns (MutRef (named 0) κ₀ T.the-row ∷ ShrSlice (named 1) κ₁ u8 ∷ []) a vss) ∷ []) ∵ enter ! C Λ code.function _ _ $
-        alloc1 ! (λ l₀. alloc1 ! (λ l₁. alloc1 ! (λ l₂. alloc1 ! (λ l₃. alloc1 ! (λ l₄. alloc1 ! (λ l₅. alloc1 ! (λ l₆. alloc1 ! (λ l₇. alloc0 ! $ params1 ! $
-        pass1 ! (init ! 12 refl (tt, tt)) $ pass1 ! (init ! 10 refl (shr-slice-lawful 𝓤 H A W (named 1) κ₁ u8 .typed call _ call-is .0)) $ pass0 ! $
-        move ! (17 ∷ []) $ fsplit ! $ fsplit3 ! $ drop ! $ move ! (2 ∷ []) $ fsplit ! $ move ! (20 ∷ []) $ split ! $ move ! (4 ∷ 5 ∷ 0 ∷ []) $
+        qed W ((‵ (flft κ₀ q₀) ⊛ ‵ (flft κ₁ q₁) ⊛ ‵ ftrue) ∷ ‵ (owns (u8 ∷ MutRef (named 0) κ₀ T.the-row ∷ ShrSlice (named 1) κ₁ u8 ∷ []) a vss) ∷ []) ∵ enter ! C Λ code.function _ _ $
+        alloc1 ! (λ l₀. alloc1 ! (λ l₁. alloc1 ! (λ l₂. alloc1 ! (λ l₃. alloc1 ! (λ l₄. alloc1 ! (λ l₅. alloc1 ! (λ l₆. alloc1 ! (λ l₇. alloc1 ! (λ l₈. alloc0 ! $ params1 ! $
+        pass1 ! (init ! 14 refl (uint-lawful 𝓤 H A W w8 .typed version _ version-is .0)) $ pass1 ! (init ! 12 refl (tt, tt)) $ pass1 ! (init ! 10 refl (shr-slice-lawful 𝓤 H A W (named 1) κ₁ u8 .typed call _ call-is .0)) $ pass0 ! $
+        move ! (19 ∷ []) $ fsplit ! $ drop ! $ fsplit ! $ fsplit3 ! $ drop ! $ move ! (2 ∷ []) $ fsplit ! $ move ! (22 ∷ []) $ split ! $ move ! (4 ∷ 5 ∷ 0 ∷ []) $
         opens ! tt T.the-row {h = h} b o (λ vs. spelt ! T.the-row (Is T.the-row) (shows 𝓤 H A T.the-row) vals (LL.tells T.the-type T′.the-laws) fullShare h vs b o $
         move ! (1 ∷ []) $ peeks ! T.the-row (Is T.the-row) (shows 𝓤 H A T.the-row) h (vals h) (λ was. drop ! $
-        -- [cell; open; obs; auth; tok; own call; rest; _7; …; _6; …; _5; …; _4; …; _3; …; _2; …; _1; …; _0; …]
+        -- [cell; open; obs; auth; tok; own call; rest; _8; …; _7; …; _6; …; _5; …; _4; …; _3; …; _2; …; _1; …; _0; …]
         assigns ! (of-opd ! (load ! (from ! (hop ! (look ! 19 refl) (stop !))) (look-raw ! 0 refl))) (from ! (stop !)) (init ! 11 refl (LL.lawful T.the-type T′.the-laws 𝓤 H A W .typed h (vals h) was .0)) $
         use0 W (raw (K 𝓤 H A at-mem run .pre to-ledger)) (ledger-operation was) $
         calls-at ! fm (K 𝓤 H A at-mem run) ledger-known to-ledger (and-then ! (load ! (from ! (stop !)) (look ! 12 refl)) (no-more !)) (λ u.
@@ -177,25 +175,25 @@ module _ {M : Type 1} (𝓤 : URA M) (H : Heap 𝓤) (A : Atoms 𝓤) (W : Given
         split ! $ move ! (1 ∷ []) $ use1 W (some (λ (zs : Unit {0} × Unit {0}). ‵ (lasts k.ended tt (h, tt) zs) ⊛ raw (fact 𝓤 (l ≡ ledgerOf h)))) (id⊢ 𝓤 _) $ pick ! (λ _.
         split ! $ drop ! $ heard ! (l ≡ ledgerOf h) (λ ledger. split ! $ drop ! $ peeks ! L.the-row (Is L.the-row) (shows 𝓤 H A L.the-row) l (u ∷ []) (λ l-is. drop ! $
         land ! (from ! (stop !)) (init ! 15 refl (LL.lawful L.the-type L′.the-laws 𝓤 H A W .typed l _ l-is .0)) $
-        rewrite ! 15 (λ (w : Val). ‵ (fat fullShare L′.mir l₃ 0 w)) (ap only (LL.tells L.the-type L′.the-laws l (u ∷ []) l-is)) refl $
+        rewrite ! 15 (λ (w : Val). ‵ (fat fullShare L′.mir l₄ 0 w)) (ap only (LL.tells L.the-type L′.the-laws l (u ∷ []) l-is)) refl $
         assigns ! (addr ! (from ! (hop ! (look ! 19 refl) (fld ! refl (stop !))))) (from ! (stop !)) (init ! 9 refl (tt, tt)) $
         -- the zones are lent for a new lifetime
         use1 W (‵ (mem Zones .lies (spread (h .zones)) b (o + 160)) ⊛ raw (Way 𝓤 H A W h b o)) (taken-out 𝓤 H A W h b o was) $ split ! $ lft-new ! tt (λ α. move ! (1 ∷ []) $
         use1 W (later (some (λ (γ′ : GName). ‵ (MutRef (named 1) (α ∷ []) Zones .own (lent l α γ′) (vptr b (o + 160) ∷ [])) ⊛ ‵ (flent (α ∷ []) (Body (mem Zones) b (o + 160) γ′))))) (lends-ref 𝓤 H A W Zones (named 1) (α ∷ []) (spread (h .zones)) b (o + 160)) $
         await ! tt $ pick ! (λ γ′. split ! $
-        -- [own zones; lent; tok α; way back; open; obs; auth; tok; own call; rest; _7; …]
+        -- [own zones; lent; tok α; way back; open; obs; auth; tok; own call; rest; _8; …]
         move ! (7 ∷ 2 ∷ 8 ∷ 0 ∷ []) $ group ! 4 $ use1 W (raw (G 𝓤 H A at-mem run .pre (to-apart l α γ′))) (apart-operation l α γ′ (subst (Is L.the-row l) (LL.tells L.the-type L′.the-laws l (u ∷ []) l-is) l-is)) $
-        calls-at ! fm (G 𝓤 H A at-mem run) known (to-apart l α γ′) (and-then ! (lit ! tt) (and-then ! (load ! (from ! (stop !)) (look ! 15 refl)) (and-then ! (load ! (from ! (stop !)) (look ! 17 refl)) (and-then ! (load ! (from ! (stop !)) (look ! 9 refl)) (no-more !))))) (λ v.
+        calls-at ! fm (G 𝓤 H A at-mem run) known (to-apart l α γ′) (and-then ! (load ! (from ! (stop !)) (look ! 21 refl)) (and-then ! (load ! (from ! (stop !)) (look ! 15 refl)) (and-then ! (load ! (from ! (stop !)) (look ! 17 refl)) (and-then ! (load ! (from ! (stop !)) (look ! 9 refl)) (no-more !))))) (λ v.
         use1 W (later (some (λ (r : Renewed). ((‵ (flft κ₁ q₁) ⊛ ‵ (flft (α ∷ []) fullShare) ⊛ ‵ ftrue) ⊛ ‵ (S.the-row .own r (v ∷ []))) ⊛ raw (ensured 𝓤 H A g.ended (g.clauses 𝓤 H A at-mem run) (κs′ l α γ′) (a′ l α γ′) tt r)))) (id⊢ 𝓤 _) $ await ! tt $ pick ! (λ r.
         split ! $ move ! (1 ∷ []) $ use1 W (some (λ (ws : Lasts). ‵ (lasts g.ended (κs′ l α γ′) (a′ l α γ′) ws) ⊛ raw (fact 𝓤 (Said l α γ′ r (last ws))))) (id⊢ 𝓤 _) $ pick ! (λ ws.
         split ! $ fsplit ! $ drop ! $ fsplit ! $ drop ! $ fsplit ! $ drop ! $ fsplit ! $ move ! (2 ∷ []) $ heard ! (Said l α γ′ r (last ws)) (λ said. move ! (2 ∷ []) $ split ! $ split ! $ move ! (1 ∷ []) $ split ! $ lft-end ! tt $
-        -- [dead α; …; tok; out; last zones; …; lent; way back; open; obs; auth; rest; _7; …]
+        -- [dead α; …; tok; out; last zones; …; lent; way back; open; obs; auth; rest; _8; …]
         move ! (0 ∷ 6 ∷ 4 ∷ []) $ use3 W (later (‵ (mem Zones .lies (last ws) b (o + 160)))) (ref-back 𝓤 H A W Zones (α ∷ []) γ′ (last ws) b (o + 160)) $ await ! tt $
         move ! (0 ∷ 5 ∷ []) $ use2 W (given (Is Zones (spread (last ws)) (zones-val (last ws) ∷ [])) (put-back 𝓤 H A W h b o (zones-val (last ws)))) (put-in 𝓤 H A W h b o (last ws)) $ learn ! (λ are.
         move ! (3 ∷ []) $ peeks ! S.the-row (Is S.the-row) (shows 𝓤 H A S.the-row) r (v ∷ []) (λ is. drop ! $
-        -- [cell; …; tok; …; open; obs; auth; rest; _7; …; _6; …; _5; …; _4; …; _3; …; _2; …; _1; …; _0; …]
+        -- [cell; …; tok; …; open; obs; auth; rest; _8; …; _7; …; _6; …; _5; …; _4; …; _3; …; _2; …; _1; …; _0; …]
         land ! (from ! (stop !)) (init ! 14 refl (LL.lawful S.the-type S′.the-laws 𝓤 H A W .typed r _ is .0)) $
-        rewrite ! 14 (λ (w : Val). ‵ (fat fullShare S′.mir l₄ 0 w)) (ap only (LL.tells S.the-type S′.the-laws r (v ∷ []) is)) refl $
+        rewrite ! 14 (λ (w : Val). ‵ (fat fullShare S′.mir l₅ 0 w)) (ap only (LL.tells S.the-type S′.the-laws r (v ∷ []) is)) refl $
         assigns ! (bin ! (load ! (from ! (fld ! refl (fld ! refl (stop !)))) (look-in ! 14 (sub ! 0 refl (sub ! 1 refl (whole !))))) (lit ! tt) tt) (from ! (stop !)) (init ! 8 refl (tt, tt)) $
         first ! $ branches ! (load ! (from ! (stop !)) (look ! 8 refl))
         (λ answered.
@@ -205,32 +203,32 @@ module _ {M : Type 1} (𝓤 : URA M) (H : Heap 𝓤) (A : Atoms 𝓤) (W : Given
         assigns ! (of-opd ! (load ! (from ! (fld ! refl (fld ! refl (stop !)))) (look-in ! 14 (sub ! 3 refl (sub ! 0 refl (whole !)))))) (from ! (hop ! (look ! 20 refl) (fld ! refl (stop !)))) (store-in ! 0 (sub ! 6 refl (whole !)) (f64-typed _ (totals-are r _ is .1 .1 .1 .0))) $
         assigns-last ! (of-opd ! (load ! (from ! (fld ! refl (fld ! refl (stop !)))) (look-in ! 14 (sub ! 4 refl (sub ! 0 refl (whole !)))))) (from ! (hop ! (look ! 20 refl) (fld ! refl (stop !)))) (store-in ! 0 (sub ! 7 refl (whole !)) (f64-typed _ (totals-are r _ is .1 .1 .1 .1 .0))) $
         exec ! C Λ _ mir.t-7 (atRet _ Post) $
-        assigns ! (of-opd ! (load ! (from ! (fld ! refl (stop !))) (look-in ! 14 (sub ! 1 refl (whole !))))) (from ! (stop !)) (init ! 22 refl (LL.lawful P·Shown.the-type P·Shown′.the-laws 𝓤 H A W .typed (r .shown) _ (shown-is r _ is) .0)) $
+        assigns ! (of-opd ! (load ! (from ! (fld ! refl (stop !))) (look-in ! 14 (sub ! 1 refl (whole !))))) (from ! (stop !)) (init ! 24 refl (LL.lawful P·Shown.the-type P·Shown′.the-laws 𝓤 H A W .typed (r .shown) _ (shown-is r _ is) .0)) $
         move ! (0 ∷ 4 ∷ 5 ∷ 6 ∷ []) $ owned ! T.the-row (Is T.the-row) (LL.makes T.the-type T′.the-plain 𝓤 H A) (after h r (last ws)) _ (after-is h r (last ws) _ was is are) $ move ! (1 ∷ 0 ∷ []) $
         closes ! tt T.the-row (after h r (last ws)) (vals (after h r (last ws))) b o $
-        -- [obs; bor; lft; …; tok; …; rest; _7; …; _6; …; _5; …; _4; …; _3; …; _2; …; _1; …; _0; …]
-        returns ! (look ! 21 refl) $ forget ! 7 refl $ forget ! 9 refl $ forget ! 11 refl $ forget ! 13 refl $ forget ! 15 refl $ forget ! 17 refl $ forget ! 19 refl $ forget ! 21 refl $
-        move ! (21 ∷ 22 ∷ []) $ free1 ! $ move ! (19 ∷ 20 ∷ []) $ free1 ! $ move ! (17 ∷ 18 ∷ []) $ free1 ! $ move ! (15 ∷ 16 ∷ []) $ free1 ! $ move ! (13 ∷ 14 ∷ []) $ free1 ! $ move ! (11 ∷ 12 ∷ []) $ free1 ! $ move ! (9 ∷ 10 ∷ []) $ free1 ! $ move ! (7 ∷ 8 ∷ []) $ free1 ! $ free0 ! $
-        move ! (4 ∷ 3 ∷ []) $ join ! $ keep ! (1 ∷ 2 ∷ 3 ∷ 0 ∷ []) $ by ! (exits r (after h r (last ws)) (ap (λ (x : Advanced). x .shown) (told onlyVersion h l r (last ws) (call .now) ledger said)) (ap (λ (x : Advanced). x .battery) (told onlyVersion h l r (last ws) (call .now) ledger said)) (shown-is r _ is)))
+        -- [obs; bor; lft; …; tok; …; rest; _8; …; _7; …; _6; …; _5; …; _4; …; _3; …; _2; …; _1; …; _0; …]
+        returns ! (look ! 23 refl) $ forget ! 7 refl $ forget ! 9 refl $ forget ! 11 refl $ forget ! 13 refl $ forget ! 15 refl $ forget ! 17 refl $ forget ! 19 refl $ forget ! 21 refl $ forget ! 23 refl $
+        move ! (23 ∷ 24 ∷ []) $ free1 ! $ move ! (21 ∷ 22 ∷ []) $ free1 ! $ move ! (19 ∷ 20 ∷ []) $ free1 ! $ move ! (17 ∷ 18 ∷ []) $ free1 ! $ move ! (15 ∷ 16 ∷ []) $ free1 ! $ move ! (13 ∷ 14 ∷ []) $ free1 ! $ move ! (11 ∷ 12 ∷ []) $ free1 ! $ move ! (9 ∷ 10 ∷ []) $ free1 ! $ move ! (7 ∷ 8 ∷ []) $ free1 ! $ free0 ! $
+        move ! (4 ∷ 3 ∷ []) $ join ! $ keep ! (1 ∷ 2 ∷ 3 ∷ 0 ∷ []) $ by ! (exits r (after h r (last ws)) (ap (λ (x : Advanced). x .shown) (told version h l r (last ws) (call .now) ledger said)) (ap (λ (x : Advanced). x .battery) (told version h l r (last ws) (call .now) ledger said)) (shown-is r _ is)))
         (λ refused. skips ! $
         exec ! C Λ _ mir.t-7 (atRet _ Post) $
-        assigns ! (of-opd ! (load ! (from ! (fld ! refl (stop !))) (look-in ! 14 (sub ! 1 refl (whole !))))) (from ! (stop !)) (init ! 22 refl (LL.lawful P·Shown.the-type P·Shown′.the-laws 𝓤 H A W .typed (r .shown) _ (shown-is r _ is) .0)) $
+        assigns ! (of-opd ! (load ! (from ! (fld ! refl (stop !))) (look-in ! 14 (sub ! 1 refl (whole !))))) (from ! (stop !)) (init ! 24 refl (LL.lawful P·Shown.the-type P·Shown′.the-laws 𝓤 H A W .typed (r .shown) _ (shown-is r _ is) .0)) $
         move ! (0 ∷ 4 ∷ 5 ∷ 6 ∷ []) $ owned ! T.the-row (Is T.the-row) (LL.makes T.the-type T′.the-plain 𝓤 H A) (kept h (last ws)) _ (kept-is h (last ws) was are) $ move ! (1 ∷ 0 ∷ []) $
         closes ! tt T.the-row (kept h (last ws)) (vals (kept h (last ws))) b o $
-        -- [obs; bor; lft; …; tok; …; rest; _7; …; _6; …; _5; …; _4; …; _3; …; _2; …; _1; …; _0; …]
-        returns ! (look ! 21 refl) $ forget ! 7 refl $ forget ! 9 refl $ forget ! 11 refl $ forget ! 13 refl $ forget ! 15 refl $ forget ! 17 refl $ forget ! 19 refl $ forget ! 21 refl $
-        move ! (21 ∷ 22 ∷ []) $ free1 ! $ move ! (19 ∷ 20 ∷ []) $ free1 ! $ move ! (17 ∷ 18 ∷ []) $ free1 ! $ move ! (15 ∷ 16 ∷ []) $ free1 ! $ move ! (13 ∷ 14 ∷ []) $ free1 ! $ move ! (11 ∷ 12 ∷ []) $ free1 ! $ move ! (9 ∷ 10 ∷ []) $ free1 ! $ move ! (7 ∷ 8 ∷ []) $ free1 ! $ free0 ! $
-        move ! (4 ∷ 3 ∷ []) $ join ! $ keep ! (1 ∷ 2 ∷ 3 ∷ 0 ∷ []) $ by ! (exits r (kept h (last ws)) (ap (λ (x : Advanced). x .shown) (told onlyVersion h l r (last ws) (call .now) ledger said)) (left onlyVersion h r (last ws) (call .now) (told onlyVersion h l r (last ws) (call .now) ledger said) refused) (shown-is r _ is))))))))))))))))))))))))))
+        -- [obs; bor; lft; …; tok; …; rest; _8; …; _7; …; _6; …; _5; …; _4; …; _3; …; _2; …; _1; …; _0; …]
+        returns ! (look ! 23 refl) $ forget ! 7 refl $ forget ! 9 refl $ forget ! 11 refl $ forget ! 13 refl $ forget ! 15 refl $ forget ! 17 refl $ forget ! 19 refl $ forget ! 21 refl $ forget ! 23 refl $
+        move ! (23 ∷ 24 ∷ []) $ free1 ! $ move ! (21 ∷ 22 ∷ []) $ free1 ! $ move ! (19 ∷ 20 ∷ []) $ free1 ! $ move ! (17 ∷ 18 ∷ []) $ free1 ! $ move ! (15 ∷ 16 ∷ []) $ free1 ! $ move ! (13 ∷ 14 ∷ []) $ free1 ! $ move ! (11 ∷ 12 ∷ []) $ free1 ! $ move ! (9 ∷ 10 ∷ []) $ free1 ! $ move ! (7 ∷ 8 ∷ []) $ free1 ! $ free0 ! $
+        move ! (4 ∷ 3 ∷ []) $ join ! $ keep ! (1 ∷ 2 ∷ 3 ∷ 0 ∷ []) $ by ! (exits r (kept h (last ws)) (ap (λ (x : Advanced). x .shown) (told version h l r (last ws) (call .now) ledger said)) (left version h r (last ws) (call .now) (told version h l r (last ws) (call .now) ledger said) refused) (shown-is r _ is)))))))))))))))))))))))))))
 
 module _ {M : Type 1} (𝓤 : URA M) (H : Heap 𝓤) (A : Atoms 𝓤) (W : Given 𝓤 H A) (at-mem : Memory → SProp 𝓤) (run : Routine → Fun 𝓤) where
   walks : (C : Calls 𝓤 H) (Λ : Loops 𝓤 H) → FmC 𝓤 H (W .laws) C → Triple 𝓤 (C #k) (K 𝓤 H A at-mem run) → Triple 𝓤 (C #g) (G 𝓤 H A at-mem run) → Walks 𝓤 H A f.ended stayed (WpFn 𝓤 H C Λ code.function) (f.clauses 𝓤 H A at-mem run)
   walks C Λ fm ledger-known known = walked 𝓤 H A f.ended stayed (f.clauses 𝓤 H A at-mem run) (WpFn 𝓤 H C Λ code.function)
-      (λ κs. (ptr-vals, (slice-vals, tt)))
-      (λ κs. (mut-tells (named 0) (κs .0) T.the-row, (shr-slice-tells (named 1) (κs .1 .0) u8, tt)))
-      (λ κs qs bounds a _ are. via 𝓤 _ (fst∗ 𝓤 _ (emp 𝓤)) (walk 𝓤 H A W at-mem run (κs .0) (κs .1 .0) (qs .0) (qs .1 .0) (a .0 .ptr .0) (a .0 .ptr .1) (a .0 .name) (a .0 .now) (a .1 .0) (are .1 .0) C Λ fm ledger-known known))
+      (λ κs. (uint-vals w8, (ptr-vals, (slice-vals, tt))))
+      (λ κs. (uint-tells w8, (mut-tells (named 0) (κs .0) T.the-row, (shr-slice-tells (named 1) (κs .1 .0) u8, tt))))
+      (λ κs qs bounds a _ are. via 𝓤 _ (fst∗ 𝓤 _ (emp 𝓤)) (walk 𝓤 H A W at-mem run (κs .0) (κs .1 .0) (qs .0) (qs .1 .0) (a .0) (are .0) (a .1 .0 .ptr .0) (a .1 .0 .ptr .1) (a .1 .0 .name) (a .1 .0 .now) (a .1 .1 .0) (are .1 .1 .0) C Λ fm ledger-known known))
 
   goes : AllGo 𝓤 H A W 2 (f.signature .params) (f.ended .kept) stayed
-  goes = (goes-ref 𝓤 H A W 2 0 tt (plain (λ _. T.the-row)), (goes-dropped 𝓤 H A W 2 (shrSliceOf (1 ∷ []) tt (plain (λ _. u8))) yes (λ κs x f. refl), tt))
+  goes = (goes-dropped 𝓤 H A W 2 (plain (λ _. u8)) yes (λ κs x f. refl), (goes-ref 𝓤 H A W 2 0 tt (plain (λ _. T.the-row)), (goes-dropped 𝓤 H A W 2 (shrSliceOf (1 ∷ []) tt (plain (λ _. u8))) yes (λ κs x f. refl), tt)))
 
 meets : {M : Type 1} (𝓤 : URA M) (H : Heap 𝓤) (A : Atoms 𝓤) (W : Given 𝓤 H A) (at-mem : Memory → SProp 𝓤) (run : Routine → Fun 𝓤) (𝓣 : Tables 𝓤 H)
     → Triple 𝓤 (𝓣 .C #k) (K 𝓤 H A at-mem run) → Triple 𝓤 (𝓣 .C #g) (G 𝓤 H A at-mem run) → Meets 𝓤 H A f.signature (WpFn 𝓤 H (𝓣 .C) (𝓣 .Λ) code.function) (f.spec 𝓤 H A at-mem run)

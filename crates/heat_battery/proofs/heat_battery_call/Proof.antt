@@ -1,49 +1,38 @@
 use mathlib.Core.Path.{refl, sym, _∙_}
-use Rattle.entries.proofs.Checked.{good-card, bad-card}
-use Rattle.heat_battery.specs.Entries.{entryOf}
+use Rattle.heat_battery.proofs.Calling.{entry-known, entry-unknown}
 use borrow.Author.Needs.{needs}
 use Rattle.heat_battery.proofs.heat_battery_call.Statement.{statement}
 use Rattle.heat_battery.proofs.heat_battery_call.Tie as tie
 
-record-card-requires : tie.Need-record-card-requires
-record-card-requires c κs = search needs
+known-version-requires : tie.Need-known-version-requires
+known-version-requires c κs = search needs
 
-enum-told : tie.Need-enum-told
-enum-told c = search needs
-
-enum-known-read : tie.Need-enum-known-read
-enum-known-read c = search needs
-
-with-card-requires : tie.Need-with-card-requires
-with-card-requires c κs = good-card _ _ _ (sym (c .before .before .before .before .before .record-card .ensures) ∙ c .before .before .before .read .given .1)
+with-version-requires : tie.Need-with-version-requires
+with-version-requires c κs = search needs
 
 same-length : tie.Need-same-length
 same-length c = search needs
 
-returns : tie.Need-returns
-unfolding entryOf
-returns c = rw (bad-card _ _ (sym (c .before .before .record-card .ensures) ∙ c .enum-told .given .1)) (record { code-is = refl; record-is = refl; sheet-is = refl })
-
 same-length-2 : tie.Need-same-length-2
 same-length-2 c = search needs
 
-same-length-3 : tie.Need-same-length-3
-same-length-3 c = search needs
+returns : tie.Need-returns
+returns c =
+    let a = c .before .before .before .before .before .before .before .before .before .before .before .before .args in
+    rw (entry-known (a .version) (a .«record» .now) (a .call .now) (a .sheet .now) (sym (c .before .before .before .before .before .before .before .before .known-version .ensures) ∙ c .before .before .before .before .before .before .before .if1 .taken)) (c .before .before .before .before .with-version .ensures)
 
 returns-2 : tie.Need-returns-2
-unfolding entryOf
-returns-2 c = rw (good-card _ _ _ (sym (c .before .before .before .before .before .before .before .before .before .before .record-card .ensures) ∙ c .before .before .before .before .before .before .before .before .read .given .1) .0) (c .before .before .before .before .with-card .ensures)
+returns-2 c =
+    let a = c .before .before .before .before .before .args in
+    rw (entry-unknown (a .version) (a .«record» .now) (a .call .now) (a .sheet .now) (sym (c .before .known-version .ensures) ∙ c .if1 .left)) (record { code-is = refl; record-is = refl; sheet-is = refl })
 
 pub heat-battery-call-spec : {M : Type 1} → statement M
 heat-battery-call-spec =
     tie.close
     (tie.spec
-    record-card-requires
-    enum-told
-    enum-known-read
-    with-card-requires
+    known-version-requires
+    with-version-requires
     same-length
-    returns
     same-length-2
-    same-length-3
+    returns
     returns-2)

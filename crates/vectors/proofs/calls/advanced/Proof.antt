@@ -4,6 +4,9 @@ use borrow.Author.Needs.{needs}
 use Rattle.vectors.proofs.calls.advanced.Statement.{statement}
 use Rattle.vectors.proofs.calls.advanced.Tie as tie
 
+version-requires : tie.Need-version-requires
+version-requires c κs = search needs
+
 battery-requires : tie.Need-battery-requires
 battery-requires c κs = search needs
 
@@ -32,6 +35,7 @@ pub advanced-spec : {M : Type 1} → statement M
 advanced-spec =
     tie.close
     (tie.spec
+    version-requires
     battery-requires
     read-requires
     ledger-of-requires
