@@ -71,8 +71,10 @@ broken() {
 
 if [ "$1" = --broken ]; then
     missed=0
-    broken entries room room-first line-before-room flag absent-bytes refused-record behind-line reads-behind reads-before referee
-    broken audit passes-all passes-none index last-line order no-limit whole-limited reads-behind reads-before referee
+    broken entries room room-first line-before-room flag absent-bytes refused-record behind-line version-late time-always time-product \
+        reads-behind reads-before referee
+    broken audit passes-all passes-none index last-line order no-limit whole-limited time-always time-product \
+        reads-behind reads-before referee
     echo "$missed faults were not found"
     [ "$missed" -eq 0 ]
     exit

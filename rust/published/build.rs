@@ -46,12 +46,20 @@ const STAND_INS: [Substitution; 5] = [
     },
 ];
 
-const COUNTING: [Substitution; 1] = [Substitution {
-    why: "substeps counted and tested: the judge stands before the substep",
-    from: "fn process_heat_battery_zones(",
-    to: "fn process_heat_battery_zones_published(",
-    count: 1,
-}];
+const COUNTING: [Substitution; 2] = [
+    Substitution {
+        why: "substeps counted and tested: the judge stands before the substep",
+        from: "fn process_heat_battery_zones(",
+        to: "fn process_heat_battery_zones_published(",
+        count: 1,
+    },
+    Substitution {
+        why: "a replayed substep takes the place of the last one",
+        from: "time_step_s * fraction,",
+        to: "judge::in_place_of_the_last(time_step_s * fraction),",
+        count: 1,
+    },
+];
 
 /// The published file in the folder that SRC names, else beside the repository.
 fn published(manifest: &Path) -> Option<PathBuf> {

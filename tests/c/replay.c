@@ -116,10 +116,11 @@ static int same_battery(const struct heat_battery *x, const struct heat_battery 
         && memcmp(&x->total, &y->total, 5 * sizeof(double)) == 0;
 }
 
-/* Whether an answer is the one on a line, whose refusal is at `line`; with 10 there is no line. */
+/* Whether an answer is the one on a line, whose refusal is at `line`; with 10 and 40 there is no line. */
 static int same_answer(struct heat_battery_shown shown, uint8_t result, const uint8_t *line) {
     static const uint8_t none[30];
-    const uint8_t *head = (result == 10 ? none : line) + 1;
+    int written = result != HEAT_BATTERY_BAD_CALL && result != HEAT_BATTERY_NO_VERSION;
+    const uint8_t *head = (written ? line : none) + 1;
     uint32_t substeps = (uint32_t)head[25] << 24 | (uint32_t)head[26] << 16 | (uint32_t)head[27] << 8 | head[28];
     double numbers[3] = {number_at(head), number_at(head + 9), number_at(head + 17)};
     double answers[3] = {shown.energy, shown.outlet, shown.time};
@@ -128,10 +129,10 @@ static int same_answer(struct heat_battery_shown shown, uint8_t result, const ui
 }
 
 /* The own record gives the byte entry's answer and battery; it knows no 11, and no record of another length. */
-static int own_record_agrees(const uint8_t *before, size_t length, struct slice call, uint8_t result, struct slice after,
-                             struct slice sheet) {
+static int own_record_agrees(uint8_t version, const uint8_t *before, size_t length, struct slice call, uint8_t result,
+                             struct slice after, struct slice sheet) {
     struct heat_battery b, expected;
-    if (result == 11 || !is_record(before, length))
+    if (result == HEAT_BATTERY_NO_ROOM || !is_record(before, length))
         return 1;
     battery_from(&b, before);
     battery_from(&expected, after.bytes);
@@ -141,7 +142,7 @@ static int own_record_agrees(const uint8_t *before, size_t length, struct slice 
     struct heat_battery *own = (struct heat_battery *)(at_start ? page : page + PAGE - sizeof b);
     *own = b;
     allow(result == 0 ? PROT_READ | PROT_WRITE : PROT_READ); /* a refused call that stores anything ends the program */
-    struct heat_battery_shown shown = heat_battery_advance(own, call.bytes, call.length);
+    struct heat_battery_shown shown = heat_battery_advance(version, own, call.bytes, call.length);
     allow(PROT_READ | PROT_WRITE);
     return same_answer(shown, result, sheet.bytes + 2 + call.length) && same_battery(own, &expected);
 }
@@ -149,8 +150,10 @@ static int own_record_agrees(const uint8_t *before, size_t length, struct slice 
 /* ---- cases */
 
 static int replay_open(void) {
+    uint8_t version = (uint8_t)read_number(1);
     struct slice card = read_slice(0), record = read_slice(1), sheet = read_slice(2);
-    uint8_t result = heat_battery_open(card.bytes, card.length, record.bytes, record.length, sheet.bytes, sheet.length);
+    uint8_t result =
+        heat_battery_open(version, card.bytes, card.length, record.bytes, record.length, sheet.bytes, sheet.length);
     int same = result == read_number(8);
     same &= as_expected(record);
     same &= as_expected(sheet);
@@ -159,17 +162,19 @@ static int replay_open(void) {
 }
 
 static int replay_call(void) {
+    uint8_t version = (uint8_t)read_number(1);
     struct slice record = read_slice(0), call = read_slice(1), sheet = read_slice(2);
     uint8_t *before = malloc(record.length + 1);
     if (before == NULL)
         ended("no memory");
     memcpy(before, record.bytes, record.length);
-    uint8_t result = heat_battery_call(record.bytes, record.length, call.bytes, call.length, sheet.bytes, sheet.length);
+    uint8_t result =
+        heat_battery_call(version, record.bytes, record.length, call.bytes, call.length, sheet.bytes, sheet.length);
     int same = result == read_number(8);
     same &= as_expected(record);
     same &= as_expected(sheet);
     same &= guarded(call);
-    same &= own_record_agrees(before, record.length, call, result, record, sheet);
+    same &= own_record_agrees(version, before, record.length, call, result, record, sheet);
     free(before);
     return same;
 }

@@ -72,9 +72,9 @@ static void stored(const char *name, struct room room) {
     }
 }
 
-/* A loss, a closing and a state of charge in turn, LINES in all. A call is lent what lies behind the last line, or where its
- * start is to lie against a page, room for its own line. */
-static void long_sheet(const uint8_t *own_card) {
+/* A sheet of a version: a loss, a closing and a state of charge in turn, LINES in all. A call is lent what lies behind the
+ * last line, or where its start is to lie against a page, room for its own line. */
+static void long_sheet(uint8_t version, const uint8_t *own_card) {
     size_t line = HEAT_BATTERY_LINE_LENGTH(own_card[0], HEAT_BATTERY_BARE_LENGTH), size = HEAT_BATTERY_RECORD_LENGTH(own_card[0]);
     size_t length = HEAT_BATTERY_OPENING_LENGTH + LINES * line;
     struct room room = room_for(length), front = room_for(line);
@@ -82,12 +82,12 @@ static void long_sheet(const uint8_t *own_card) {
     uint8_t *card = lent(room_for(HEAT_BATTERY_CARD_LENGTH), HEAT_BATTERY_CARD_LENGTH), *record = lent(room_for(size), size);
     uint8_t *kind = lent(room_for(1), 1);
     memcpy(card, own_card, HEAT_BATTERY_CARD_LENGTH);
-    if (heat_battery_open(card, HEAT_BATTERY_CARD_LENGTH, record, size, sheet, length) != HEAT_BATTERY_ANSWERED)
+    if (heat_battery_open(version, card, HEAT_BATTERY_CARD_LENGTH, record, size, sheet, length) != HEAT_BATTERY_ANSWERED)
         ended("the card is refused");
     for (int i = 0; i < LINES; i++, at += line) {
         *kind = (uint8_t)(4 + i % 3);
         uint8_t *free = at_start ? front.bytes : at;
-        if (heat_battery_call(record, size, kind, 1, free, at_start ? line : (size_t)(end - at)) != HEAT_BATTERY_ANSWERED)
+        if (heat_battery_call(version, record, size, kind, 1, free, at_start ? line : (size_t)(end - at)) != HEAT_BATTERY_ANSWERED)
             ended("a call is refused");
         if (at_start)
             memcpy(at, free, line);
@@ -99,7 +99,7 @@ static void long_sheet(const uint8_t *own_card) {
     end[-1] ^= 1;
     memmove(lent(room, length - 1), sheet, length - 1);
     expect(says(heat_battery_audit_whole(lent(room, length - 1), length - 1), HEAT_BATTERY_BAD_LINE, LINES), "a last line cut short");
-    printf("unreadable %s: %zu bytes, %d lines\n", at_start ? "before" : "behind", length, LINES);
+    printf("unreadable %s, version %d: %zu bytes, %d lines\n", at_start ? "before" : "behind", version, length, LINES);
 }
 
 int main(int argc, char **argv) {
@@ -113,7 +113,7 @@ int main(int argc, char **argv) {
             if (i == 1)
                 memcpy(card, kept + 3, sizeof card);
         }
-        long_sheet(card);
+        long_sheet(at_start ? HEAT_BATTERY_NEWEST_VERSION : HEAT_BATTERY_OLDEST_VERSION, card);
     }
     printf("%lu audits, %lu wrong\n", audits, wrong);
     return wrong != 0;

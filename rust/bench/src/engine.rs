@@ -1,8 +1,11 @@
 //! Our engine: its C entries as they stand, and the Rust crate over them.
 
-use heat_battery::{ffi, Record};
+use heat_battery::{ffi, Record, Version};
 use oracle::model::{Battery, Call, Card};
 use oracle::sheet;
+
+/// The version that the rows run in: the first one, whose answers are the published Rust's alone.
+pub const VERSION: Version = Version::One;
 
 fn calls_bytes(calls: &[Call]) -> Vec<Vec<u8>> {
     calls.iter().map(sheet::call_bytes).collect()
@@ -42,7 +45,7 @@ impl Engine {
         self.battery.zones[..self.zones.len()].copy_from_slice(&self.zones);
         self.battery.totals = self.totals;
         for call in &self.calls {
-            let shown = ffi::advance(&mut self.battery, call);
+            let shown = ffi::advance(VERSION.number(), &mut self.battery, call);
             sum = sum + shown.energy + f64::from(shown.refusal);
             substeps += u64::from(shown.substeps);
         }
@@ -60,7 +63,7 @@ pub struct Crate {
 impl Crate {
     pub fn new(battery: &Battery, calls: &[Call]) -> Self {
         let bytes = sheet::battery_bytes(battery);
-        let start = heat_battery::Battery::from_bytes(&bytes).expect("a good battery");
+        let start = heat_battery::Battery::from_bytes(VERSION, &bytes).expect("a good battery");
         let read = |call: &Vec<u8>| heat_battery::Call::from_bytes(call).expect("a call");
         let start = Record::from(&start);
         let calls = calls_bytes(calls).iter().map(read).collect();
@@ -110,10 +113,10 @@ impl Day {
     pub fn write(&mut self) -> u8 {
         let Day { card, calls, record, sheet } = self;
         let answer = record.len() - card.len() + sheet::ANSWER_HEAD_BYTES;
-        let mut result = ffi::open(card, record, sheet);
+        let mut result = ffi::open(VERSION.number(), card, record, sheet);
         let mut free = &mut sheet[sheet::OPENING_BYTES..];
         for call in calls.iter() {
-            result = ffi::call(record, call, free);
+            result = ffi::call(VERSION.number(), record, call, free);
             free = &mut free[2 + call.len() + answer..];
         }
         result

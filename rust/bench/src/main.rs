@@ -8,7 +8,7 @@ mod engine;
 mod plain_c;
 mod rows;
 
-use engine::{Crate, Day, Engine};
+use engine::{Crate, Day, Engine, VERSION};
 use oracle::entries::{self, BEST};
 use oracle::model::{Battery, Call, Card, Demand, Hydronic, State, Totals};
 use plain_c::PlainC;
@@ -79,7 +79,7 @@ fn oracle_list(step: entries::Step, start: &Battery, calls: &[Call]) -> (f64, u6
     let (mut sum, mut substeps) = (0.0, 0);
     let mut battery = start.clone();
     for call in calls {
-        let (answer, after) = step(&battery, call);
+        let (answer, after) = step(VERSION.number(), &battery, call);
         sum = sum + answer.energy + f64::from(answer.refusal);
         substeps += u64::from(answer.substeps);
         battery = after;
@@ -206,9 +206,9 @@ fn day(row: &Row) -> Day {
     let mut day = Day::new(&card, &calls);
     day.write();
     let mut battery = Battery::fresh(&card);
-    let mut sheet = oracle::sheet::opening(&card);
+    let mut sheet = oracle::sheet::opening(VERSION.number(), &card);
     for call in &calls {
-        let (answer, after) = BEST(&battery, call);
+        let (answer, after) = BEST(VERSION.number(), &battery, call);
         sheet.extend(oracle::sheet::call_line(call, &answer));
         battery = after;
     }

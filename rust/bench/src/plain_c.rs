@@ -39,6 +39,7 @@ impl Drop for PlainC {
 #[cfg(test)]
 mod tests {
     use super::PlainC;
+    use crate::engine::VERSION;
     use crate::{oracle_battery, oracle_call, oracle_list};
     use oracle::entries::BEST;
     use oracle::generate;
@@ -84,7 +85,7 @@ mod tests {
         for _ in 0..generate::list_length(random) {
             let Some(row) = numbers(&generate::next_call(random, &battery)) else { continue };
             let call = oracle_call(&row);
-            let (answer, after) = BEST(&battery, &call);
+            let (answer, after) = BEST(VERSION.number(), &battery, &call);
             if answer.refusal != 0 {
                 break;
             }

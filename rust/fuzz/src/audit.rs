@@ -7,6 +7,8 @@ use crate::tested;
 use oracle::compare::{check_sheet, Report};
 use oracle::damage::{self, Known, Sheet};
 use oracle::entries;
+use oracle::generate;
+use oracle::model::{is_known, VERSIONS};
 use oracle::random::Random;
 use oracle::sheet::{self, OPENING_BYTES};
 
@@ -19,12 +21,13 @@ pub fn check(bytes: &[u8], report: &mut Report) {
     check_sheet(&tested::library(), tested::referee(), &sheet, report);
 }
 
-/// Card and calls of a sheet, as far as its lines have a kind and a length.
+/// Version, card and calls of a sheet, as far as its lines have a kind and a length.
 fn apart(sheet: &[u8]) -> Input {
+    let version = sheet.first().copied().unwrap_or(0);
     let (opening, mut lines) = sheet.split_at(sheet.len().min(OPENING_BYTES));
     let card = opening.get(3..).unwrap_or_default().to_vec();
     let layers = card.first().copied().unwrap_or(1);
-    let mut input = Input { card, record: 0, room: 0, calls: Vec::new() };
+    let mut input = Input { version, card, record: 0, room: 0, calls: Vec::new() };
     while let Some(length) = lines.get(2).and_then(|kind| sheet::call_length(*kind)) {
         let Some(call) = lines.get(2..2 + length) else { break };
         input.calls.push(change::called(call.to_vec(), layers));
@@ -33,15 +36,17 @@ fn apart(sheet: &[u8]) -> Input {
     input
 }
 
-/// The sheet that the referee writes; calls that it refuses with 10 have no line.
+/// The sheet that the referee writes, for an unknown version the oldest one's; calls that it refuses
+/// with 10 have no line.
 fn written(input: &Input) -> Vec<u8> {
+    let version = if is_known(input.version) { input.version } else { VERSIONS[0] };
     let battery = change::battery(&input.card);
     let mut record = sheet::battery_bytes(&battery);
-    let mut bytes = sheet::opening(&battery.card);
+    let mut bytes = sheet::opening(version, &battery.card);
     for called in input.calls.iter().take(change::affordable(input)) {
         let used = bytes.len();
         bytes.resize(used + change::line_length(&called.call, battery.card.layers), 0);
-        let result = entries::call(&mut record, &called.call, &mut bytes[used..]);
+        let result = entries::call(version, &mut record, &called.call, &mut bytes[used..]);
         if result == 10 || result == 11 {
             bytes.truncate(used);
         }
@@ -58,7 +63,7 @@ pub fn mutate(random: &mut Random, bytes: &[u8], most: usize) -> Vec<u8> {
     let mut input = apart(bytes);
     match way {
         2 => change::card(random, &mut input.card),
-        3 => {}
+        3 => input.version = generate::version(random),
         _ => change::one_call(random, &mut input),
     }
     let sheet = written(&input);

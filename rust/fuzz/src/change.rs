@@ -188,9 +188,18 @@ fn one_lent(random: &mut Random, input: &mut Input) {
     }
 }
 
+/// A known version, or seldom another one.
+fn version(random: &mut Random) -> u8 {
+    match random.below(4) {
+        0 => generate::unknown_version(random),
+        _ => generate::version(random),
+    }
+}
+
 /// One change of any part.
 pub fn input(random: &mut Random, input: &mut Input) {
-    match random.below(10) {
+    match random.below(11) {
+        10 => input.version = version(random),
         0 => {
             card(random, &mut input.card);
             let layers = input.card.first().copied().unwrap_or(1);

@@ -15,8 +15,9 @@ use oracle::sheet::{self, CARD_BYTES};
 
 pub fn check(bytes: &[u8], report: &mut Report) {
     let input = Input::read(bytes);
-    let (library, step) = (tested::library(), tested::referee());
+    let (library, step, version) = (tested::library(), tested::referee(), input.version);
     let opening = Opening {
+        version,
         card: input.card.clone(),
         record: filled(input.record),
         sheet: filled(input.room),
@@ -29,9 +30,10 @@ pub fn check(bytes: &[u8], report: &mut Report) {
         let handed_in = !called.record.is_empty();
         let record = if handed_in { called.record } else { sheet::battery_bytes(&battery) };
         let count = u8::try_from(called.count).unwrap_or(u8::MAX);
-        check_advance(tested::advance, step, &own(&record, count), &called.call, report);
+        let own = own(&record, count);
+        check_advance(tested::advance, step, version, &own, &called.call, report);
         let sheet = filled(called.room);
-        let calling = Calling { record, call: called.call, sheet, known: Known::Nothing };
+        let calling = Calling { version, record, call: called.call, sheet, known: Known::Nothing };
         battery = check_call(&library, step, &calling, report).unwrap_or(battery);
     }
 }

@@ -1,10 +1,10 @@
 //! The bytes of an input of the entries' target, and what they stand for.
 //!
-//! Numbers are u16, big-endian; a slice is its length and its bytes. In order: the card (a slice),
-//! the lengths of record and sheet that opening is lent; then for each call the call (a slice),
-//! the length of its sheet, the count of the caller's own record (0: the card's layers), and a
-//! record handed in (a slice; empty: the one that the last call left). Bytes that end early stand
-//! for zeros and for slices that are cut; what stands after 24 calls is left out.
+//! Numbers are u16, big-endian; a slice is its length and its bytes. In order: the version (a byte),
+//! the card (a slice), the lengths of record and sheet that opening is lent; then for each call the
+//! call (a slice), the length of its sheet, the count of the caller's own record (0: the card's
+//! layers), and a record handed in (a slice; empty: the one that the last call left). Bytes that end
+//! early stand for zeros and for slices that are cut; what stands after 24 calls is left out.
 
 /// The most bytes of a record or sheet that are lent.
 const MOST_LENT: u16 = 1024;
@@ -12,6 +12,8 @@ const MOST_LENT: u16 = 1024;
 pub const MOST_CALLS: usize = 24;
 
 pub struct Input {
+    /// Of the opening and of every call.
+    pub version: u8,
     pub card: Vec<u8>,
     /// Bytes of the record that opening is lent.
     pub record: u16,
@@ -34,6 +36,12 @@ pub struct Called {
 struct Cursor<'a>(&'a [u8]);
 
 impl Cursor<'_> {
+    fn byte(&mut self) -> u8 {
+        let (byte, rest) = self.0.split_first().unwrap_or((&0, &[]));
+        self.0 = rest;
+        *byte
+    }
+
     fn number(&mut self) -> u16 {
         let (number, rest) = match *self.0 {
             [] => (0, self.0),
@@ -66,6 +74,7 @@ impl Input {
     pub fn read(bytes: &[u8]) -> Self {
         let mut cursor = Cursor(bytes);
         let mut input = Input {
+            version: cursor.byte(),
             card: cursor.slice(),
             record: cursor.number() % MOST_LENT,
             room: cursor.number() % MOST_LENT,
@@ -83,7 +92,7 @@ impl Input {
     }
 
     pub fn bytes(&self) -> Vec<u8> {
-        let mut bytes = Vec::new();
+        let mut bytes = vec![self.version];
         put_slice(&mut bytes, &self.card);
         put_number(&mut bytes, self.record);
         put_number(&mut bytes, self.room);

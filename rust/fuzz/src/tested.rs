@@ -29,17 +29,17 @@ pub fn library() -> Tested {
 }
 
 impl Library for Tested {
-    fn open(&self, card: &[u8], record: &mut [u8], sheet: &mut [u8]) -> u8 {
+    fn open(&self, version: u8, card: &[u8], record: &mut [u8], sheet: &mut [u8]) -> u8 {
         match self {
-            Tested::Linked => Linked.open(card, record, sheet),
-            Tested::Faulty(faulty) => faulty.open(card, record, sheet),
+            Tested::Linked => Linked.open(version, card, record, sheet),
+            Tested::Faulty(faulty) => faulty.open(version, card, record, sheet),
         }
     }
 
-    fn call(&self, record: &mut [u8], call: &[u8], sheet: &mut [u8]) -> u8 {
+    fn call(&self, version: u8, record: &mut [u8], call: &[u8], sheet: &mut [u8]) -> u8 {
         match self {
-            Tested::Linked => Linked.call(record, call, sheet),
-            Tested::Faulty(faulty) => faulty.call(record, call, sheet),
+            Tested::Linked => Linked.call(version, record, call, sheet),
+            Tested::Faulty(faulty) => faulty.call(version, record, call, sheet),
         }
     }
 
@@ -59,11 +59,11 @@ impl Library for Tested {
 }
 
 /// The library's call on the caller's own record.
-pub fn advance(record: &mut Record, call: &[u8]) -> Shown {
+pub fn advance(version: u8, record: &mut Record, call: &[u8]) -> Shown {
     const { assert!(size_of::<Record>() == size_of::<heat_battery_sys::Battery>()) };
     // SAFETY: both are the header's struct heat_battery, of whole numbers and floats.
     let battery = unsafe { &mut *std::ptr::from_mut(record).cast() };
-    let shown = heat_battery_sys::advance(battery, call);
+    let shown = heat_battery_sys::advance(version, battery, call);
     let heat_battery_sys::Shown { refusal, mark, substeps, energy, outlet, time } = shown;
     Shown { refusal, mark, substeps, energy, outlet, time }
 }
@@ -77,8 +77,8 @@ pub fn referee() -> Step {
 }
 
 /// The plain steps with 23 in the place of 24.
-fn wrong(battery: &Battery, call: &Call) -> (Answer, Battery) {
-    let (mut answer, after) = plain::step(battery, call);
+fn wrong(version: u8, battery: &Battery, call: &Call) -> (Answer, Battery) {
+    let (mut answer, after) = plain::step(version, battery, call);
     if answer.refusal == 24 {
         answer.refusal = 23;
     }

@@ -1,11 +1,11 @@
-//! The auditor of document 01's module 8, written from document 01 alone. It takes calls from
-//! the sheet, never an answer.
+//! The auditor of document 01's module 8, with document 02's version, written from these alone. It
+//! takes version and calls from the sheet, never an answer.
 
 use crate::entries::Step;
-use crate::model::{Answer, Battery, Call, Card};
+use crate::model::{is_known, Answer, Battery, Call, Card};
 use crate::plain;
 use crate::reading;
-use crate::sheet::{self, CARD_BYTES, VERSION};
+use crate::sheet::{self, CARD_BYTES};
 use std::fmt;
 
 /// The most bytes that the program and the C audit take.
@@ -89,12 +89,12 @@ pub fn limited(sheet: &[u8], audit: impl FnOnce(&[u8]) -> Verdict) -> Verdict {
 
 /// `audit` by the steps given.
 pub fn audit_by(step: Step, sheet: &[u8]) -> Verdict {
-    let lines = match sheet.split_first() {
-        Some((&VERSION, lines)) => lines,
+    let (version, lines) = match sheet.split_first() {
+        Some((&version, lines)) if is_known(version) => (version, lines),
         _ => return Verdict::refused(40, 0),
     };
     match card_line(lines) {
-        Some((card, lines)) => call_lines(step, Battery::fresh(&card), lines),
+        Some((card, lines)) => call_lines(step, version, Battery::fresh(&card), lines),
         None => Verdict::refused(41, 0),
     }
 }
@@ -121,7 +121,7 @@ fn call_line(card: &Card, content: &[u8]) -> Option<(Call, Answer)> {
     Some((reading::call(card, call)?, reading::answer(card.layers, answer)?))
 }
 
-fn call_lines(step: Step, mut battery: Battery, mut bytes: &[u8]) -> Verdict {
+fn call_lines(step: Step, version: u8, mut battery: Battery, mut bytes: &[u8]) -> Verdict {
     let mut line = 0;
     while !bytes.is_empty() {
         line += 1;
@@ -131,7 +131,7 @@ fn call_lines(step: Step, mut battery: Battery, mut bytes: &[u8]) -> Verdict {
         let Some((call, shown)) = call_line(&battery.card, content) else {
             return Verdict::refused(42, line);
         };
-        let (answer, after) = step(&battery, &call);
+        let (answer, after) = step(version, &battery, &call);
         if !agree(&answer, &shown) {
             return Verdict::refused(43, line);
         }

@@ -1,10 +1,10 @@
 //! Inputs of the entries and of the audit with what they must give, in a file that a caller in
 //! another language replays.
 //!
-//! A case: which entry (u8: 1 open, 2 call, 3 audit, 4 audit of any length), the slices that it is lent, each as its
-//! length (u32, big-endian like every number) and its bytes, the result (u64; of 4, line × 256 +
-//! refusal), then what `record` and `sheet` hold afterwards. The slices are card, record, sheet;
-//! record, call, sheet; sheet; sheet.
+//! A case: which entry (u8: 1 open, 2 call, 3 audit, 4 audit of any length), for 1 and 2 the version
+//! (u8), the slices that it is lent, each as its length (u32, big-endian like every number) and its
+//! bytes, the result (u64; of 4, line × 256 + refusal), then what `record` and `sheet` hold
+//! afterwards. The slices are card, record, sheet; record, call, sheet; sheet; sheet.
 
 use crate::auditor::Fields;
 use crate::compare;
@@ -29,10 +29,11 @@ struct Recorder {
 }
 
 impl Recorder {
-    fn record(&self, entry: u8, lent: &[&[u8]], result: u64, after: &[&[u8]]) {
+    /// `entry` is followed by the version where there is one.
+    fn record(&self, entry: &[u8], lent: &[&[u8]], result: u64, after: &[&[u8]]) {
         let write = || -> io::Result<()> {
             let mut file = self.file.borrow_mut();
-            file.write_all(&[entry])?;
+            file.write_all(entry)?;
             for slice in lent {
                 file.write_all(&(slice.len() as u32).to_be_bytes())?;
                 file.write_all(slice)?;
@@ -47,29 +48,31 @@ impl Recorder {
 }
 
 impl Library for Recorder {
-    fn open(&self, card: &[u8], record: &mut [u8], sheet: &mut [u8]) -> u8 {
+    fn open(&self, version: u8, card: &[u8], record: &mut [u8], sheet: &mut [u8]) -> u8 {
         let before = (record.to_vec(), sheet.to_vec());
-        let result = self.entries.open(card, record, sheet);
-        self.record(OPEN, &[card, &before.0, &before.1], result.into(), &[record, sheet]);
+        let result = self.entries.open(version, card, record, sheet);
+        let lent = [card, &before.0, &before.1];
+        self.record(&[OPEN, version], &lent, result.into(), &[record, sheet]);
         result
     }
 
-    fn call(&self, record: &mut [u8], call: &[u8], sheet: &mut [u8]) -> u8 {
+    fn call(&self, version: u8, record: &mut [u8], call: &[u8], sheet: &mut [u8]) -> u8 {
         let before = (record.to_vec(), sheet.to_vec());
-        let result = self.entries.call(record, call, sheet);
-        self.record(CALL, &[&before.0, call, &before.1], result.into(), &[record, sheet]);
+        let result = self.entries.call(version, record, call, sheet);
+        let lent = [&before.0[..], call, &before.1];
+        self.record(&[CALL, version], &lent, result.into(), &[record, sheet]);
         result
     }
 
     fn audit(&self, sheet: &[u8]) -> u64 {
         let result = self.entries.audit(sheet);
-        self.record(AUDIT, &[sheet], result, &[]);
+        self.record(&[AUDIT], &[sheet], result, &[]);
         result
     }
 
     fn audit_whole(&self, sheet: &[u8]) -> Fields {
         let result = self.entries.audit_whole(sheet);
-        self.record(WHOLE, &[sheet], result.line * 256 + u64::from(result.refusal), &[]);
+        self.record(&[WHOLE], &[sheet], result.line * 256 + u64::from(result.refusal), &[]);
         result
     }
 

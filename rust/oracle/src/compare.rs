@@ -118,9 +118,15 @@ impl Outcome {
     }
 }
 
-fn failure(what: &str, lent: &Outcome, ours: &Outcome, theirs: Option<&Outcome>) -> String {
+fn failure(
+    what: &str,
+    version: u8,
+    lent: &Outcome,
+    ours: &Outcome,
+    theirs: Option<&Outcome>,
+) -> String {
     format!(
-        "{what}\n  card or call {}\n  record {}\n  sheet {}\n{}\n{}",
+        "{what}, version {version}\n  card or call {}\n  record {}\n  sheet {}\n{}\n{}",
         hex(&lent.read),
         hex(&lent.record),
         hex(&lent.sheet),
@@ -131,16 +137,17 @@ fn failure(what: &str, lent: &Outcome, ours: &Outcome, theirs: Option<&Outcome>)
 
 /// Compares an opening.
 pub fn check_open(library: &impl Library, input: &Opening, report: &mut Report) {
+    let version = input.version;
     let lend = || Outcome::lend(&input.record, &input.sheet, &input.card);
     let mut ours = lend();
-    ours.result = entries::open(&ours.read, &mut ours.record, &mut ours.sheet);
+    ours.result = entries::open(version, &ours.read, &mut ours.record, &mut ours.sheet);
     let theirs = |flush: &Flush| {
-        lend().after(*flush, |card, record, sheet| library.open(card, record, sheet))
+        lend().after(*flush, |card, record, sheet| library.open(version, card, record, sheet))
     };
     let other = library.lent().iter().map(theirs).find(|theirs| *theirs != ours);
     report.add("open", ours.result);
     report.fail(input.known.allows(ours.result), other.is_none(), || {
-        failure("open", &lend(), &ours, other.as_ref())
+        failure("open", version, &lend(), &ours, other.as_ref())
     });
 }
 
@@ -151,36 +158,38 @@ pub fn check_call(
     input: &Calling,
     report: &mut Report,
 ) -> Option<Battery> {
+    let version = input.version;
     let lend = || Outcome::lend(&input.record, &input.sheet, &input.call);
     let mut ours = lend();
-    ours.result = entries::call_by(step, &mut ours.record, &ours.read, &mut ours.sheet);
+    ours.result = entries::call_by(step, version, &mut ours.record, &ours.read, &mut ours.sheet);
     let theirs = |flush: &Flush| {
-        lend().after(*flush, |call, record, sheet| library.call(record, call, sheet))
+        lend().after(*flush, |call, record, sheet| library.call(version, record, call, sheet))
     };
     let other = library.lent().iter().map(theirs).find(|theirs| *theirs != ours);
     report.add("call", ours.result);
     report.fail(input.known.allows(ours.result), other.is_none(), || {
-        failure("call", &lend(), &ours, other.as_ref())
+        failure("call", version, &lend(), &ours, other.as_ref())
     });
     reading::battery(&ours.record)
 }
 
 /// Compares a call on the caller's own record.
 pub fn check_advance(
-    advance: impl Fn(&mut Record, &[u8]) -> Shown,
+    advance: impl Fn(u8, &mut Record, &[u8]) -> Shown,
     step: Step,
+    version: u8,
     record: &Record,
     call: &[u8],
     report: &mut Report,
 ) {
     let mut ours = *record;
-    let expected = own::advance(step, &mut ours, call);
+    let expected = own::advance(step, version, &mut ours, call);
     report.add("advance", expected.refusal);
     // What it shows, the record that it leaves, and whether the rest is as it was.
     let theirs = |flush: Flush| {
         let read = Lent::new(call, flush);
         let mut lent = LentValue::new(*record, flush);
-        let shown = advance(lent.value_mut(), read.bytes());
+        let shown = advance(version, lent.value_mut(), read.bytes());
         let kept = lent.is_guarded() && read.is_guarded() && read.bytes() == call;
         (shown.words(), lent.value_mut().words(), kept)
     };
@@ -189,7 +198,7 @@ pub fn check_advance(
     report.fail(true, other.is_none(), || {
         let lent = (hex(call), record.words());
         format!(
-            "advance of call and record {lent:x?}\n  independent: {same:x?}\n  library: {other:x?}"
+            "advance, version {version}, of call and record {lent:x?}\n  independent: {same:x?}\n  library: {other:x?}"
         )
     });
 }
@@ -200,10 +209,11 @@ pub fn entries(library: &impl Library, step: Step, count: u64, seed: u64) -> Rep
     let mut report = Report::default();
     while report.inputs < count {
         check_open(library, &raw::opening(&mut random), &mut report);
+        let version = generate::version(&mut random);
         let card = generate::card(&mut random);
         let mut battery = generate::battery(&mut random, &card);
         for _ in 0..generate::list_length(&mut random) {
-            let input = raw::calling(&mut random, &battery);
+            let input = raw::calling(&mut random, version, &battery);
             // A list goes on from its last good battery.
             battery = check_call(library, step, &input, &mut report).unwrap_or(battery);
         }

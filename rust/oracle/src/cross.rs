@@ -53,24 +53,25 @@ pub fn run(count: u64, seed: u64) -> Counts {
     let mut random = Random::new(seed);
     let mut counts = Counts::default();
     while counts.calls < count {
+        let version = generate::version(&mut random);
         let card = generate::card(&mut random);
         let mut battery = generate::battery(&mut random, &card);
         counts.lists += 1;
         for _ in 0..generate::list_length(&mut random) {
             let call = generate::next_call(&mut random, &battery);
-            battery = compare(&battery, &call, &mut counts);
+            battery = compare(version, &battery, &call, &mut counts);
         }
     }
     counts
 }
 
-fn compare(battery: &Battery, call: &Call, counts: &mut Counts) -> Battery {
-    let (judged, after) = judge::step(battery, call);
-    let (plain, _) = plain::step(battery, call);
+fn compare(version: u8, battery: &Battery, call: &Call, counts: &mut Counts) -> Battery {
+    let (judged, after) = judge::step(version, battery, call);
+    let (plain, _) = plain::step(version, battery, call);
     counts.add(call, &judged);
     if !judged.same_bits(&plain) {
         counts.disagreements += 1;
-        println!("disagreement\n{battery:?}\n{call:?}\njudge {judged:?}\nplain {plain:?}");
+        println!("disagreement, version {version}\n{battery:?}\n{call:?}\njudge {judged:?}\nplain {plain:?}");
     }
     after
 }

@@ -4,7 +4,7 @@ use crate::auditor::{Verdict, MOST_BYTES};
 use crate::entries;
 use crate::fields::{self, Line};
 use crate::generate;
-use crate::model::Card;
+use crate::model::{is_known, shows_hydronic_time, Card, VERSIONS};
 use crate::plain;
 use crate::random::Random;
 use crate::raw::garbage;
@@ -50,10 +50,10 @@ pub struct Written {
 }
 
 /// Opens a sheet of `room` bytes and makes up to `calls` random calls, some of them broken.
-pub fn write(random: &mut Random, card: &Card, calls: u64, room: usize) -> Written {
+pub fn write(random: &mut Random, version: u8, card: &Card, calls: u64, room: usize) -> Written {
     let mut lent = garbage(random, room);
     let mut record = vec![0; sheet::record_length(card.layers)];
-    let opened = entries::open(&sheet::card_bytes(card), &mut record, &mut lent);
+    let opened = entries::open(version, &sheet::card_bytes(card), &mut record, &mut lent);
     assert_eq!(opened, 0, "an accepted card with room opens a sheet");
     let mut written = Written { bytes: Vec::new(), lines: 0 };
     let mut used = OPENING_BYTES;
@@ -63,7 +63,7 @@ pub fn write(random: &mut Random, card: &Card, calls: u64, room: usize) -> Writt
         if random.one_in(10) {
             fields::break_call(random, &mut call, card.timestep);
         }
-        let result = entries::call(&mut record, &call, &mut lent[used..]);
+        let result = entries::call(version, &mut record, &call, &mut lent[used..]);
         if result != 10 && result != 11 {
             used += 2 + call.len() + sheet::answer_length(card.layers);
             written.lines += 1;
@@ -76,19 +76,21 @@ pub fn write(random: &mut Random, card: &Card, calls: u64, room: usize) -> Writt
 
 /// A sheet of an ordinary list; the room is at times too small for all of it.
 fn ordinary(random: &mut Random) -> Written {
+    let version = generate::version(random);
     let card = generate::card(random);
     let calls = generate::list_length(random) - 1;
     let room = match random.below(4) {
         0 => OPENING_BYTES + random.below(3000) as usize,
         _ => 40_000,
     };
-    write(random, &card, calls, room)
+    write(random, version, &card, calls, room)
 }
 
 /// A sheet of more bytes than the program takes.
 fn long(random: &mut Random) -> Written {
+    let version = generate::version(random);
     let card = Card { layers: 64, ..generate::card(random) };
-    write(random, &card, 140, 2 * MOST_BYTES)
+    write(random, version, &card, 140, 2 * MOST_BYTES)
 }
 
 // ---- Damage that is tried everywhere
@@ -99,11 +101,40 @@ pub fn flipped(sheet: &[u8], lines: &[Line], at: usize, bit: u8) -> Sheet {
     bytes[at] ^= bit;
     let known = match lines.iter().find(|line| line.whole().contains(&at)) {
         Some(line) => line_known(sheet, &bytes, line, at, lines.len() as u64),
-        None if at == 0 => refused(40, 0),
+        None if at == 0 => version_known(sheet[0], &bytes, lines),
         None if at < 3 => refused(41, 0),
         None => card_known(&bytes),
     };
     Sheet { what: "flipped bit", bytes, known }
+}
+
+/// The version of an accepted sheet was changed, nothing else.
+fn version_known(before: u8, bytes: &[u8], lines: &[Line]) -> Known {
+    let accepted = Known::Exactly(Verdict::Accepted(lines.len() as u64));
+    let (shown, due) = (shows_hydronic_time(before), shows_hydronic_time(bytes[0]));
+    if !is_known(bytes[0]) {
+        refused(40, 0)
+    } else if shown == due {
+        accepted
+    } else {
+        lines.iter().find_map(|line| another_time(bytes, line, shown)).unwrap_or(accepted)
+    }
+}
+
+/// The verdict on a hydronic line whose time is shown and not due any more, or the other way round;
+/// None where it is 0 in both.
+fn another_time(bytes: &[u8], line: &Line, is_shown: bool) -> Option<Known> {
+    let substeps = &bytes[line.substeps()..line.state()];
+    if line.kind != 3 || bytes[line.answer()] != 0 || *substeps == [0; 4] {
+        None
+    } else if is_shown {
+        (fields::number_at(bytes, line.time()) != 0.0).then_some(refused(43, line.index))
+    } else if *substeps == [0, 0, 0, 2] && fields::number_at(bytes, line.limit()) < 1e-10 {
+        // The second can be a replay of no time at all.
+        Some(Known::From(line.index))
+    } else {
+        Some(refused(43, line.index))
+    }
 }
 
 /// The card of a sheet was changed.
@@ -224,7 +255,7 @@ impl Copy<'_> {
 
     /// Changes a line's answer so that it disagrees and keeps the layout.
     fn disagree(&mut self, line: &Line) {
-        match self.random.below(5) {
+        match self.random.below(6) {
             0 => self.bytes[line.answer()] ^= 1 + self.random.below(255) as u8,
             1 => self.bytes[line.substeps() + 3] ^= 1 + self.random.below(255) as u8,
             2 => {
@@ -235,6 +266,11 @@ impl Copy<'_> {
                 let at = self.random.pick(&line.numbers());
                 let next = fields::number_at(&self.bytes, at).next_up().next_up();
                 fields::put_number(&mut self.bytes, at, next);
+            }
+            4 => {
+                let time = fields::number_at(&self.bytes, line.time());
+                let other = if time == 0.0 { 20.0 } else { 0.0 };
+                fields::put_number(&mut self.bytes, line.time(), other);
             }
             _ => self.swap_outlet(line),
         }
@@ -290,14 +326,27 @@ impl Copy<'_> {
     }
 }
 
+/// Half of them are known ones.
+fn another_version(random: &mut Random, version: u8) -> u8 {
+    let others: Vec<u8> = VERSIONS.into_iter().filter(|other| *other != version).collect();
+    match random.one_in(2) {
+        true => random.pick(&others),
+        false => generate::unknown_version(random),
+    }
+}
+
+fn turned(mut copy: Copy) -> Option<Sheet> {
+    let before = copy.bytes[0];
+    copy.bytes[0] = another_version(copy.random, before);
+    let known = version_known(before, &copy.bytes, &copy.lines);
+    copy.done("version", known)
+}
+
 /// Damage to version, card line or what stands after the last line.
 fn damage_ends(mut copy: Copy) -> Option<Sheet> {
     let behind = copy.behind();
     match copy.random.below(8) {
-        0 => {
-            copy.bytes[0] = copy.random.pick(&[0, 2, 2, 3, 49, 128, 255]);
-            copy.done("version", refused(40, 0))
-        }
+        0 => turned(copy),
         1 => {
             let length = copy.random.pick(&[0, 1, 157, 159, 0x9e00, 0xffff]);
             copy.bytes[1..3].copy_from_slice(&u16::to_be_bytes(length));

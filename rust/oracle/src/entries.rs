@@ -1,13 +1,13 @@
-//! The entries of document 01's module 9 on byte slices, written from document 01 alone.
-//! What is lent is changed only where an entry returns 0 or one of 20 to 25.
+//! The entries of document 01's module 9 on byte slices, with document 02's version, written from
+//! these alone. What is lent is changed only where an entry returns 0 or one of 20 to 25.
 
-use crate::model::{Answer, Battery, Call};
+use crate::model::{is_known, Answer, Battery, Call};
 use crate::plain;
 use crate::reading;
 use crate::sheet;
 
-/// One call of the steps: the answer, and the battery that it leaves.
-pub type Step = fn(&Battery, &Call) -> (Answer, Battery);
+/// One call of the steps in a known version: the answer, and the battery that it leaves.
+pub type Step = fn(u8, &Battery, &Call) -> (Answer, Battery);
 
 /// The plain implementation's steps, and with the published file the judge's.
 #[cfg(published)]
@@ -29,7 +29,10 @@ pub fn steps(name: &str) -> Option<Step> {
 }
 
 /// Writes version and line 0 to the front of the sheet, and the fresh battery.
-pub fn open(card: &[u8], record: &mut [u8], sheet: &mut [u8]) -> u8 {
+pub fn open(version: u8, card: &[u8], record: &mut [u8], sheet: &mut [u8]) -> u8 {
+    if !is_known(version) {
+        return 40;
+    }
     let Some(read) = reading::card(card) else {
         return 1;
     };
@@ -45,17 +48,20 @@ pub fn open(card: &[u8], record: &mut [u8], sheet: &mut [u8]) -> u8 {
         return 11;
     }
     record.copy_from_slice(&fresh);
-    put_in_front(sheet, &sheet::opening(&read));
+    put_in_front(sheet, &sheet::opening(version, &read));
     0
 }
 
 /// Writes the call's line to the front of the sheet and renews the battery, by the plain steps.
-pub fn call(record: &mut [u8], call: &[u8], sheet: &mut [u8]) -> u8 {
-    call_by(plain::step, record, call, sheet)
+pub fn call(version: u8, record: &mut [u8], call: &[u8], sheet: &mut [u8]) -> u8 {
+    call_by(plain::step, version, record, call, sheet)
 }
 
 /// `call` by the steps given.
-pub fn call_by(step: Step, record: &mut [u8], call: &[u8], sheet: &mut [u8]) -> u8 {
+pub fn call_by(step: Step, version: u8, record: &mut [u8], call: &[u8], sheet: &mut [u8]) -> u8 {
+    if !is_known(version) {
+        return 40;
+    }
     let Some(battery) = reading::battery(record) else {
         return 10;
     };
@@ -65,7 +71,7 @@ pub fn call_by(step: Step, record: &mut [u8], call: &[u8], sheet: &mut [u8]) -> 
     if sheet.len() < 2 + call.len() + sheet::answer_length(battery.card.layers) {
         return 11;
     }
-    let (answer, after) = step(&battery, &read);
+    let (answer, after) = step(version, &battery, &read);
     put_in_front(sheet, &sheet::line_with(call, &answer));
     record.copy_from_slice(&sheet::battery_bytes(&after));
     answer.refusal

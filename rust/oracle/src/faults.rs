@@ -1,8 +1,11 @@
 //! The independent entries and auditor with a fault put in, to show that a comparison finds it.
 
 use crate::auditor::{self, Fields, Verdict};
+use crate::entries::Step;
 use crate::library::{Independent, Library};
-use crate::plain;
+use crate::model::{shows_hydronic_time, Answer, Battery, Call, VERSIONS};
+use crate::plain::{self, HydronicEnd};
+use crate::reading;
 use crate::sheet;
 
 #[derive(Clone, Copy, Debug, PartialEq, Eq)]
@@ -22,6 +25,12 @@ pub enum Fault {
     RefusedRecord,
     /// A byte after the line written.
     BehindLine,
+    /// An unknown version tested after the card, or the record.
+    VersionLate,
+    /// The hydronic time shown in every version.
+    TimeAlways,
+    /// The hydronic time as a product, substep × count, where no substep is replayed.
+    TimeProduct,
     /// Every sheet accepted.
     PassesAll,
     /// No sheet accepted.
@@ -42,8 +51,8 @@ pub enum Fault {
     ReadsBefore,
 }
 
-/// Faults by their names for a variable or an option.
-pub const FAULTS: [(&str, Fault); 14] = [
+/// Faults of the entries by their names for a variable or an option.
+pub const IN_ENTRIES: [(&str, Fault); 10] = [
     ("room", Fault::Room),
     ("room-first", Fault::RoomFirst),
     ("line-before-room", Fault::LineBeforeRoom),
@@ -51,6 +60,13 @@ pub const FAULTS: [(&str, Fault); 14] = [
     ("absent-bytes", Fault::AbsentBytes),
     ("refused-record", Fault::RefusedRecord),
     ("behind-line", Fault::BehindLine),
+    ("version-late", Fault::VersionLate),
+    ("time-always", Fault::TimeAlways),
+    ("time-product", Fault::TimeProduct),
+];
+
+/// Faults of the audit.
+pub const IN_AUDIT: [(&str, Fault); 9] = [
     ("passes-all", Fault::PassesAll),
     ("passes-none", Fault::PassesNone),
     ("index", Fault::Index),
@@ -58,6 +74,8 @@ pub const FAULTS: [(&str, Fault); 14] = [
     ("order", Fault::Order),
     ("no-limit", Fault::NoLimit),
     ("whole-limited", Fault::WholeLimited),
+    ("time-always", Fault::TimeAlways),
+    ("time-product", Fault::TimeProduct),
 ];
 
 /// Faults that end the program, as a page that can't be read is read.
@@ -68,13 +86,41 @@ pub struct Faulty {
     pub fault: Fault,
 }
 
-const SOUND: Independent = Independent { step: plain::step };
+/// The plain steps with the newest version's answers.
+fn time_always(_: u8, battery: &Battery, call: &Call) -> (Answer, Battery) {
+    plain::step(VERSIONS[VERSIONS.len() - 1], battery, call)
+}
+
+fn time_product(version: u8, battery: &Battery, call: &Call) -> (Answer, Battery) {
+    let (mut answer, after) = plain::step(version, battery, call);
+    let Call::Hydronic(fields) = call else { return (answer, after) };
+    let is_replayed = plain::hydronic_end(battery, fields) == Ok(HydronicEnd::Replay);
+    if shows_hydronic_time(version) && !is_replayed {
+        answer.time = battery.card.substep * f64::from(answer.substeps);
+    }
+    (answer, after)
+}
 
 impl Faulty {
     /// The fault of that name; none for another name.
     pub fn named(name: &str) -> Self {
-        let found = FAULTS.iter().chain(&ENDING).find(|(known, _)| *known == name);
+        let all = IN_ENTRIES.iter().chain(&IN_AUDIT).chain(&ENDING);
+        let found = all.into_iter().find(|(known, _)| *known == name);
         Faulty { fault: found.map_or(Fault::None, |(_, fault)| *fault) }
+    }
+
+    /// The steps of entries and audit.
+    pub fn step(&self) -> Step {
+        match self.fault {
+            Fault::TimeAlways => time_always,
+            Fault::TimeProduct => time_product,
+            _ => plain::step,
+        }
+    }
+
+    /// What the other faults stand before.
+    fn independent(&self) -> Independent {
+        Independent { step: self.step() }
     }
 
     /// Reads a byte outside of what is lent.
@@ -123,27 +169,43 @@ fn line_length(record: &[u8], call: &[u8]) -> usize {
 }
 
 impl Library for Faulty {
-    fn open(&self, card: &[u8], record: &mut [u8], sheet: &mut [u8]) -> u8 {
+    fn open(&self, version: u8, card: &[u8], record: &mut [u8], sheet: &mut [u8]) -> u8 {
+        let independent = self.independent();
         if self.fault == Fault::Room && sheet.len() == sheet::OPENING_BYTES {
-            return SOUND.open(card, record, &mut []);
+            return independent.open(version, card, record, &mut []);
         }
-        SOUND.open(card, record, sheet)
+        if self.fault == Fault::VersionLate {
+            // Without a record: 10 for an accepted card.
+            let refusal = independent.open(VERSIONS[0], card, &mut [], &mut []);
+            if refusal != 10 {
+                return refusal;
+            }
+        }
+        independent.open(version, card, record, sheet)
     }
 
-    fn call(&self, record: &mut [u8], call: &[u8], sheet: &mut [u8]) -> u8 {
+    fn call(&self, version: u8, record: &mut [u8], call: &[u8], sheet: &mut [u8]) -> u8 {
         self.stray(sheet);
+        let independent = self.independent();
         let needed = line_length(record, call);
         if self.fault == Fault::Room && sheet.len() == needed {
-            return SOUND.call(record, call, &mut []);
+            return independent.call(version, record, call, &mut []);
         }
         if self.fault == Fault::RoomFirst && sheet.len() < needed {
             return 11;
         }
-        let result = SOUND.call(record, &self.misread(call), sheet);
+        if self.fault == Fault::VersionLate && reading::battery(record).is_none() {
+            return 10;
+        }
+        let result = independent.call(version, record, &self.misread(call), sheet);
         match self.fault {
             Fault::LineBeforeRoom if result == 11 && sheet.len() > 2 => sheet[2] ^= 1,
-            Fault::RefusedRecord if result >= 20 => record[sheet::CARD_BYTES + 7] ^= 1,
-            Fault::BehindLine if result != 10 && sheet.len() > needed => sheet[needed] ^= 1,
+            Fault::RefusedRecord if (20..=25).contains(&result) => {
+                record[sheet::CARD_BYTES + 7] ^= 1
+            }
+            Fault::BehindLine if ![10, 40].contains(&result) && sheet.len() > needed => {
+                sheet[needed] ^= 1
+            }
             _ => {}
         }
         result
@@ -151,17 +213,19 @@ impl Library for Faulty {
 
     fn audit(&self, sheet: &[u8]) -> u64 {
         self.stray(sheet);
+        let audit = |sheet: &[u8]| auditor::audit_by(self.step(), sheet);
         let sound = match self.fault {
-            Fault::NoLimit => auditor::audit(sheet),
-            _ => auditor::audit_limited(sheet),
+            Fault::NoLimit => audit(sheet),
+            _ => auditor::limited(sheet, audit),
         };
         self.misjudged(sound, sheet).word()
     }
 
     fn audit_whole(&self, sheet: &[u8]) -> Fields {
+        let audit = |sheet: &[u8]| auditor::audit_by(self.step(), sheet);
         let sound = match self.fault {
-            Fault::WholeLimited => auditor::audit_limited(sheet),
-            _ => auditor::audit(sheet),
+            Fault::WholeLimited => auditor::limited(sheet, audit),
+            _ => audit(sheet),
         };
         self.misjudged(sound, sheet).fields()
     }

@@ -147,6 +147,11 @@ impl Line {
         self.call() + self.call_length()
     }
 
+    /// The limit of a hydronic call.
+    pub fn limit(&self) -> usize {
+        self.call() + 33
+    }
+
     pub fn call_bytes(&self) -> std::ops::Range<usize> {
         self.call()..self.answer()
     }

@@ -1,9 +1,26 @@
 //! Random cards, batteries and calls, weighted to every edge of document 01's ranges.
 
-use crate::model::{Battery, Call, Card, Demand, Hydronic, State, Totals};
+use crate::model::{is_known, Battery, Call, Card, Demand, Hydronic, State, Totals, VERSIONS};
 use crate::plain;
 use crate::random::Random;
 use crate::ranges::{self, Range};
+
+/// A known version.
+pub fn version(random: &mut Random) -> u8 {
+    random.pick(&VERSIONS)
+}
+
+/// Another byte than the known versions, most often next to them.
+pub fn unknown_version(random: &mut Random) -> u8 {
+    let newest = VERSIONS[VERSIONS.len() - 1];
+    loop {
+        let any = random.word() as u8;
+        let version = random.pick(&[0, newest + 1, newest + 1, 49, 128, 255, any]);
+        if !is_known(version) {
+            return version;
+        }
+    }
+}
 
 /// One layer of 'Points to hit' with the other fields of the readings' small inputs.
 pub fn points_card() -> Card {
@@ -43,7 +60,7 @@ fn ordinary_card(random: &mut Random) -> Card {
         units: random.pick(&[1, 1, 1, 2, 3, 7]),
         simultaneous: random.below(2) as u8,
         budget: budget(random),
-        substep: random.pick(&[20.0, 20.0, 60.0, 10.0, 300.0]),
+        substep: random.pick(&[20.0, 20.0, 60.0, 10.0, 300.0, 12.7, 7.3]),
         timestep: random.pick(&[0.5, 1.0, 1.0, 0.25]),
         initial_inlet: 10.0,
         estimated_outlet: 53.0,
@@ -214,8 +231,8 @@ pub fn full_zones(random: &mut Random, card: &Card) -> Vec<f64> {
     vec![card.max + excess; usize::from(card.layers)]
 }
 
-/// Huge zones before an ordinary one: on an equalizing card the heats of the layers can cancel
-/// to a delivery of 0 while the outlet is too far off for a logarithm.
+/// Huge zones before an ordinary one: with an equalizing exchanger the heats of the layers can cancel
+/// to a delivery of 0, most often those of two, while the outlet is too far off for a logarithm.
 fn cancelling_zones(random: &mut Random, card: &Card) -> Vec<f64> {
     let last = usize::from(card.layers) - 1;
     let mut zones = vec![random.magnitude(1e170, 1e300); last];
@@ -249,6 +266,7 @@ pub fn battery(random: &mut Random, card: &Card) -> Battery {
         0..=9 => {}
         10..=16 => battery.state.zones = (0..layers).map(|_| zone(random, card)).collect(),
         17 if random.one_in(2) => battery.state.zones = cancelling_zones(random, card),
+        18 if card.layers == 2 => battery.state.zones = cancelling_zones(random, card),
         17 => battery.state.zones = full_zones(random, card),
         _ => {
             let zones = (0..layers).map(|_| any_zone(random, card)).collect();
@@ -365,15 +383,35 @@ fn hydronic(random: &mut Random, card: &Card) -> Hydronic {
 /// The call with a limit that its own run meets, to the last places.
 fn with_met_limit(random: &mut Random, battery: &Battery, hydronic: Hydronic) -> Hydronic {
     let unlimited = Call::Hydronic(Hydronic { limit: 1e6, ..hydronic });
-    let energy = plain::step(battery, &unlimited).0.energy;
+    let energy = plain::step(VERSIONS[0], battery, &unlimited).0.energy;
     let limit = energy + random.pick(&[0.0, 0.0, 1e-14, -1e-14, 2e-14, 4e-14]);
     Hydronic { limit: limit.clamp(0.0, 1e6), ..hydronic }
 }
 
+/// The call with an exchanger that brings the water to each zone's temperature, and a limit of 0: a
+/// substep that takes up nothing meets it.
+fn equalizing(random: &mut Random, card: &Card, hydronic: Hydronic) -> Hydronic {
+    let b = random.near(equalizing_b(card.layers, hydronic.flow));
+    let hex_b = random.near(b).min(ranges::EXCHANGER.1);
+    Hydronic { hex_a: 0.0, hex_b, limit: 0.0, ..hydronic }
+}
+
+/// The call with hot water, a weak exchanger and no limit in its way: its hours end it after tens of
+/// substeps, whose sum is often no product.
+fn lasting(random: &mut Random, card: &Card, hydronic: Hydronic) -> Hydronic {
+    let seconds = card.substep * random.between(6.0, 60.0);
+    let inlet = random.between(100.0, ranges::TEMPERATURE.1);
+    let (hours, hex_b) = ((seconds / 3600.0).min(ranges::HOURS.1), random.between(1.0, 20.0));
+    Hydronic { inlet, hours, hex_a: 0.0, hex_b, limit: ranges::LIMIT.1, ..hydronic }
+}
+
 fn hydronic_call(random: &mut Random, battery: &Battery) -> Call {
     let fields = hydronic(random, &battery.card);
+    let cancelling = battery.state.zones[0] >= 1e16;
     Call::Hydronic(match random.below(10) {
         0 => with_met_limit(random, battery, fields),
+        1..=5 if cancelling => equalizing(random, &battery.card, fields),
+        1 => lasting(random, &battery.card, fields),
         _ => fields,
     })
 }

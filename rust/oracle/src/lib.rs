@@ -1,5 +1,5 @@
 //! The oracle: the published heat_battery_pcm.rs with document 01's stand-ins as the judge,
-//! a second implementation of steps, entries and auditor written from document 01 alone, and
+//! a second implementation of steps, entries and auditor written from documents 01 and 02 alone, and
 //! generators of lists, vectors, raw inputs and sheets.
 
 pub mod arguments;

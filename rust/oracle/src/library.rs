@@ -5,8 +5,8 @@ use crate::entries::{self, Step};
 use crate::lent::Flush;
 
 pub trait Library {
-    fn open(&self, card: &[u8], record: &mut [u8], sheet: &mut [u8]) -> u8;
-    fn call(&self, record: &mut [u8], call: &[u8], sheet: &mut [u8]) -> u8;
+    fn open(&self, version: u8, card: &[u8], record: &mut [u8], sheet: &mut [u8]) -> u8;
+    fn call(&self, version: u8, record: &mut [u8], call: &[u8], sheet: &mut [u8]) -> u8;
     /// The C audit: line × 256 + refusal, or lines × 256.
     fn audit(&self, sheet: &[u8]) -> u64;
     /// The C audit of any length.
@@ -23,12 +23,12 @@ pub struct Independent {
 }
 
 impl Library for Independent {
-    fn open(&self, card: &[u8], record: &mut [u8], sheet: &mut [u8]) -> u8 {
-        entries::open(card, record, sheet)
+    fn open(&self, version: u8, card: &[u8], record: &mut [u8], sheet: &mut [u8]) -> u8 {
+        entries::open(version, card, record, sheet)
     }
 
-    fn call(&self, record: &mut [u8], call: &[u8], sheet: &mut [u8]) -> u8 {
-        entries::call_by(self.step, record, call, sheet)
+    fn call(&self, version: u8, record: &mut [u8], call: &[u8], sheet: &mut [u8]) -> u8 {
+        entries::call_by(self.step, version, record, call, sheet)
     }
 
     fn audit(&self, sheet: &[u8]) -> u64 {

@@ -1,8 +1,8 @@
 //! The caller's own record as include/heat_battery.h has it, and the independent entry on it,
-//! written from document 01 alone.
+//! written from documents 01 and 02 alone.
 
 use crate::entries::Step;
-use crate::model::{Answer, Battery, Card, State, Totals};
+use crate::model::{is_known, Answer, Battery, Card, State, Totals};
 use crate::plain;
 use crate::ranges;
 use crate::reading;
@@ -126,15 +126,18 @@ impl Shown {
     }
 }
 
-/// Advances the record by a call; it stays where one of 10 and 20 to 25 is shown.
-pub fn advance(step: Step, record: &mut Record, call: &[u8]) -> Shown {
+/// Advances the record by a call; it stays where one of 40, 10 and 20 to 25 is shown.
+pub fn advance(step: Step, version: u8, record: &mut Record, call: &[u8]) -> Shown {
+    if !is_known(version) {
+        return Shown::refused(40);
+    }
     let Some(battery) = record.battery() else {
         return Shown::refused(10);
     };
     let Some(call) = reading::call(&battery.card, call) else {
         return Shown::refused(10);
     };
-    let (answer, after) = step(&battery, &call);
+    let (answer, after) = step(version, &battery, &call);
     if answer.refusal == 0 {
         record.put(&after.state);
     }

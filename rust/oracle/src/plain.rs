@@ -1,7 +1,9 @@
-//! Document 01's steps, written from document 01 alone: nothing here uses the published
+//! The steps of documents 01 and 02, written from these alone: nothing here uses the published
 //! file or the judge. Modules as document 01 numbers them.
 
-use crate::model::{Answer, Battery, Call, Card, Demand, Derived, Hydronic, State};
+use crate::model::{
+    shows_hydronic_time, Answer, Battery, Call, Card, Demand, Derived, Hydronic, State,
+};
 use crate::ranges;
 
 // ---- Stand-ins
@@ -552,46 +554,88 @@ fn battery_heat_loss(steps: &mut Substeps, state: &mut State) -> Result<f64, u8>
     Ok(steps.run(&mut state.zones, seconds, mode)?.delivered / 3600.0)
 }
 
+/// What ends a hydronic charge.
+#[derive(Clone, Copy, Debug, PartialEq, Eq, PartialOrd, Ord)]
+pub enum HydronicEnd {
+    /// The whole substeps that the hours have room for are done.
+    Hours,
+    /// An outlet not clearly below the inlet.
+    Outlet,
+    /// The limit, met in a fraction of the last substep.
+    Replay,
+    /// The limit, and the last substep took up nothing.
+    NoReplay,
+}
+
+/// What a hydronic charge hands out.
+struct HydronicRun {
+    /// Kilojoules.
+    absorbed: f64,
+    /// Of each substep; a replayed one's stand in the place of those of the one that it replays.
+    seconds: Vec<f64>,
+    end: HydronicEnd,
+}
+
 fn charge_battery_hydronic(
     steps: &mut Substeps,
-    state: &mut State,
+    zones: &mut Vec<f64>,
     call: &Hydronic,
-) -> Result<f64, u8> {
-    let card = steps.card;
-    let exchanger = Exchanger {
-        velocity: call.velocity,
-        diameter: call.diameter,
-        a: call.hex_a,
-        b: call.hex_b,
-        flow: call.flow,
-    };
+) -> Result<HydronicRun, u8> {
+    let Hydronic { velocity, diameter, hex_a: a, hex_b: b, flow, inlet, .. } = *call;
+    let (card, exchanger) = (steps.card, Exchanger { velocity, diameter, a, b, flow });
+    let normal = |reynolds| Mode::Normal { exchanger, reynolds, inlet, power: 0.0 };
     let limit = call.limit * 3600.0;
     let mut reynolds = exchanger.reynolds(card.initial_inlet, card.estimated_outlet);
-    let mut absorbed = 0.0;
+    let mut run = HydronicRun { absorbed: 0.0, seconds: Vec::new(), end: HydronicEnd::Hours };
     for _ in 0..truncate(call.hours * 3600.0 / card.substep) {
-        let before = state.zones.clone();
-        let mode = Mode::Normal { exchanger, reynolds, inlet: call.inlet, power: 0.0 };
-        let whole = steps.run(&mut state.zones, card.substep, mode)?;
-        reynolds = exchanger.reynolds(call.inlet, whole.outlet);
-        if whole.outlet >= call.inlet || near(whole.outlet, call.inlet, 1e-10) {
+        let before = zones.clone();
+        let whole = steps.run(zones, card.substep, normal(reynolds))?;
+        run.seconds.push(card.substep);
+        reynolds = exchanger.reynolds(inlet, whole.outlet);
+        if whole.outlet >= inlet || near(whole.outlet, inlet, 1e-10) {
+            run.end = HydronicEnd::Outlet;
             break;
         }
         let taken = -whole.delivered;
-        absorbed += taken;
-        if absorbed > limit || near(absorbed, limit, 1e-10) {
+        run.absorbed += taken;
+        if run.absorbed > limit || near(run.absorbed, limit, 1e-10) {
+            run.end = HydronicEnd::NoReplay;
             if taken > 0.0 {
-                let fraction = (limit - (absorbed - taken)) / taken;
-                state.zones = before;
-                let mode = Mode::Normal { exchanger, reynolds, inlet: call.inlet, power: 0.0 };
-                steps.run(&mut state.zones, card.substep * fraction, mode)?;
-                absorbed = limit;
+                let fraction = (limit - (run.absorbed - taken)) / taken;
+                run.seconds.pop();
+                run.seconds.push(card.substep * fraction);
+                *zones = before;
+                steps.run(zones, card.substep * fraction, normal(reynolds))?;
+                run.absorbed = limit;
+                run.end = HydronicEnd::Replay;
             }
             break;
         }
     }
-    let energy = absorbed / 3600.0;
+    Ok(run)
+}
+
+fn hydronic(
+    version: u8,
+    steps: &mut Substeps,
+    state: &mut State,
+    call: &Hydronic,
+) -> Result<Answer, u8> {
+    let run = charge_battery_hydronic(steps, &mut state.zones, call)?;
+    let energy = run.absorbed / 3600.0;
     state.totals.charged += energy;
-    Ok(energy)
+    let mut answer = Answer::plain(energy, steps.done, state.clone());
+    if shows_hydronic_time(version) {
+        answer.time = run.seconds.iter().fold(0.0, |sum, seconds| sum + seconds);
+    }
+    Ok(answer)
+}
+
+/// How a hydronic charge of a good battery ends, or the refusal of its substeps.
+pub fn hydronic_end(battery: &Battery, call: &Hydronic) -> Result<HydronicEnd, u8> {
+    let mut steps = Substeps { card: &battery.card, done: 0 };
+    let mut zones = battery.state.zones.clone();
+    charge_battery_hydronic(&mut steps, &mut zones, call).map(|run| run.end)
 }
 
 pub fn calculate_charge_energy_demand(
@@ -716,7 +760,7 @@ fn demand(steps: &mut Substeps, state: &mut State, demand: &Demand) -> Result<An
 
 // ---- Module 8: calls
 
-fn answer(battery: &Battery, call: &Call) -> Result<Answer, u8> {
+fn answer(version: u8, battery: &Battery, call: &Call) -> Result<Answer, u8> {
     let mut state = battery.state.clone();
     let card = &battery.card;
     let mut steps = Substeps { card, done: 0 };
@@ -725,7 +769,7 @@ fn answer(battery: &Battery, call: &Call) -> Result<Answer, u8> {
         Call::Electric { power, target } => {
             charge_battery_electric(&mut steps, &mut state, *power, *target)?
         }
-        Call::Hydronic(fields) => charge_battery_hydronic(&mut steps, &mut state, fields)?,
+        Call::Hydronic(fields) => return hydronic(version, &mut steps, &mut state, fields),
         Call::StandingLoss => battery_heat_loss(&mut steps, &mut state)?,
         Call::CloseTimestep => {
             state.totals.running_hours = 0.0;
@@ -741,8 +785,8 @@ fn answer(battery: &Battery, call: &Call) -> Result<Answer, u8> {
     Ok(Answer::plain(energy, steps.done, state))
 }
 
-/// One call of document 01 on a battery: the answer, and the battery that it leaves.
-pub fn step(battery: &Battery, call: &Call) -> (Answer, Battery) {
+/// One call on a battery in a known version: the answer, and the battery that it leaves.
+pub fn step(version: u8, battery: &Battery, call: &Call) -> (Answer, Battery) {
     let before = &battery.state;
     let answer = if card_refusal(&battery.card) != 0
         || ranges::battery_refusal(battery)
@@ -750,7 +794,7 @@ pub fn step(battery: &Battery, call: &Call) -> (Answer, Battery) {
     {
         Answer::refused(10, before)
     } else {
-        match answer(battery, call) {
+        match answer(version, battery, call) {
             Ok(answer) => answer.or_23(before),
             Err(refusal) => Answer::refused(refusal, before),
         }

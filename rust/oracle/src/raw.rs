@@ -10,6 +10,7 @@ use crate::sheet::{self, CARD_BYTES, OPENING_BYTES};
 
 /// What is lent to `open`.
 pub struct Opening {
+    pub version: u8,
     pub card: Vec<u8>,
     pub record: Vec<u8>,
     pub sheet: Vec<u8>,
@@ -19,6 +20,7 @@ pub struct Opening {
 
 /// What is lent to `call`.
 pub struct Calling {
+    pub version: u8,
     pub record: Vec<u8>,
     pub call: Vec<u8>,
     pub sheet: Vec<u8>,
@@ -122,6 +124,15 @@ fn raw_card(random: &mut Random) -> (Vec<u8>, Option<u8>) {
     }
 }
 
+/// The version, or in one of twelve cases an unknown one, and what is known then: 40, whatever else
+/// is wrong.
+fn raw_version(random: &mut Random, version: u8, known: Known) -> (u8, Known) {
+    match random.one_in(12) {
+        true => (generate::unknown_version(random), Known::Refusal(40)),
+        false => (version, known),
+    }
+}
+
 pub fn opening(random: &mut Random) -> Opening {
     let (card, refusal) = raw_card(random);
     let layers = card.first().copied().unwrap_or(1);
@@ -135,7 +146,10 @@ pub fn opening(random: &mut Random) -> Opening {
         Some(0) => Known::Line,
         Some(refusal) => Known::Refusal(refusal),
     };
-    Opening { card, record: garbage(random, length), sheet: garbage(random, room), known }
+    let version = generate::version(random);
+    let (version, known) = raw_version(random, version, known);
+    let (record, sheet) = (garbage(random, length), garbage(random, room));
+    Opening { version, card, record, sheet, known }
 }
 
 /// A damaged record, and whether 10 is certain.
@@ -200,8 +214,8 @@ fn damaged_call(random: &mut Random, call: &[u8], timestep: f64) -> (Vec<u8>, bo
     }
 }
 
-/// An input of `call` for a battery that is good.
-pub fn calling(random: &mut Random, battery: &Battery) -> Calling {
+/// An input of `call` for a battery that is good, in a list of a version.
+pub fn calling(random: &mut Random, version: u8, battery: &Battery) -> Calling {
     let record = sheet::battery_bytes(battery);
     let call = sheet::call_bytes(&generate::next_call(random, battery));
     let needed = 2 + call.len() + sheet::answer_length(battery.card.layers);
@@ -218,5 +232,6 @@ pub fn calling(random: &mut Random, battery: &Battery) -> Calling {
         _ if free < needed => (record, call, Known::Refusal(11)),
         _ => (record, call, Known::Line),
     };
-    Calling { record, call, sheet: garbage(random, free), known }
+    let (version, known) = raw_version(random, version, known);
+    Calling { version, record, call, sheet: garbage(random, free), known }
 }

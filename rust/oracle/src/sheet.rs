@@ -1,8 +1,7 @@
-//! The bytes of document 01's sheet, written from document 01: card, call, battery and line.
+//! The bytes of the sheet, written from documents 01 and 02: card, call, battery and line.
 
 use crate::model::{Answer, Battery, Call, Card, State};
 
-pub const VERSION: u8 = 1;
 /// Line 0 after its length.
 pub const CARD_BYTES: usize = 158;
 /// Version, length of line 0, line 0.
@@ -103,8 +102,8 @@ fn line(content: Vec<u8>) -> Vec<u8> {
 }
 
 /// What opening leaves on a sheet: the version and line 0.
-pub fn opening(card: &Card) -> Vec<u8> {
-    let mut bytes = vec![VERSION];
+pub fn opening(version: u8, card: &Card) -> Vec<u8> {
+    let mut bytes = vec![version];
     bytes.extend(line(card_bytes(card)));
     bytes
 }

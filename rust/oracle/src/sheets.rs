@@ -1,5 +1,5 @@
-//! Named sheets for stored tests of the audit program, each with the verdict that document 01
-//! gives it.
+//! Named sheets for stored tests of the audit program, each with the verdict that documents 01 and 02
+//! give it.
 
 mod accepted;
 mod refused;
@@ -58,23 +58,27 @@ fn save(folder: &Path, name: &str, bytes: &[u8]) -> Result<(), String> {
 // ---- Writing
 
 /// The sheet of a list, and what each call returned.
-fn run(card: &Card, calls: &[Call]) -> (Vec<u8>, Vec<u8>) {
+fn run(version: u8, card: &Card, calls: &[Call]) -> (Vec<u8>, Vec<u8>) {
     let mut record = vec![0; sheet::record_length(card.layers)];
     let mut bytes = vec![0; OPENING_BYTES];
-    assert_eq!(entries::open(&sheet::card_bytes(card), &mut record, &mut bytes), 0);
+    assert_eq!(entries::open(version, &sheet::card_bytes(card), &mut record, &mut bytes), 0);
     let mut results = Vec::new();
     for call in calls {
         let call = sheet::call_bytes(call);
         let used = bytes.len();
         bytes.resize(used + 2 + call.len() + sheet::answer_length(card.layers), 0);
-        results.push(entries::call(&mut record, &call, &mut bytes[used..]));
+        results.push(entries::call(version, &mut record, &call, &mut bytes[used..]));
     }
     (bytes, results)
 }
 
-/// The sheet of a list that 10 spares.
+/// The sheet of a list that 10 spares, of version 1.
 fn written(card: &Card, calls: &[Call]) -> Vec<u8> {
-    let (bytes, results) = run(card, calls);
+    written_in(1, card, calls)
+}
+
+fn written_in(version: u8, card: &Card, calls: &[Call]) -> Vec<u8> {
+    let (bytes, results) = run(version, card, calls);
     assert!(!results.contains(&10));
     bytes
 }

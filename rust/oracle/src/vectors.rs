@@ -59,18 +59,19 @@ fn function_file(make: Make, count: u64, mut random: Random) -> Vec<u8> {
     bytes
 }
 
-/// Bytes of lists with `count` calls in all, each list after its start record.
+/// Bytes of lists with `count` calls in all, each list of one version after its start record.
 fn lists_file(count: u64, mut random: Random) -> Vec<u8> {
     let mut bytes = Vec::new();
     let mut left = count;
     while left > 0 {
+        let version = generate::version(&mut random);
         let card = generate::card(&mut random);
         let mut battery = generate::battery(&mut random, &card);
-        Record::new(START).battery(&battery).write(&mut bytes);
+        Record::new(START).battery(&battery).word(u64::from(version)).write(&mut bytes);
         let calls = generate::list_length(&mut random).min(left);
         for _ in 0..calls {
             let call = generate::next_call(&mut random, &battery);
-            let (answer, after) = judge::step(&battery, &call);
+            let (answer, after) = judge::step(version, &battery, &call);
             Record::new(51).call(&call).answer(&answer).write(&mut bytes);
             battery = after;
         }

@@ -4,15 +4,16 @@ use oracle::auditor::{audit, audit_limited, Verdict};
 use oracle::compare;
 use oracle::damage::{self, Known, Sheet};
 use oracle::entries;
-use oracle::faults::{Faulty, FAULTS};
+use oracle::faults::{Faulty, IN_AUDIT};
 use oracle::fields;
 use oracle::generate::{self, points_card};
-use oracle::model::Card;
+use oracle::model::{is_known, Card, VERSIONS};
 use oracle::random::Random;
 use oracle::sheet::{self, OPENING_BYTES};
 #[cfg(published)]
 use oracle::{judge, library::Independent};
 use oracle::{plain, sheets};
+use std::collections::BTreeMap;
 
 fn named(name: &str) -> Vec<u8> {
     let found = sheets::all().into_iter().find(|sheet| sheet.name == name);
@@ -24,20 +25,21 @@ fn assert_known(sheet: &Sheet) {
     assert!(sheet.known.allows(&verdict), "{}: {verdict}, {:?}", sheet.what, sheet.known);
 }
 
-/// The sheet that the entries write for the calls of a sheet, cut into lines by its lengths
-/// alone; None where the card is refused, a call is or a length doesn't fit.
+/// The sheet that the entries write for the version and the calls of a sheet, cut into lines by its
+/// lengths alone; None where version or card are refused, a call is or a length doesn't fit.
 fn replayed(bytes: &[u8]) -> Option<Vec<u8>> {
+    let version = *bytes.first()?;
     let card = bytes.get(3..OPENING_BYTES)?;
     let mut record = vec![0; sheet::record_length(card[0])];
     let mut written = vec![0; OPENING_BYTES];
-    if entries::open(card, &mut record, &mut written) != 0 {
+    if entries::open(version, card, &mut record, &mut written) != 0 {
         return None;
     }
     let mut rest = &bytes[OPENING_BYTES..];
     while !rest.is_empty() {
         let call = rest.get(2..2 + sheet::call_length(*rest.get(2)?)?)?;
         let mut line = vec![0; 2 + call.len() + sheet::answer_length(card[0])];
-        if entries::call(&mut record, call, &mut line) == 10 {
+        if entries::call(version, &mut record, call, &mut line) == 10 {
             return None;
         }
         rest = rest.get(line.len()..)?;
@@ -72,7 +74,8 @@ fn the_library_has_no_limit_and_the_c_audit_has() {
 /// Every bit of every byte, and every length.
 #[test]
 fn flipped_everywhere_and_cut_everywhere() {
-    for name in ["kind_demand", "kind_hydronic", "kind_charge_energy_demand", "zero_signs"] {
+    let kinds = ["kind_demand", "kind_hydronic", "kind_charge_energy_demand"];
+    for name in kinds.into_iter().chain(["zero_signs", "hydronic_times"]) {
         let bytes = named(name);
         let lines = fields::lines(&bytes);
         for at in 0..bytes.len() {
@@ -84,11 +87,12 @@ fn flipped_everywhere_and_cut_everywhere() {
     }
 }
 
-/// A bit of every byte of a sheet with every kind and refusal.
+/// A bit of every byte of a sheet with every kind and refusal, in both versions.
 #[test]
 fn all_kinds_damaged_everywhere() {
-    let bytes = named("all_kinds");
-    damage::everywhere(&mut Random::new(3), &bytes).iter().for_each(assert_known);
+    for name in ["all_kinds", "all_kinds_version_2"] {
+        damage::everywhere(&mut Random::new(3), &named(name)).iter().for_each(assert_known);
+    }
 }
 
 #[test]
@@ -112,7 +116,7 @@ fn accepted_exactly_when_replayed() {
     let mut accepted = 0;
     for index in 0..150 {
         for Sheet { what, bytes, .. } in damage::family(&mut random, index) {
-            let lays_out = bytes.starts_with(&[1, 0, 158]);
+            let lays_out = bytes.get(1..3) == Some(&[0, 158]);
             let same = |written: Vec<u8>| equal_but_for_zeros(&written, &bytes);
             let replays = lays_out && replayed(&bytes).is_some_and(same);
             let is_accepted = matches!(audit(&bytes), Verdict::Accepted(_));
@@ -125,12 +129,54 @@ fn accepted_exactly_when_replayed() {
     assert!(accepted > 300);
 }
 
+/// The same list in versions 1 and 2: the sheets differ in the first byte and in the times of
+/// hydronic lines, which version 1 shows as 0.
+#[test]
+fn versions_differ_in_hydronic_times() {
+    let mut times = 0;
+    for seed in 0..300 {
+        let card = generate::card(&mut Random::new(seed));
+        let write = |version| damage::write(&mut Random::new(seed), version, &card, 20, 60_000);
+        let [untimed, timed] = [1, 2].map(|version| write(version).bytes);
+        let mut stripped = timed.clone();
+        stripped[0] = 1;
+        for line in fields::lines(&timed).iter().filter(|line| line.kind == 3) {
+            times += u64::from(fields::number_at(&timed, line.time()) != 0.0);
+            fields::put_number(&mut stripped, line.time(), 0.0);
+        }
+        assert_eq!(stripped, untimed);
+    }
+    assert!(times > 300, "{times}");
+}
+
+/// Another version in the first byte: accepted where no hydronic line has a time in either.
+#[test]
+fn turned_versions() {
+    let mut random = Random::new(19);
+    let mut counts = BTreeMap::new();
+    for index in 0..600 {
+        for sheet in damage::family(&mut random, index) {
+            if sheet.what == "version" {
+                assert_known(&sheet);
+                let version = Some(sheet.bytes[0]).filter(|version| is_known(*version));
+                let refusal = audit(&sheet.bytes).refusal();
+                *counts.entry((version, refusal)).or_insert(0u64) += 1;
+            }
+        }
+    }
+    let met: Vec<_> =
+        counts.iter().filter(|(_, count)| **count >= 20).map(|(met, _)| *met).collect();
+    let (one, two) = (Some(1), Some(2));
+    assert_eq!(met, [(None, 40), (one, 0), (one, 43), (two, 0), (two, 43)], "{counts:?}");
+}
+
 /// However few bytes were free.
 #[test]
 fn written_sheets_are_accepted_in_every_room() {
     for room in OPENING_BYTES..OPENING_BYTES + 700 {
+        let version = VERSIONS[room % VERSIONS.len()];
         let card = Card { layers: 1 + (room % 3) as u8, ..points_card() };
-        let written = damage::write(&mut Random::new(room as u64), &card, 12, room);
+        let written = damage::write(&mut Random::new(room as u64), version, &card, 12, room);
         assert!(written.bytes.len() <= room);
         assert_eq!(audit(&written.bytes), Verdict::Accepted(written.lines));
         assert_eq!(fields::lines(&written.bytes).len() as u64, written.lines);
@@ -141,8 +187,9 @@ fn written_sheets_are_accepted_in_every_room() {
 fn charged_total_and_directions_on_accepted_sheets() {
     let mut random = Random::new(13);
     for _ in 0..300 {
+        let version = generate::version(&mut random);
         let card = generate::card(&mut random);
-        let bytes = damage::write(&mut random, &card, 20, 60_000).bytes;
+        let bytes = damage::write(&mut random, version, &card, 20, 60_000).bytes;
         let mut charged = 0.0;
         let mut before = vec![card.start; usize::from(card.layers)];
         for line in fields::lines(&bytes) {
@@ -176,8 +223,8 @@ fn plain_and_judge_give_the_same_verdicts() {
 
 #[test]
 fn a_comparison_finds_every_fault() {
-    for (name, fault) in FAULTS.iter().skip(7) {
-        let report = compare::audit(&Faulty { fault: *fault }, plain::step, 8_000, 5);
+    for (name, fault) in IN_AUDIT {
+        let report = compare::audit(&Faulty { fault }, plain::step, 8_000, 5);
         assert!(report.disagreements > 0, "{name}");
         assert_eq!(report.surprises, 0, "{name}");
     }

@@ -1,16 +1,17 @@
 //! The independent entries: order of refusals, what is written, what stays.
 
 use oracle::compare;
-use oracle::entries::{call, open};
-use oracle::faults::{Faulty, FAULTS};
+use oracle::entries;
+use oracle::faults::{Faulty, IN_ENTRIES};
 use oracle::fields::put_number;
 use oracle::generate::points_card;
-use oracle::model::{Battery, Call, Card, Demand};
+use oracle::model::{Battery, Call, Card, Demand, VERSIONS};
 #[cfg(published)]
 use oracle::{judge, library::Independent};
 use oracle::{plain, sheet};
 
 const UNTOUCHED: u8 = 0xee;
+const UNKNOWN: [u8; 4] = [0, VERSIONS[VERSIONS.len() - 1] + 1, 49, 255];
 
 fn untouched(length: usize) -> Vec<u8> {
     vec![UNTOUCHED; length]
@@ -31,18 +32,40 @@ fn demand() -> Demand {
     }
 }
 
-/// Opens and expects a refusal that changes no byte.
-fn assert_open_refused(card: &[u8], record_length: usize, room: usize, refusal: u8) {
-    let (mut record, mut lent) = (untouched(record_length), untouched(room));
-    assert_eq!(open(card, &mut record, &mut lent), refusal);
-    assert_eq!((record, lent), (untouched(record_length), untouched(room)));
+/// A call that every version answers alike, as none of these tests' calls is hydronic.
+fn call(record: &mut [u8], bytes: &[u8], sheet: &mut [u8]) -> u8 {
+    let [first, others @ ..] = VERSIONS.map(|version| {
+        let (mut record, mut sheet) = (record.to_vec(), sheet.to_vec());
+        (entries::call(version, &mut record, bytes, &mut sheet), record, sheet)
+    });
+    assert!(others.iter().all(|other| *other == first));
+    record.copy_from_slice(&first.1);
+    sheet.copy_from_slice(&first.2);
+    first.0
 }
 
-/// Calls and expects a refusal that changes no byte.
+/// Every known version with this refusal, and unknown ones with 40.
+fn in_versions(refusal: u8) -> impl Iterator<Item = (u8, u8)> {
+    let known = VERSIONS.map(|version| (version, refusal));
+    known.into_iter().chain(UNKNOWN.map(|version| (version, 40)))
+}
+
+/// An opening that is refused, or for its version with 40; no byte changes.
+fn assert_open_refused(card: &[u8], record_length: usize, room: usize, refusal: u8) {
+    for (version, refusal) in in_versions(refusal) {
+        let (mut record, mut lent) = (untouched(record_length), untouched(room));
+        assert_eq!(entries::open(version, card, &mut record, &mut lent), refusal);
+        assert_eq!((record, lent), (untouched(record_length), untouched(room)));
+    }
+}
+
+/// The same of a call.
 fn assert_call_refused(record: &[u8], bytes: &[u8], room: usize, refusal: u8) {
-    let (mut after, mut lent) = (record.to_vec(), untouched(room));
-    assert_eq!(call(&mut after, bytes, &mut lent), refusal, "{bytes:?}");
-    assert_eq!((&after[..], lent), (record, untouched(room)));
+    for (version, refusal) in in_versions(refusal) {
+        let (mut after, mut lent) = (record.to_vec(), untouched(room));
+        assert_eq!(entries::call(version, &mut after, bytes, &mut lent), refusal, "{bytes:?}");
+        assert_eq!((&after[..], lent), (record, untouched(room)));
+    }
 }
 
 // ---- Opening
@@ -51,15 +74,31 @@ fn assert_call_refused(record: &[u8], bytes: &[u8], room: usize, refusal: u8) {
 fn opening_writes_version_line_0_and_the_fresh_record() {
     let card = Card { layers: 2, ..points_card() };
     let bytes = sheet::card_bytes(&card);
-    let (mut record, mut lent) = (untouched(214), untouched(165));
-    assert_eq!(open(&bytes, &mut record, &mut lent), 0);
-    assert_eq!(lent[..3], [1, 0, 158]);
-    assert_eq!(lent[3..161], bytes);
-    assert_eq!(lent[161..], untouched(4));
-    assert_eq!(record[..158], bytes);
-    assert_eq!(record[158..166], 60f64.to_be_bytes());
-    assert_eq!(record[166..174], 60f64.to_be_bytes());
-    assert_eq!(record[174..], [0; 40]);
+    for version in VERSIONS {
+        let (mut record, mut lent) = (untouched(214), untouched(165));
+        assert_eq!(entries::open(version, &bytes, &mut record, &mut lent), 0);
+        assert_eq!(lent[..3], [version, 0, 158]);
+        assert_eq!(lent[3..161], bytes);
+        assert_eq!(lent[161..], untouched(4));
+        assert_eq!(record[..158], bytes);
+        assert_eq!(record[158..166], 60f64.to_be_bytes());
+        assert_eq!(record[166..174], 60f64.to_be_bytes());
+        assert_eq!(record[174..], [0; 40]);
+    }
+}
+
+/// Where nothing else is wrong.
+#[test]
+fn an_unknown_version_is_40_and_changes_nothing() {
+    let card = points_card();
+    for version in UNKNOWN {
+        let (mut fresh, mut lent) = (untouched(206), untouched(165));
+        assert_eq!(entries::open(version, &sheet::card_bytes(&card), &mut fresh, &mut lent), 40);
+        assert_eq!((fresh, &lent), (untouched(206), &untouched(165)));
+        let mut after = record(&card);
+        assert_eq!(entries::call(version, &mut after, &[4], &mut lent), 40);
+        assert_eq!((after, lent), (record(&card), untouched(165)));
+    }
 }
 
 #[test]
@@ -218,18 +257,18 @@ fn plain_and_judge_give_the_same_bytes() {
     let judged = Independent { step: judge::step };
     let report = compare::entries(&judged, plain::step, 40_000, 5);
     assert!(report.is_clean(), "{report}");
-    for refusal in [0, 1, 2, 3, 4, 10, 11] {
+    for refusal in [0, 1, 2, 3, 4, 10, 11, 40] {
         assert!(report.count("open", refusal) > 0, "open {refusal}");
     }
-    for refusal in [0, 10, 11, 20, 21, 22, 23, 24, 25] {
+    for refusal in [0, 10, 11, 20, 21, 22, 23, 24, 25, 40] {
         assert!(report.count("call", refusal) > 0, "call {refusal}");
     }
 }
 
 #[test]
 fn a_comparison_finds_every_fault() {
-    for (name, fault) in FAULTS.iter().take(7) {
-        let report = compare::entries(&Faulty { fault: *fault }, plain::step, 10_000, 7);
+    for (name, fault) in IN_ENTRIES {
+        let report = compare::entries(&Faulty { fault }, plain::step, 10_000, 7);
         assert!(report.disagreements > 0, "{name}");
         assert_eq!(report.surprises, 0, "{name}");
     }

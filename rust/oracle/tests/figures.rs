@@ -1,15 +1,23 @@
 //! Every figure of the readings and document 01's 'Points to hit', on the plain implementation
-//! and, with the published file, on the judge.
+//! and, with the published file, on the judge, in every version.
 
-use oracle::entries::STEPS;
+use oracle::entries::{Step, STEPS};
 use oracle::generate::points_card;
 #[cfg(published)]
 use oracle::judge::{self, Salt, Zone};
-use oracle::model::{Answer, Battery, Call, Card, Demand, Hydronic};
+use oracle::model::{Answer, Battery, Call, Card, Demand, Hydronic, VERSIONS};
 use oracle::{plain, ranges, sheet, stand_ins};
 
 #[cfg(published)]
 const SALT: Salt = Salt { lower: 48.0, upper: 56.0, below: 4.0, during: 32.0, above: 2.0 };
+
+/// The steps of every implementation in every version.
+fn steps() -> impl Iterator<Item = impl Fn(&Battery, &Call) -> (Answer, Battery)> {
+    let of = |step: Step| {
+        VERSIONS.map(|version| move |battery: &Battery, call: &Call| step(version, battery, call))
+    };
+    STEPS.into_iter().flat_map(of)
+}
 
 fn plain_salt() -> plain::Salt {
     plain::salt(&points_card())
@@ -105,7 +113,7 @@ fn points_charge_level_and_energy_required() {
 
 #[test]
 fn points_standing_loss_has_no_floor() {
-    for step in STEPS {
+    for step in steps() {
         let (answer, after) = step(&battery(points_card(), 76.0), &Call::StandingLoss);
         assert_eq!((answer.refusal, answer.energy, answer.substeps), (0, 0.25, 1));
         assert_eq!(after.state.zones, [-103.0]);
@@ -118,7 +126,7 @@ fn points_standing_loss_has_no_floor() {
 fn demand_charges_to_ref() {
     let card = Card { simultaneous: 1, power: 1000.0, reference: 50.0, ..points_card() };
     let call = Call::Demand(Demand { control_on: 1, ..demand(1e-9, 45.0) });
-    for step in STEPS {
+    for step in steps() {
         let (answer, after) = step(&battery(card, 46.0), &call);
         assert_eq!(answer.refusal, 0);
         assert_eq!(after.state.zones, [50.0]);
@@ -129,7 +137,7 @@ fn demand_charges_to_ref() {
 
 #[test]
 fn any_negative_delivery_ends_a_demand() {
-    for step in STEPS {
+    for step in steps() {
         let (answer, _) = step(&battery(points_card(), 60.0), &Call::Demand(demand(1.0, 60.0)));
         assert_eq!(answer.outlet, Some(59.99999999999999));
         assert_eq!(answer.substeps, 1);
@@ -138,7 +146,7 @@ fn any_negative_delivery_ends_a_demand() {
 
 #[test]
 fn the_substep_of_a_negative_delivery_stays() {
-    for step in STEPS {
+    for step in steps() {
         let (answer, after) = step(&battery(points_card(), 40.0), &Call::Demand(demand(1.0, 60.0)));
         assert_eq!((answer.energy, answer.time), (0.0, 1.0));
         assert_eq!(answer.outlet, Some(38.22299651567944));
@@ -149,7 +157,7 @@ fn the_substep_of_a_negative_delivery_stays() {
 #[test]
 fn a_delivery_of_zero_leaves_the_step() {
     let call = Call::Demand(demand(1.0, 0.0));
-    for step in STEPS {
+    for step in steps() {
         let enough = battery(Card { budget: 3600, ..points_card() }, 0.0);
         assert_eq!(step(&enough, &call).0.substeps, 3600);
         let short = battery(Card { budget: 3599, ..points_card() }, 0.0);
@@ -161,7 +169,7 @@ fn a_delivery_of_zero_leaves_the_step() {
 fn the_first_second_is_capped_by_nothing() {
     let required = 1.0000000000000002e-10;
     let late = Demand { start: 1.0, ..demand(required, 10.0) };
-    for step in STEPS {
+    for step in steps() {
         for substep in [20.0, 0.1] {
             let start = battery(Card { substep, ..points_card() }, 60.0);
             for fields in [demand(required, 10.0), late] {
@@ -183,7 +191,7 @@ fn trials_show_outlet_and_time_and_change_nothing() {
     let start = battery(points_card(), 60.0);
     let committed = demand(0.01, 10.0);
     let trial = Demand { commit: 0, service_type: 0, ..committed };
-    for step in STEPS {
+    for step in steps() {
         let (ran, after) = step(&start, &Call::Demand(committed));
         let (tried, kept) = step(&start, &Call::Demand(trial));
         assert_eq!(tried.refusal, 0);
@@ -199,7 +207,7 @@ fn trials_show_outlet_and_time_and_change_nothing() {
 fn refusals_20_and_21() {
     let start = battery(points_card(), 60.0);
     let absent = Demand { return_temperature: None, ..demand(1.0, 0.0) };
-    for step in STEPS {
+    for step in steps() {
         for (fields, refusal) in [
             (absent, 20),
             (Demand { commit: 0, ..absent }, 20),
@@ -215,7 +223,7 @@ fn refusals_20_and_21() {
 
 #[test]
 fn units_divide_and_multiply_in_a_demand() {
-    for step in STEPS {
+    for step in steps() {
         let one = battery(points_card(), 60.0);
         let two = battery(Card { units: 2, ..points_card() }, 60.0);
         let (of_one, after_one) = step(&one, &Call::Demand(demand(0.01, 10.0)));
@@ -230,7 +238,7 @@ fn units_divide_and_multiply_in_a_demand() {
 #[test]
 fn a_limit_of_zero_takes_two_substeps() {
     let call = Call::Hydronic(hydronic(70.0, 1.0, 0.0));
-    for step in STEPS {
+    for step in steps() {
         let (answer, _) = step(&battery(points_card(), 40.0), &call);
         assert_eq!((answer.refusal, answer.energy, answer.substeps), (0, 0.0, 2));
         let short = battery(Card { budget: 1, ..points_card() }, 40.0);
@@ -240,7 +248,7 @@ fn a_limit_of_zero_takes_two_substeps() {
 
 #[test]
 fn the_limit_comes_back_rounded() {
-    for step in STEPS {
+    for step in steps() {
         let start = battery(points_card(), 40.0);
         let (answer, after) = step(&start, &Call::Hydronic(hydronic(70.0, 1.0, 0.011)));
         assert_eq!(answer.energy, 0.010999999999999998);
@@ -251,7 +259,7 @@ fn the_limit_comes_back_rounded() {
 #[test]
 fn whole_substeps_are_truncated_after_rounding() {
     let card = Card { below: 1e6, ..points_card() };
-    for step in STEPS {
+    for step in steps() {
         let (answer, _) = step(&battery(card, 0.0), &Call::Hydronic(hydronic(70.0, 2.05, 1e6)));
         assert_eq!(answer.substeps, 368);
     }
@@ -259,7 +267,7 @@ fn whole_substeps_are_truncated_after_rounding() {
 
 #[test]
 fn a_warm_outlet_counts_no_heat() {
-    for step in STEPS {
+    for step in steps() {
         let start = battery(points_card(), 60.0);
         let (answer, after) = step(&start, &Call::Hydronic(hydronic(40.0, 0.1, 1.0)));
         assert_eq!((answer.energy, answer.substeps), (0.0, 1));
@@ -269,7 +277,7 @@ fn a_warm_outlet_counts_no_heat() {
 
 #[test]
 fn the_target_changes_nothing() {
-    for step in STEPS {
+    for step in steps() {
         let start = battery(points_card(), 40.0);
         let full = hydronic(70.0, 0.5, 1.0);
         let (with_full, _) = step(&start, &Call::Hydronic(full));
@@ -282,7 +290,7 @@ fn the_target_changes_nothing() {
 fn refusal_24_in_the_fractional_substep() {
     let singular = -836.8 * 63.0 * 1.001;
     let call = Call::Hydronic(Hydronic { hex_b: singular, ..hydronic(70.0, 1.0, 1.0) });
-    for step in STEPS {
+    for step in steps() {
         for zone in [40.0, 60.0] {
             let start = battery(Card { layers: 63, ..points_card() }, zone);
             assert_refused(&step(&start, &call).0, 24, &start);
@@ -298,7 +306,7 @@ fn refusal_24_in_a_demand() {
     let card = Card { layers: 2, b: 1673.6000000000006, ..points_card() };
     let mut start = battery(card, 60.0);
     start.state.zones = vec![5e200, 40.0];
-    for step in STEPS {
+    for step in steps() {
         assert_refused(&step(&start, &Call::Demand(demand(1.0, 10.0))).0, 24, &start);
         let short = Battery { card: Card { budget: 1, ..card }, ..start.clone() };
         assert_refused(&step(&short, &Call::Demand(demand(1.0, 10.0))).0, 22, &short);
@@ -310,7 +318,7 @@ fn refusal_24_in_a_demand() {
 #[test]
 fn electric_charges_the_last_zone_first() {
     let card = Card { layers: 2, ..points_card() };
-    for step in STEPS {
+    for step in steps() {
         let call = Call::Electric { power: 0.01, target: 1.0 };
         let (answer, after) = step(&battery(card, 40.0), &call);
         assert_eq!((answer.energy, answer.substeps), (0.01, 1));
@@ -322,7 +330,7 @@ fn electric_charges_the_last_zone_first() {
 fn infinite_time_charges_to_the_target() {
     let mut start = battery(Card { layers: 3, ..points_card() }, 40.0);
     start.state.totals.running_hours = -1e308;
-    for step in STEPS {
+    for step in steps() {
         let (answer, after) = step(&start, &Call::Electric { power: 1.0, target: 0.5 });
         assert_eq!(answer.refusal, 0);
         assert_eq!(after.state.zones, [49.75; 3]);
@@ -333,7 +341,7 @@ fn infinite_time_charges_to_the_target() {
 fn time_left_is_never_below_zero() {
     let mut start = battery(points_card(), 40.0);
     start.state.totals.running_hours = 2.0;
-    for step in STEPS {
+    for step in steps() {
         let (answer, after) = step(&start, &Call::Electric { power: 1.0, target: 1.0 });
         assert_eq!((answer.refusal, answer.energy, answer.substeps), (0, 0.0, 1));
         assert_eq!(after.state.zones, [40.0]);
@@ -346,7 +354,7 @@ fn closing_keeps_the_charged_totals() {
     start.state.totals.running_hours = 0.5;
     start.state.totals.charged = 3.0;
     start.state.totals.charged_electric = 2.0;
-    for step in STEPS {
+    for step in steps() {
         let (answer, after) = step(&start, &Call::CloseTimestep);
         assert_eq!((answer.refusal, answer.energy, answer.substeps), (0, 0.0, 0));
         assert_eq!(after.state.totals.numbers(), [0.0, 0.0, 0.0, 3.0, 2.0]);
@@ -359,7 +367,7 @@ fn state_of_charge_at_its_border() {
     let hardly_above = battery(points_card(), 80.00000002);
     let above = battery(points_card(), 81.0);
     let demand_none = Call::ChargeEnergyDemand { flow_maximum: None, target: 0.0 };
-    for step in STEPS {
+    for step in steps() {
         assert_eq!(step(&full, &Call::StateOfCharge).0.energy, 1.0);
         let (answer, _) = step(&hardly_above, &Call::StateOfCharge);
         assert_eq!((answer.refusal, answer.energy), (0, 1.0));
@@ -444,7 +452,7 @@ fn the_closing_line() {
     expected.extend([0; 30]);
     expected.extend([0x40, 0x4e, 0, 0, 0, 0, 0, 0]);
     expected.extend([0; 40]);
-    for step in STEPS {
+    for step in steps() {
         let (answer, _) = step(&battery(points_card(), 60.0), &Call::CloseTimestep);
         assert_eq!(sheet::call_line(&Call::CloseTimestep, &answer), expected);
     }
@@ -456,7 +464,9 @@ fn line_lengths() {
     for layers in [1, 8, 64] {
         let card = Card { layers, ..points_card() };
         let start = battery(card, 60.0);
-        assert_eq!(sheet::opening(&card).len(), 1 + 2 + sheet::CARD_BYTES);
+        for version in VERSIONS {
+            assert_eq!(sheet::opening(version, &card).len(), 1 + 2 + sheet::CARD_BYTES);
+        }
         assert_eq!(sheet::battery_bytes(&start).len(), 158 + 8 * usize::from(layers) + 40);
         for (call, fields) in [
             (Call::Demand(demand(1.0, 10.0)), 28),
@@ -467,7 +477,7 @@ fn line_lengths() {
             (Call::StateOfCharge, 0),
             (Call::ChargeEnergyDemand { flow_maximum, target: 1.0 }, 17),
         ] {
-            for step in STEPS {
+            for step in steps() {
                 let line = sheet::call_line(&call, &step(&start, &call).0);
                 assert_eq!(line.len(), 2 + 71 + 8 * usize::from(layers) + fields);
             }

@@ -63,7 +63,10 @@ fn the_driver_links_agrees_and_finds_faults() {
     }
     for (command, fault) in [
         ("entries", "refused-record"),
+        ("entries", "version-late"),
+        ("entries", "time-product"),
         ("audit", "last-line"),
+        ("audit", "time-always"),
         ("entries", "reads-behind"),
         ("entries", "reads-before"),
         ("audit", "reads-behind"),
@@ -73,7 +76,9 @@ fn the_driver_links_agrees_and_finds_faults() {
         assert!(!well && !last.contains(" 0 disagreements"), "{fault}: {last}");
     }
     let (program, cases) = replay();
-    for fault in ["", "refused-record", "reads-behind", "reads-before"] {
+    for fault in
+        ["", "refused-record", "version-late", "time-always", "reads-behind", "reads-before"]
+    {
         let mut run = Command::new(&program);
         let ended = run.arg(&cases).env("HEAT_BATTERY_FAULT", fault).output().expect("it runs");
         assert_eq!(ended.status.success(), fault.is_empty(), "{fault}");

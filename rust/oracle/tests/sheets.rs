@@ -30,6 +30,31 @@ fn every_verdict_has_sheets_and_every_name_is_one() {
     assert!(longest.into_iter().all(|sheet| matches!(sheet.verdict, Verdict::Accepted(_))));
 }
 
+/// The stored ones are named sheets, with their verdicts as the program prints them.
+#[test]
+fn stored_sheets_are_these() {
+    let crates = Path::new(env!("CARGO_MANIFEST_DIR")).join("../../crates");
+    let read = |path: &str| fs::read(crates.join(path)).expect("it is stored");
+    let text = |path: &str| String::from_utf8(read(path)).expect("text");
+    let all = sheets::all();
+    let named = |file: &str| {
+        let name = file.strip_suffix(".sheet");
+        all.iter().find(|sheet| Some(sheet.name.as_str()) == name).expect("a sheet of this name")
+    };
+    let mut printed = String::new();
+    for file in text("audit_cases/args").lines() {
+        let sheet = named(file);
+        assert!(read(&format!("audit_cases/data/{file}")) == sheet.bytes, "{file}");
+        printed += &format!("{file}: {}\n", sheet.verdict);
+    }
+    assert_eq!(text("audit_cases/stdout"), printed);
+    let stored = fs::read_dir(crates.join("audit_cases/data")).expect("a folder").count();
+    assert_eq!(stored, printed.lines().count());
+    let one = named("all_kinds.sheet");
+    assert!(read("audit/stdin") == one.bytes);
+    assert_eq!(text("audit/stdout"), format!("{}\n", one.verdict));
+}
+
 #[test]
 fn files_come_in_pairs() {
     let folder = Path::new(env!("CARGO_TARGET_TMPDIR")).join("sheets");

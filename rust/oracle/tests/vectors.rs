@@ -75,6 +75,13 @@ impl Words<'_> {
         Totals { running_hours, pump_hours, direct_hours, charged, charged_electric }
     }
 
+    /// The version and the state that a list starts from.
+    fn start(&mut self) -> (u8, Battery) {
+        let card = self.card();
+        let state = State { zones: self.counted(), totals: self.totals() };
+        (self.word() as u8, Battery { card, state })
+    }
+
     fn call(&mut self) -> Call {
         match self.word() {
             1 => Call::Demand(Demand {
@@ -301,26 +308,28 @@ fn the_energy_to_a_level_goes_every_way() {
 /// A list's answers by the plain implementation, from its own state: how many, by refusal.
 fn listed(folder: &Path) -> BTreeMap<u8, u64> {
     let bytes = fs::read(folder.join("lists.vec")).expect("the file is there");
-    let mut battery: Option<Battery> = None;
+    let mut list: Option<(u8, Battery)> = None;
     let mut refusals = BTreeMap::new();
+    let mut times = BTreeMap::new();
     for record in read_all(&bytes).expect("a vector file") {
         let mut words = Words(&record.words);
         if record.function == 50 {
-            let card = words.card();
-            let state = State { zones: words.counted(), totals: words.totals() };
-            battery = Some(Battery { card, state });
-        } else {
-            let before = battery.expect("a start record comes first");
-            let call = words.call();
-            let (answer, after) = plain::step(&before, &call);
-            assert_eq!(words.0, Record::new(51).answer(&answer).words, "{before:?} {call:?}");
-            *refusals.entry(answer.refusal).or_insert(0u64) += 1;
-            battery = Some(after);
+            list = Some(words.start());
+            assert!(words.0.is_empty());
             continue;
         }
-        assert!(words.0.is_empty());
+        let (version, before) = list.expect("a start record comes first");
+        let call = words.call();
+        let (answer, after) = plain::step(version, &before, &call);
+        assert_eq!(words.0, Record::new(51).answer(&answer).words, "{before:?} {call:?}");
+        *refusals.entry(answer.refusal).or_insert(0u64) += 1;
+        if matches!(call, Call::Hydronic(_)) {
+            *times.entry((version, answer.time > 0.0)).or_insert(0u64) += 1;
+        }
+        list = Some((version, after));
     }
     assert_eq!(refusals.keys().copied().collect::<Vec<_>>(), [0, 20, 21, 22, 23, 24, 25]);
+    assert_eq!(times.into_keys().collect::<Vec<_>>(), [(1, false), (2, false), (2, true)]);
     refusals
 }
 

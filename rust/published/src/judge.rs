@@ -1,6 +1,6 @@
 //! The judge: document 01's calls, answered by the published file around this module.
-//! It counts substeps, gives the refusals that the published file does not have, and hands
-//! out single functions for the vector files.
+//! It counts substeps and their seconds, gives the refusals that the published file does not have,
+//! and hands out single functions for the vector files.
 
 #![warn(warnings)]
 
@@ -11,7 +11,9 @@ use crate::core::external_conditions::ExternalConditions;
 use crate::core::heating_systems::common::HeatingServiceType;
 use crate::core::simulation_time::{SimulationTimeIterator, Timestep};
 use crate::input::{HeatBattery, HeatSourceWetDetails, PcmBatteryChargingConfiguration};
-use crate::model::{Answer, Battery, Call, Card, Demand, Derived, Hydronic, State, Totals};
+use crate::model::{
+    shows_hydronic_time, Answer, Battery, Call, Card, Demand, Derived, Hydronic, State, Totals,
+};
 use crate::ranges;
 use crate::stand_ins::{take_logarithm_refused, take_logarithms};
 use accurate::{sum::Sum2, traits::*};
@@ -28,13 +30,16 @@ const NOW: Timestep = Timestep { index: 0 };
 struct Run {
     budget: u32,
     substeps: u32,
+    /// Seconds, added up in order.
     time: f64,
+    /// The same without the last substep.
+    time_before_last: f64,
     outlet: Option<f64>,
 }
 
 impl Run {
     const fn with_budget(budget: u32) -> Self {
-        Run { budget, substeps: 0, time: 0.0, outlet: None }
+        Run { budget, substeps: 0, time: 0.0, time_before_last: 0.0, outlet: None }
     }
 }
 
@@ -85,11 +90,19 @@ impl HeatBatteryPcm {
             return Err(Error::refused(23));
         }
         run.substeps += 1;
+        run.time_before_last = run.time;
         run.time += time_step_s;
         run.outlet = Some(outlet);
         RUN.set(run);
         Ok((outlet, delivered, charged))
     }
+}
+
+/// The published loop is about to replay its last substep in these seconds: that one's don't count.
+pub(super) fn in_place_of_the_last(time_step_s: f64) -> f64 {
+    let run = RUN.get();
+    RUN.set(Run { time: run.time_before_last, ..run });
+    time_step_s
 }
 
 pub fn sum2(items: &[f64]) -> f64 {
@@ -289,23 +302,27 @@ fn energy(published: &HeatBatteryPcm, call: &Call) -> anyhow::Result<f64> {
 }
 
 /// The answer to a call in range on an accepted card.
-fn answer(battery: &Battery, call: &Call) -> anyhow::Result<Answer> {
+fn answer(version: u8, battery: &Battery, call: &Call) -> anyhow::Result<Answer> {
     let control_on = matches!(call, Call::Demand(demand) if demand.control_on == 1);
     let published = load(battery, control_on)?;
     RUN.set(Run::with_budget(u32::from(battery.card.budget)));
     let energy = energy(&published, call)?;
     let run = RUN.get();
     let mut answer = Answer::plain(energy, run.substeps, state_of(&published));
-    if let Call::Demand(demand) = call {
-        check_record(&published, demand, &run);
-        answer.outlet = run.outlet;
-        answer.time = run.time;
+    match call {
+        Call::Demand(demand) => {
+            check_record(&published, demand, &run);
+            answer.outlet = run.outlet;
+            answer.time = run.time;
+        }
+        Call::Hydronic(_) if shows_hydronic_time(version) => answer.time = run.time,
+        _ => {}
     }
     Ok(answer)
 }
 
-/// One call of document 01 on a battery: the answer, and the battery that it leaves.
-pub fn step(battery: &Battery, call: &Call) -> (Answer, Battery) {
+/// One call on a battery in a known version: the answer, and the battery that it leaves.
+pub fn step(version: u8, battery: &Battery, call: &Call) -> (Answer, Battery) {
     let before = &battery.state;
     let answer = if card_refusal(&battery.card) != 0
         || ranges::battery_refusal(battery)
@@ -320,7 +337,7 @@ pub fn step(battery: &Battery, call: &Call) -> (Answer, Battery) {
         if refusal != 0 {
             Answer::refused(refusal, before)
         } else {
-            match answer(battery, call) {
+            match answer(version, battery, call) {
                 Ok(answer) => answer.or_23(before),
                 Err(error) if error.refusal == 0 => Answer::refused(25, before),
                 Err(error) => Answer::refused(error.refusal, before),

@@ -1,4 +1,16 @@
-//! Card, battery, call and answer of document 01.
+//! Card, battery, call and answer of document 01, and the sheet's versions of document 02.
+
+/// The known versions, oldest first.
+pub const VERSIONS: [u8; 2] = [1, 2];
+
+pub fn is_known(version: u8) -> bool {
+    VERSIONS.contains(&version)
+}
+
+/// Whether an answered hydronic line shows its time; else it shows 0.
+pub fn shows_hydronic_time(version: u8) -> bool {
+    version >= 2
+}
 
 #[derive(Clone, Copy, Debug, Default)]
 pub struct Card {

@@ -23,16 +23,18 @@ const USAGE: &str = "usage: seeds entries|audit all|sound OUTDIR [--count N] [--
 const MOST: u64 = 6;
 
 /// The battery that a call leaves.
-fn after(battery: Battery, calling: Calling) -> Battery {
+fn after(version: u8, battery: Battery, calling: Calling) -> Battery {
     let Calling { mut record, call, mut sheet, .. } = calling;
-    entries::call(&mut record, &call, &mut sheet);
+    entries::call(version, &mut record, &call, &mut sheet);
     reading::battery(&record).unwrap_or(battery)
 }
 
 /// An opening and calls of any sort.
 fn any_list(random: &mut Random) -> Input {
     let opening = raw::opening(random);
+    let version = opening.version;
     let mut input = Input {
+        version,
         record: opening.record.len() as u16,
         room: opening.sheet.len() as u16,
         calls: Vec::new(),
@@ -42,14 +44,14 @@ fn any_list(random: &mut Random) -> Input {
     let mut left = sheet::battery_bytes(&battery);
     battery = generate::battery(random, &battery.card);
     for _ in 0..1 + random.below(MOST) {
-        let calling = raw::calling(random, &battery);
+        let calling = raw::calling(random, version, &battery);
         input.calls.push(Called {
             call: calling.call.clone(),
             room: calling.sheet.len() as u16,
             count: 0,
             record: if calling.record == left { Vec::new() } else { calling.record.clone() },
         });
-        battery = after(battery, calling);
+        battery = after(version, battery, calling);
         left = sheet::battery_bytes(&battery);
     }
     input
@@ -64,8 +66,8 @@ fn sound_list(random: &mut Random) -> Input {
         let call = sheet::call_bytes(&generate::next_call(random, &battery));
         calls.push(change::called(call, card.layers));
     }
-    let record = sheet::record_length(card.layers) as u16;
-    Input { card: sheet::card_bytes(&card), record, room: OPENING_BYTES as u16, calls }
+    let (version, record) = (generate::version(random), sheet::record_length(card.layers) as u16);
+    Input { version, card: sheet::card_bytes(&card), record, room: OPENING_BYTES as u16, calls }
 }
 
 /// A card whose calls don't take long.
@@ -90,13 +92,13 @@ fn any_sheets(random: &mut Random, count: u64) -> Vec<Vec<u8>> {
 
 /// A sheet as written; one in forty has nearly as many bytes as the audit takes.
 fn sound_sheet(random: &mut Random) -> Vec<u8> {
-    let card = sound_card(random);
+    let (version, card) = (generate::version(random), sound_card(random));
     if random.one_in(40) {
         let card = Card { layers: 64, budget: card.budget.min(100), ..card };
-        return damage::write(random, &card, 140, MOST_BYTES).bytes;
+        return damage::write(random, version, &card, 140, MOST_BYTES).bytes;
     }
     let calls = random.below(2 * MOST);
-    damage::write(random, &card, calls, MOST_BYTES).bytes
+    damage::write(random, version, &card, calls, MOST_BYTES).bytes
 }
 
 fn run() -> Result<(), String> {

@@ -6,12 +6,12 @@ use oracle::library::Library;
 pub struct Linked;
 
 impl Library for Linked {
-    fn open(&self, card: &[u8], record: &mut [u8], sheet: &mut [u8]) -> u8 {
-        heat_battery_sys::open(card, record, sheet)
+    fn open(&self, version: u8, card: &[u8], record: &mut [u8], sheet: &mut [u8]) -> u8 {
+        heat_battery_sys::open(version, card, record, sheet)
     }
 
-    fn call(&self, record: &mut [u8], call: &[u8], sheet: &mut [u8]) -> u8 {
-        heat_battery_sys::call(record, call, sheet)
+    fn call(&self, version: u8, record: &mut [u8], call: &[u8], sheet: &mut [u8]) -> u8 {
+        heat_battery_sys::call(version, record, call, sheet)
     }
 
     fn audit(&self, sheet: &[u8]) -> u64 {

@@ -5,7 +5,6 @@ use oracle::auditor::Fields;
 use oracle::faults::Faulty;
 use oracle::library::Library;
 use oracle::own::{self, Record, Shown};
-use oracle::plain;
 use std::slice::{from_raw_parts, from_raw_parts_mut};
 
 fn library() -> Faulty {
@@ -16,6 +15,7 @@ fn library() -> Faulty {
 /// Each pointer is to as many bytes as its length says, and the three are apart.
 #[no_mangle]
 pub unsafe extern "C" fn heat_battery_open(
+    version: u8,
     card: *const u8,
     card_len: usize,
     record: *mut u8,
@@ -24,6 +24,7 @@ pub unsafe extern "C" fn heat_battery_open(
     sheet_len: usize,
 ) -> u8 {
     library().open(
+        version,
         from_raw_parts(card, card_len),
         from_raw_parts_mut(record, record_len),
         from_raw_parts_mut(sheet, sheet_len),
@@ -34,6 +35,7 @@ pub unsafe extern "C" fn heat_battery_open(
 /// Each pointer is to as many bytes as its length says, and the three are apart.
 #[no_mangle]
 pub unsafe extern "C" fn heat_battery_call(
+    version: u8,
     record: *mut u8,
     record_len: usize,
     call: *const u8,
@@ -42,6 +44,7 @@ pub unsafe extern "C" fn heat_battery_call(
     sheet_len: usize,
 ) -> u8 {
     library().call(
+        version,
         from_raw_parts_mut(record, record_len),
         from_raw_parts(call, call_len),
         from_raw_parts_mut(sheet, sheet_len),
@@ -67,9 +70,10 @@ pub unsafe extern "C" fn heat_battery_audit_whole(sheet: *const u8, sheet_len: u
 /// length says.
 #[no_mangle]
 pub unsafe extern "C" fn heat_battery_advance(
+    version: u8,
     record: *mut Record,
     call: *const u8,
     call_len: usize,
 ) -> Shown {
-    own::advance(plain::step, &mut *record, from_raw_parts(call, call_len))
+    own::advance(library().step(), version, &mut *record, from_raw_parts(call, call_len))
 }

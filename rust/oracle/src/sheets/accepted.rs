@@ -1,6 +1,6 @@
 //! Sheets that are accepted, and those of the limit of length.
 
-use super::{card, demand, hydronic, one_of_each, run, written, Named};
+use super::{card, demand, hydronic, one_of_each, run, written, written_in, Named};
 use crate::auditor::MOST_BYTES;
 use crate::fields;
 use crate::model::{Call, Card, Demand, Hydronic};
@@ -17,7 +17,13 @@ const KINDS: [&str; 7] = [
 ];
 
 pub fn all() -> Vec<Named> {
-    let mut sheets = vec![Named::accepted("opening", written(&card(1), &[]), 0), all_kinds()];
+    let mut sheets = vec![
+        Named::accepted("opening", written(&card(1), &[]), 0),
+        Named::accepted("opening_version_2", written_in(2, &card(1), &[]), 0),
+        all_kinds(1, "all_kinds"),
+        all_kinds(2, "all_kinds_version_2"),
+        hydronic_times(),
+    ];
     for (name, call) in KINDS.iter().zip(one_of_each()) {
         sheets.push(Named::accepted(&format!("kind_{name}"), written(&card(1), &[call]), 1));
     }
@@ -37,7 +43,7 @@ fn unbounded(hex_b: f64) -> Call {
 }
 
 /// All seven kinds, and each of 20 to 25.
-fn all_kinds() -> Named {
+fn all_kinds(version: u8, name: &str) -> Named {
     let salt = Card { below: 400.0, during: 3200.0, above: 200.0, ..card(25) };
     let card = Card { budget: 60, max: 59.0, power: 3.0, simultaneous: 1, ..salt };
     let list = [
@@ -61,9 +67,34 @@ fn all_kinds() -> Named {
         (Call::ChargeEnergyDemand { flow_maximum: Some(55.0), target: 1.0 }, 0),
         (Call::ChargeEnergyDemand { flow_maximum: None, target: 1.0 }, 0),
     ];
-    let (bytes, results) = run(&card, &list.map(|(call, _)| call));
+    let (bytes, results) = run(version, &card, &list.map(|(call, _)| call));
     assert_eq!(results, list.map(|(_, result)| result));
-    Named::accepted("all_kinds", bytes, list.len() as u64)
+    Named::accepted(name, bytes, list.len() as u64)
+}
+
+/// Charges of version 2 with every sort of time: none, as there is no room for a substep; none, as a
+/// replay ends at once; a fraction of a substep, and with whole ones before it; whole ones that the
+/// hours end, and the outlet; and that of a refused one.
+fn hydronic_times() -> Named {
+    let card = Card { start: 40.0, substep: 0.1, budget: 2000, ..card(1) };
+    let wet = Hydronic { hours: 1.0, limit: 1e6, hex_a: 0.0, hex_b: 1000.0, ..hydronic() };
+    let limited = |limit| Hydronic { limit, ..wet };
+    let given = |seconds: f64| Hydronic { hours: seconds / 3600.0, ..wet };
+    let list = [
+        (given(0.05), 0.0),
+        (limited(0.0), 0.0),
+        (limited(0.0001), 0.02634034416826004),
+        (limited(0.001), 0.2668490326552513),
+        (given(0.35), 0.30000000000000004),
+        (given(0.65), 0.6), // the product is 0.6000000000000001
+        (Hydronic { inlet: 30.0, ..wet }, 0.1),
+        (Hydronic { hours: 24.0, flow: 0.001, ..wet }, 0.0),
+    ];
+    let bytes = written_in(2, &card, &list.map(|(fields, _)| Call::Hydronic(fields)));
+    for (line, (_, time)) in fields::lines(&bytes).iter().zip(list) {
+        assert_eq!(fields::number_at(&bytes, line.time()), time);
+    }
+    Named::accepted("hydronic_times", bytes, list.len() as u64)
 }
 
 fn layers_64() -> Named {

@@ -1,6 +1,6 @@
 //! Sheets that are refused, each with one thing wrong unless its name says more.
 
-use super::{card, demand, one_of_each, written, Named};
+use super::{card, demand, one_of_each, written, written_in, Named};
 use crate::fields::{self, Line};
 use crate::model::{Call, Card, Demand};
 use crate::sheet::{self, OPENING_BYTES};
@@ -10,6 +10,7 @@ pub fn all() -> Vec<Named> {
     sheets.extend(refused_41());
     sheets.extend(refused_42());
     sheets.extend(refused_43());
+    sheets.extend(hydronic_times());
     sheets.extend(order());
     sheets.push(Named::refused("zeros_44", vec![0; 65_537], 44, 0));
     sheets
@@ -17,23 +18,36 @@ pub fn all() -> Vec<Named> {
 
 /// One line of each kind on two layers; line k is of kind k.
 fn whole() -> Vec<u8> {
-    written(&card(2), &one_of_each())
+    whole_in(1)
+}
+
+fn whole_in(version: u8) -> Vec<u8> {
+    written_in(version, &card(2), &one_of_each())
 }
 
 /// The sheet of `whole` with line k changed.
 fn changed(k: usize, change: impl FnOnce(&mut Vec<u8>, Line)) -> Vec<u8> {
-    let mut bytes = whole();
+    changed_in(1, k, change)
+}
+
+fn changed_in(version: u8, k: usize, change: impl FnOnce(&mut Vec<u8>, Line)) -> Vec<u8> {
+    let mut bytes = whole_in(version);
     let line = fields::lines(&bytes)[k - 1];
     change(&mut bytes, line);
     bytes
 }
 
+/// A sheet of a version whose first byte says another one.
+fn turned(version: u8, said: u8) -> Vec<u8> {
+    [&[said], &whole_in(version)[1..]].concat()
+}
+
 fn refused_40() -> Vec<Named> {
-    let version = |version| [&[version], &whole()[1..]].concat();
     vec![
         Named::refused("empty", Vec::new(), 40, 0),
-        Named::refused("version_0", version(0), 40, 0),
-        Named::refused("version_2", version(2), 40, 0),
+        Named::refused("version_0", turned(1, 0), 40, 0),
+        Named::refused("version_3", turned(2, 3), 40, 0),
+        Named::refused("version_255", turned(2, 255), 40, 0),
     ]
 }
 
@@ -158,6 +172,23 @@ fn refused_43() -> Vec<Named> {
         Named::refused("answered_against_20", answered_against_20(), 43, 1),
         Named::refused("line_missing", line_missing(), 43, 1),
         Named::refused("zones_carried_on", zones_carried_on(), 43, 1),
+    ]
+}
+
+/// The time of line 3, which is due in version 2 and is 0 in version 1.
+fn hydronic_times() -> Vec<Named> {
+    let with = |version, change: fn(f64) -> f64| {
+        changed_in(version, 3, |bytes, line| {
+            let time = change(fields::number_at(bytes, line.time()));
+            fields::put_number(bytes, line.time(), time);
+        })
+    };
+    vec![
+        Named::refused("version_2", turned(1, 2), 43, 3),
+        Named::refused("version_2_turned_to_1", turned(2, 1), 43, 3),
+        Named::refused("hydronic_time", with(2, f64::next_up), 43, 3),
+        Named::refused("hydronic_time_nan", with(2, |_| f64::NAN), 43, 3),
+        Named::refused("hydronic_time_in_version_1", with(1, |_| 20.0), 43, 3),
     ]
 }
 
