@@ -17,7 +17,8 @@
    the highest byte first.
 
    docs/RULES.md states every rule behind these figures; it restates document
-   01, the customer's specification. */
+   01, the customer's specification, and of document 02, the requests that
+   followed, what has landed. */
 
 #ifndef HEAT_BATTERY_H
 #define HEAT_BATTERY_H
@@ -29,8 +30,17 @@
 extern "C" {
 #endif
 
-/* The version byte that opening writes. */
-#define HEAT_BATTERY_VERSION 1
+/* Versions of a sheet. The version is the sheet's first byte, and the first
+   number that opening, a call and the own record take. Every call of a sheet is
+   given the version that it was opened with.
+
+   1 document 01's; an answered hydronic charge shows time 0
+   2 it shows how long the pump of the charging loop ran, in seconds
+
+   Versions 1 and 2 share all lengths and records, so no entry can tell a call
+   that is given the wrong one of the two. */
+#define HEAT_BATTERY_OLDEST_VERSION 1
+#define HEAT_BATTERY_NEWEST_VERSION 2
 
 /* A card: layers (u8, 1..64), units (u16), simultaneous (u8), budget (u16),
    then 19 f64: substep s, timestep h, initial inlet, estimated outlet, max,
@@ -70,8 +80,9 @@ extern "C" {
 #define HEAT_BATTERY_OPENING_LENGTH 161
 
 /* A call line: the length of what follows it (u16), the call's own bytes,
-   refusal (u8), energy kWh, outlet mark (u8) and f64, time run s, substeps
-   (u32), zones and totals as in the record. */
+   refusal (u8), energy kWh, outlet mark (u8) and f64, time run s (of a demand,
+   and from version 2 on of a hydronic charge; else 0), substeps (u32), zones
+   and totals as in the record. */
 #define HEAT_BATTERY_LINE_LENGTH(layers, call_len) (72 + 8 * (size_t)(layers) + (size_t)(call_len))
 
 /* Refusals. An entry returns the first that applies, in the order of its list;
@@ -89,14 +100,18 @@ extern "C" {
 #define HEAT_BATTERY_NOT_FINITE 23         /* a zone, number or total is not finite */
 #define HEAT_BATTERY_NO_LOGARITHM 24       /* its argument is not positive, normal and finite */
 #define HEAT_BATTERY_OVER_FULL 25          /* state of charge above 1 + 1e-10 */
+#define HEAT_BATTERY_NO_VERSION 40         /* no known version; opening, a call and the own record
+                                              test it before all. From an audit: no first byte, or
+                                              no known version */
 
 /* Opens a sheet: writes the version and line 0 to the front of `sheet`, and a
    fresh battery to `record`. The bytes of `sheet` after them stay.
 
-   Refused with 1 to 4 for the card, in this order; then with 10 if record_len
-   is not the card's record length; then with 11 if sheet_len is below 161. A
-   refused opening writes nothing. */
-uint8_t heat_battery_open(const uint8_t *card, size_t card_len,
+   Refused with 40 for an unknown version; then with 1 to 4 for the card, in
+   this order; then with 10 if record_len is not the card's record length; then
+   with 11 if sheet_len is below 161. A refused opening writes nothing. */
+uint8_t heat_battery_open(uint8_t version,
+                          const uint8_t *card, size_t card_len,
                           uint8_t *record, size_t record_len,
                           uint8_t *sheet, size_t sheet_len);
 
@@ -105,24 +120,25 @@ uint8_t heat_battery_open(const uint8_t *card, size_t card_len,
    record. The bytes of `sheet` after the line stay; the next call gets the
    part after it, which starts at HEAT_BATTERY_LINE_LENGTH.
 
-   Refused with 10 if the record is not one: shorter than a card, with a card
-   that 1 to 4 refuse, of another length than its card's, or with a zone or
-   total that is not finite; or if the call is not one: of an unknown kind, of
-   another length than its kind's, with a flag or mark other than 0 or 1,
-   nonzero bytes under an absent mark, or a field not finite or out of range.
-   Then with 11 if the line does not fit. These two write nothing.
+   Refused with 40 for an unknown version. Then with 10 if the record is not
+   one: shorter than a card, with a card that 1 to 4 refuse, of another length
+   than its card's, or with a zone or total that is not finite; or if the call
+   is not one: of an unknown kind, of another length than its kind's, with a
+   flag or mark other than 0 or 1, nonzero bytes under an absent mark, or a
+   field not finite or out of range. Then with 11 if the line does not fit.
+   These three write nothing.
 
    Then with 20 to 25, the first to occur: these write the call's line, with the
    refusal, energy 0, no outlet, time 0, substeps 0 and zones and totals as they
    were, and leave the record. */
-uint8_t heat_battery_call(uint8_t *record, size_t record_len,
+uint8_t heat_battery_call(uint8_t version,
+                          uint8_t *record, size_t record_len,
                           const uint8_t *call, size_t call_len,
                           uint8_t *sheet, size_t sheet_len);
 
-/* Audits a sheet, version byte first: accepted with N call lines, N x 256; or
-   refused with R at line K (the card's line is 0, the first call line 1),
-   K x 256 + R. */
-#define HEAT_BATTERY_NO_VERSION 40  /* no first byte, or not 1; K is 0 */
+/* Audits a sheet of any known version, which its first byte says: accepted with
+   N call lines, N x 256; or refused with R at line K (the card's line is 0, the
+   first call line 1), K x 256 + R. R is 40, with K 0, or one of these: */
 #define HEAT_BATTERY_BAD_CARD 41    /* card line missing, of wrong length or refused; K is 0 */
 #define HEAT_BATTERY_BAD_LINE 42    /* cut short, or not laid out as its kind, or a field that 10 refuses */
 #define HEAT_BATTERY_DISAGREES 43   /* an answer is not that of the steps */
@@ -170,15 +186,18 @@ struct heat_battery_shown {
     double energy, outlet, time;
 };
 
-/* Advances the caller's own battery by a call, without a sheet: refused with 10
-   as above, then with 20 to 25; there is no 11.
+/* Advances the caller's own battery by a call, without a sheet, and gives what
+   its line on a sheet of that version would show: refused with 40 for an
+   unknown version, then with 10 as above, then with 20 to 25; there is no 11.
+   In a refused result every other field is 0.
 
    `battery` is not null and is aligned as its type asks. It is the caller's
    alone until the call returns, and the call's bytes do not overlap it. Its
    fields may hold any numbers, NaNs too. An answered call stores the first
    `count` zones and the five totals, and nothing else of the record. A refused
    call stores nothing to it. */
-struct heat_battery_shown heat_battery_advance(struct heat_battery *battery,
+struct heat_battery_shown heat_battery_advance(uint8_t version,
+                                               struct heat_battery *battery,
                                                const uint8_t *call, size_t call_len);
 
 #ifdef __cplusplus

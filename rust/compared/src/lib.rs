@@ -1,7 +1,13 @@
 //! The crate and the command against the oracle; here, the oracle's cards, calls and answers beside the crate's.
 
-use heat_battery::{Answer, Battery, Call, Card, Totals};
-use oracle::{model, sheet};
+use heat_battery::{Answer, Battery, Call, Card, Totals, Version};
+use oracle::random::Random;
+use oracle::{generate, model, sheet};
+
+/// A known version, drawn.
+pub fn version(random: &mut Random) -> Version {
+    Version::from_number(generate::version(random)).expect("a known version")
+}
 
 pub fn card(card: &model::Card) -> Card {
     let bytes = sheet::card_bytes(card);
@@ -18,13 +24,14 @@ pub fn call(call: &model::Call) -> Call {
 }
 
 /// The battery by its state and by its bytes, which are the same.
-pub fn battery(battery: &model::Battery) -> Battery {
+pub fn battery(version: Version, battery: &model::Battery) -> Battery {
     let totals = Totals::from_numbers(battery.state.totals.numbers());
     let card = card(&battery.card);
-    let read = Battery::with_state(&card, &battery.state.zones, &totals).expect("a good battery");
+    let read = Battery::with_state(version, &card, &battery.state.zones, &totals);
+    let read = read.expect("a good battery");
     let bytes = sheet::battery_bytes(battery);
     assert_eq!(read.as_bytes(), bytes);
-    let again = Battery::from_bytes(&bytes).expect("a good battery");
+    let again = Battery::from_bytes(version, &bytes).expect("a good battery");
     assert_eq!(again.as_bytes(), bytes);
     read
 }

@@ -59,8 +59,9 @@ fn random_sheets_are_drawn() {
     let folder = Folder::new("drawn");
     let mut random = Random::new(22);
     for _ in 0..60 {
+        let version = generate::version(&mut random);
         let card = generate::card(&mut random);
-        let sheet = damage::write(&mut random, &card, 20, 60_000).bytes;
+        let sheet = damage::write(&mut random, version, &card, 20, 60_000).bytes;
         assert_ends(&folder, &sheet, true);
     }
 }

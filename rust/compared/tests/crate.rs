@@ -1,8 +1,8 @@
 //! The oracle's lists, cards, calls and sheets replayed through the crate.
 
-use compared::{assert_same, battery, call, card};
-use heat_battery::{audit, explain, ffi, is_too_long, Battery, Call, Card, Explanation, Refusal};
-use heat_battery::{Sheet, Verdict};
+use compared::{assert_same, battery, call, card, version};
+use heat_battery::{audit, explain, ffi, is_too_long, Answer, Battery, Call, Card, Explanation};
+use heat_battery::{Kind, Refusal, Sheet, Verdict, Version};
 use oracle::random::Random;
 use oracle::{auditor, damage, generate, model, plain, raw, sheet, sheets};
 
@@ -12,17 +12,23 @@ fn lists() -> u64 {
     set.map_or(10_000, |count| count.parse().expect("HEAT_BATTERY_LISTS is a number"))
 }
 
+#[test]
+fn the_versions_are_the_oracles() {
+    assert_eq!(Version::ALL.map(|version| version.number()), model::VERSIONS);
+}
+
 /// Lists from fresh batteries and from ones handed in: every answer, zone and total.
 #[test]
 fn answers_are_the_oracles() {
     let mut random = Random::new(1);
     for _ in 0..lists() {
+        let version = version(&mut random);
         let drawn = generate::card(&mut random);
         let mut theirs = generate::battery(&mut random, &drawn);
-        let mut ours = battery(&theirs);
+        let mut ours = battery(version, &theirs);
         for _ in 0..generate::list_length(&mut random) {
             let next = generate::next_call(&mut random, &theirs);
-            let (answer, after) = plain::step(&theirs, &next);
+            let (answer, after) = plain::step(version.number(), &theirs, &next);
             let given = ours.answer(&call(&next)).expect("a call in range has a line");
             assert_same(&given, &answer, &next);
             assert_eq!(ours.as_bytes(), sheet::battery_bytes(&after));
@@ -36,13 +42,14 @@ fn answers_are_the_oracles() {
 fn sheets_are_the_oracles() {
     let mut random = Random::new(2);
     for _ in 0..lists() / 5 {
+        let version = version(&mut random);
         let drawn = generate::card(&mut random);
         let mut theirs = model::Battery::fresh(&drawn);
-        let mut ours = Sheet::open(&card(&drawn)).expect("an accepted card");
-        let mut bytes = sheet::opening(&drawn);
+        let mut ours = Sheet::open_as(version, &card(&drawn)).expect("an accepted card");
+        let mut bytes = sheet::opening(version.number(), &drawn);
         for _ in 0..generate::list_length(&mut random) {
             let next = generate::next_call(&mut random, &theirs);
-            let (answer, after) = plain::step(&theirs, &next);
+            let (answer, after) = plain::step(version.number(), &theirs, &next);
             let result = ours.call(&call(&next));
             assert_eq!(result.err().map_or(0, |refusal| refusal.number()), answer.refusal);
             bytes.extend(sheet::call_line(&next, &answer));
@@ -52,6 +59,31 @@ fn sheets_are_the_oracles() {
         assert_eq!(ours.lines().count() as u64, ours.len());
         assert_eq!(audit(&bytes), Verdict::Accepted(ours.len()));
     }
+}
+
+/// One list in two versions: the answers differ in the time of answered hydronic charges only,
+/// which version 1 shows as 0.
+#[test]
+fn versions_differ_in_the_time_of_hydronic_charges() {
+    let mut random = Random::new(7);
+    let mut timed = 0;
+    for _ in 0..lists() / 5 {
+        let drawn = generate::card(&mut random);
+        let mut theirs = generate::battery(&mut random, &drawn);
+        let [mut old, mut new] = [Version::One, Version::Two].map(|one| battery(one, &theirs));
+        for _ in 0..generate::list_length(&mut random) {
+            let next = generate::next_call(&mut random, &theirs);
+            theirs = plain::step(new.version().number(), &theirs, &next).1;
+            let call = call(&next);
+            let [one, two] = [&mut old, &mut new].map(|battery| battery.answer(&call).unwrap());
+            let is_timed = call.kind() == Kind::Hydronic && two.refusal.is_none();
+            let time = if is_timed { 0.0 } else { two.time };
+            assert_eq!(one, Answer { time, ..two }, "{call}");
+            assert_eq!(old.as_bytes(), new.as_bytes());
+            timed += u64::from(is_timed && two.time > 0.0);
+        }
+    }
+    assert!(timed > lists() / 10, "{timed} charges with a time");
 }
 
 /// Refusals 1 to 4, and the words for them.
@@ -78,9 +110,10 @@ fn calls_are_refused_and_explained() {
     let (mut refused, mut answered) = (0, 0);
     while refused < 2_000 {
         let drawn = generate::card(&mut random);
+        let version = version(&mut random);
         let theirs = generate::battery(&mut random, &drawn);
-        let input = raw::calling(&mut random, &theirs);
-        let mut ours = battery(&theirs);
+        let input = raw::calling(&mut random, version.number(), &theirs);
+        let mut ours = battery(version, &theirs);
         let expected = oracle::reading::call(&drawn, &input.call).is_none();
         let read = Call::from_bytes(&input.call);
         let explained = read.map_or(true, |call| !call.faults(ours.card()).is_empty());
@@ -107,10 +140,11 @@ fn records_are_refused() {
     let mut random = Random::new(5);
     for _ in 0..50_000 {
         let drawn = generate::card(&mut random);
+        let version = version(&mut random);
         let theirs = generate::battery(&mut random, &drawn);
-        let record = raw::calling(&mut random, &theirs).record;
+        let record = raw::calling(&mut random, version.number(), &theirs).record;
         let good = oracle::reading::battery(&record).is_some();
-        let read = Battery::from_bytes(&record);
+        let read = Battery::from_bytes(version, &record);
         assert_eq!(read.err(), (!good).then_some(Refusal::BadBattery));
     }
 }
@@ -152,8 +186,9 @@ fn explained(bytes: &[u8], verdict: Verdict) -> Verdict {
 #[test]
 fn a_sheet_without_room_refuses() {
     let drawn = card(&generate::points_card());
-    assert_eq!(Sheet::open_within(&drawn, 160).err(), Some(Refusal::NoRoom));
-    let mut ours = Sheet::open_within(&drawn, 161 + 81 + 80).expect("room to open");
+    let open = |most| Sheet::open_within(Version::NEWEST, &drawn, most);
+    assert_eq!(open(160).err(), Some(Refusal::NoRoom));
+    let mut ours = open(161 + 81 + 80).expect("room to open");
     assert!(ours.call(&Call::StandingLoss).is_ok());
     let before = ours.clone();
     let bad = Call::Electric { power: -1.0, target: 1.0 };

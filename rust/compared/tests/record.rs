@@ -1,8 +1,8 @@
 //! The caller's own record against the byte entry: the same answer, zones and totals, bit for
 //! bit, and the same refusals.
 
-use compared::{battery, bits};
-use heat_battery::{ffi, Answer, Battery, Call, Record, Refusal};
+use compared::{battery, bits, version};
+use heat_battery::{ffi, Answer, Battery, Call, Record, Refusal, Version};
 use oracle::random::Random;
 use oracle::{generate, raw, reading, sheet};
 use std::collections::BTreeMap;
@@ -23,6 +23,9 @@ fn random() -> Random {
     Random::new(set("HEAT_BATTERY_SEED", 1))
 }
 
+/// Every refusal of a call in a known version, and 0 for none.
+const REFUSALS: [u8; 8] = [0, 10, 20, 21, 22, 23, 24, 25];
+
 /// How often each refusal was given, 0 for none.
 #[derive(Default)]
 struct Counts(BTreeMap<u8, u64>);
@@ -36,11 +39,11 @@ impl Counts {
         self.0.values().sum()
     }
 
-    /// Prints them; every refusal of a call occurred, if there were many.
-    fn end(&self, what: &str) {
+    /// Prints them; every refusal that was expected occurred, if there were many.
+    fn end(&self, what: &str, expected: &[u8]) {
         println!("{what}: {} calls, 0 disagreements, by refusal {:?}", self.all(), self.0);
-        for refusal in [0, 10, 20, 21, 22, 23, 24, 25] {
-            let found = self.0.contains_key(&refusal);
+        for refusal in expected {
+            let found = self.0.contains_key(refusal);
             assert!(found || self.all() < 20_000, "no call with {refusal}");
         }
     }
@@ -102,17 +105,19 @@ fn shown_bytes(shown: &ffi::Shown) -> Vec<u8> {
 
 /// The two entries on one record and call: their refusal, and the record that they left. None
 /// where the bytes are of no record's length.
-fn compare(record: &[u8], call: &[u8]) -> Option<(u8, Vec<u8>)> {
+fn compare(version: u8, record: &[u8], call: &[u8]) -> Option<(u8, Vec<u8>)> {
     let mut ours = own(record)?;
     let mut record = record.to_vec();
     let mut line = vec![0; 2 + call.len() + sheet::answer_length(ours.count)];
-    let result = ffi::call(&mut record, call, &mut line);
-    let shown = ffi::advance(&mut ours, call);
-    let head = &line[2 + call.len()..][..sheet::ANSWER_HEAD_BYTES];
-    let head = if result == 10 { shown_bytes(&refused(10)) } else { head.to_vec() };
-    assert_eq!(shown_bytes(&shown), head, "{record:?} {call:?}");
+    let result = ffi::call(version, &mut record, call, &mut line);
+    let shown = ffi::advance(version, &mut ours, call);
+    let head = match result {
+        10 | 40 => shown_bytes(&refused(result)),
+        _ => line[2 + call.len()..][..sheet::ANSWER_HEAD_BYTES].to_vec(),
+    };
+    assert_eq!(shown_bytes(&shown), head, "{version} {record:?} {call:?}");
     let after = own(&record).expect("a record of the same length");
-    assert_eq!(record_bits(&ours), record_bits(&after), "{record:?} {call:?}");
+    assert_eq!(record_bits(&ours), record_bits(&after), "{version} {record:?} {call:?}");
     Some((result, record))
 }
 
@@ -121,23 +126,25 @@ fn refused(refusal: u8) -> ffi::Shown {
     ffi::Shown { refusal, mark: 0, substeps: 0, energy: 0.0, outlet: 0.0, time: 0.0 }
 }
 
-/// Lists with damaged records and calls between the good ones.
+/// Lists with damaged records and calls and unknown versions between the good ones.
 #[test]
 fn the_two_entries_agree_on_any_bytes() {
     let mut random = random();
     let mut counts = Counts::default();
     while counts.all() < calls() {
+        let version = generate::version(&mut random);
         let card = generate::card(&mut random);
         let mut theirs = generate::battery(&mut random, &card);
         for _ in 0..generate::list_length(&mut random) {
-            let input = raw::calling(&mut random, &theirs);
-            let Some((refusal, after)) = compare(&input.record, &input.call) else { continue };
+            let raw::Calling { version, record, call, .. } =
+                raw::calling(&mut random, version, &theirs);
+            let Some((refusal, after)) = compare(version, &record, &call) else { continue };
             counts.add(refusal);
             // A list goes on from its last good battery.
             theirs = reading::battery(&after).unwrap_or(theirs);
         }
     }
-    counts.end("the C entries");
+    counts.end("the C entries", &[&REFUSALS[..], &[40]].concat());
 }
 
 /// A count that is not the card's layers is refused with 10, and nothing is changed.
@@ -149,7 +156,7 @@ fn another_count_is_refused() {
         let mut battery = own(&bytes).expect("a record");
         battery.count = count;
         let before = record_bits(&battery);
-        assert_eq!(ffi::advance(&mut battery, &[4]), refused(10));
+        assert_eq!(ffi::advance(Version::NEWEST.number(), &mut battery, &[4]), refused(10));
         assert_eq!(record_bits(&battery), before);
     }
 }
@@ -183,20 +190,20 @@ fn a_record_answers_as_a_battery() {
     let mut random = random();
     let mut counts = Counts::default();
     while counts.all() < calls() {
+        let version = version(&mut random);
         let card = generate::card(&mut random);
         let theirs = generate::battery(&mut random, &card);
-        let mut ours = battery(&theirs);
+        let mut ours = battery(version, &theirs);
         let mut record = Record::from(&ours);
         assert_eq!(record.card().to_bytes(), ours.card().to_bytes());
         for _ in 0..generate::list_length(&mut random) {
             let now = reading::battery(ours.as_bytes()).expect("a good battery");
-            let Ok(call) = Call::from_bytes(&raw::calling(&mut random, &now).call) else {
-                continue;
-            };
+            let drawn = raw::calling(&mut random, version.number(), &now).call;
+            let Ok(call) = Call::from_bytes(&drawn) else { continue };
             counts.add(call_both(&mut record, &mut ours, &call));
         }
     }
-    counts.end("Record and Battery");
+    counts.end("Record and Battery", &REFUSALS);
 }
 
 /// `clone_from` leaves what `clone` gives, in all 64 places, whatever the layers of either record.
@@ -204,8 +211,9 @@ fn a_record_answers_as_a_battery() {
 fn a_record_goes_back() {
     let mut random = random();
     let mut draw = || {
+        let version = version(&mut random);
         let card = generate::card(&mut random);
-        Record::from(&battery(&generate::battery(&mut random, &card)))
+        Record::from(&battery(version, &generate::battery(&mut random, &card)))
     };
     let mut record = draw();
     for _ in 0..1000 {
@@ -222,9 +230,12 @@ fn a_record_opens_as_a_battery() {
     for _ in 0..calls() {
         let drawn = sheet::card_bytes(&generate::any_card(&mut random));
         let Ok(card) = heat_battery::Card::from_bytes(&drawn) else { continue };
-        let opened = Record::open(&card).map(|record| Battery::from(&record).as_bytes().to_vec());
-        let expected: Result<Vec<u8>, Refusal> =
-            Battery::open(&card).map(|battery| battery.as_bytes().to_vec());
-        assert_eq!(opened, expected);
+        let version = version(&mut random);
+        let opened = Record::open_as(version, &card).map(|record| Battery::from(&record));
+        let expected: Result<Battery, Refusal> = Battery::open_as(version, &card);
+        let bytes = |battery: Result<Battery, Refusal>| {
+            battery.map(|battery| (battery.version(), battery.as_bytes().to_vec()))
+        };
+        assert_eq!(bytes(opened), bytes(expected));
     }
 }

@@ -1,6 +1,6 @@
 //! The text formats: the oracle's lists there and back.
 
-use heat_battery::{read, text, Call, Card, Sheet};
+use heat_battery::{read, text, Call, Card, Sheet, Version};
 use oracle::random::Random;
 use oracle::{generate, model, plain};
 
@@ -8,8 +8,8 @@ fn listed(list: &str) -> Vec<Call> {
     text::calls(list).expect("a list").into_iter().map(|listed| listed.call).collect()
 }
 
-fn run(card: &Card, calls: &[Call]) -> Vec<u8> {
-    let mut sheet = Sheet::open(card).expect("an accepted card");
+fn run(version: Version, card: &Card, calls: &[Call]) -> Vec<u8> {
+    let mut sheet = Sheet::open_as(version, card).expect("an accepted card");
     for call in calls {
         sheet.answer(call).expect("a call in range has a line");
     }
@@ -21,16 +21,17 @@ fn bytes(calls: &[Call]) -> Vec<Vec<u8>> {
 }
 
 /// A random list of the oracle's from a fresh battery.
-fn list(random: &mut Random) -> (Card, Vec<Call>) {
+fn list(random: &mut Random) -> (Version, Card, Vec<Call>) {
+    let version = compared::version(random);
     let drawn = generate::card(random);
     let mut battery = model::Battery::fresh(&drawn);
     let mut calls = Vec::new();
     for _ in 0..generate::list_length(random) {
         let next = generate::next_call(random, &battery);
-        battery = plain::step(&battery, &next).1;
+        battery = plain::step(version.number(), &battery, &next).1;
         calls.push(compared::call(&next));
     }
-    (compared::card(&drawn), calls)
+    (version, compared::card(&drawn), calls)
 }
 
 /// 10,000 lists: text, sheet, text again, and the sheet once more.
@@ -38,15 +39,16 @@ fn list(random: &mut Random) -> (Card, Vec<Call>) {
 fn lists_go_there_and_back() {
     let mut random = Random::new(11);
     for _ in 0..10_000 {
-        let (card, calls) = list(&mut random);
+        let (version, card, calls) = list(&mut random);
         let card_text = card.to_string();
         let calls_text = text::list(calls.iter().copied());
         let again: Card = card_text.parse().expect("a card");
         assert_eq!(again.to_bytes(), card.to_bytes());
         assert_eq!(bytes(&listed(&calls_text)), bytes(&calls));
 
-        let sheet = run(&again, &listed(&calls_text));
-        let (card_read, lines) = read(&sheet).expect("a sheet");
+        let sheet = run(version, &again, &listed(&calls_text));
+        let (version_read, card_read, lines) = read(&sheet).expect("a sheet");
+        assert_eq!(version_read, version);
         let calls_read: Vec<Call> = lines.map(|line| line.expect("a line").call).collect();
         assert_eq!(card_read.to_string(), card_text);
         assert_eq!(text::list(calls_read), calls_text);

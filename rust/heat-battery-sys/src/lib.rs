@@ -3,7 +3,7 @@
 //! They are declared here and nowhere else in Rust. Each entry is proved to read and write nothing
 //! but what it is lent, for any bytes and numbers in it. Slices of Rust are apart and of the length
 //! they say, which is all that it asks. The crate heat-battery, whose module `ffi` this is, makes
-//! its types of these functions; include/heat_battery.h has every length and refusal.
+//! its types of these functions; include/heat_battery.h has every version, length and refusal.
 //!
 //! ```
 //! use heat_battery_sys as ffi;
@@ -13,9 +13,11 @@
 //! let mut record = [0; 198 + 8 * 8];
 //! let mut sheet = [0; 161 + 72 + 8 * 8 + 1];
 //! let (opening, line) = sheet.split_at_mut(161);
-//! assert_eq!(ffi::open(card, &mut record, opening), 0);
-//! assert_eq!(ffi::call(&mut record, &[9], line), 10); // there is no kind 9
-//! assert_eq!(ffi::call(&mut record, &[4], line), 0); // standing loss
+//! let version = day[0];
+//! assert_eq!(ffi::open(0, card, &mut record, opening), 40); // there is no version 0
+//! assert_eq!(ffi::open(version, card, &mut record, opening), 0);
+//! assert_eq!(ffi::call(version, &mut record, &[9], line), 10); // there is no kind 9
+//! assert_eq!(ffi::call(version, &mut record, &[4], line), 0); // standing loss
 //! assert_eq!(ffi::audit(&sheet), 256); // accepted, one line
 //! assert_eq!(ffi::audit_whole(&sheet), ffi::Verdict { refusal: 0, line: 1 });
 //! ```
@@ -107,6 +109,7 @@ mod c {
 
     extern "C" {
         pub fn heat_battery_open(
+            version: u8,
             card: *const u8,
             card_length: usize,
             record: *mut u8,
@@ -115,6 +118,7 @@ mod c {
             sheet_length: usize,
         ) -> u8;
         pub fn heat_battery_call(
+            version: u8,
             record: *mut u8,
             record_length: usize,
             call: *const u8,
@@ -125,6 +129,7 @@ mod c {
         pub fn heat_battery_audit(sheet: *const u8, sheet_length: usize) -> u64;
         pub fn heat_battery_audit_whole(sheet: *const u8, sheet_length: usize) -> Verdict;
         pub fn heat_battery_advance(
+            version: u8,
             battery: *mut Battery,
             call: *const u8,
             call_length: usize,
@@ -132,11 +137,12 @@ mod c {
     }
 }
 
-/// Opens a battery and a sheet: the refusal, 0 for none.
-pub fn open(card: &[u8], record: &mut [u8], sheet: &mut [u8]) -> u8 {
+/// Opens a battery and a sheet of a version: the refusal, 0 for none.
+pub fn open(version: u8, card: &[u8], record: &mut [u8], sheet: &mut [u8]) -> u8 {
     // SAFETY: three slices that are apart, each with its own length.
     unsafe {
         c::heat_battery_open(
+            version,
             card.as_ptr(),
             card.len(),
             record.as_mut_ptr(),
@@ -147,11 +153,13 @@ pub fn open(card: &[u8], record: &mut [u8], sheet: &mut [u8]) -> u8 {
     }
 }
 
-/// Makes a call, writes its line to the front of the sheet: the refusal, 0 for none.
-pub fn call(record: &mut [u8], call: &[u8], sheet: &mut [u8]) -> u8 {
+/// Makes a call on a sheet of a version, writes its line to the front of the sheet: the refusal, 0
+/// for none.
+pub fn call(version: u8, record: &mut [u8], call: &[u8], sheet: &mut [u8]) -> u8 {
     // SAFETY: three slices that are apart, each with its own length.
     unsafe {
         c::heat_battery_call(
+            version,
             record.as_mut_ptr(),
             record.len(),
             call.as_ptr(),
@@ -174,10 +182,10 @@ pub fn audit_whole(sheet: &[u8]) -> Verdict {
     unsafe { c::heat_battery_audit_whole(sheet.as_ptr(), sheet.len()) }
 }
 
-/// Makes a call on the caller's own record: what its line would show. A refused call stores
-/// nothing to it.
-pub fn advance(battery: &mut Battery, call: &[u8]) -> Shown {
+/// Makes a call on the caller's own record: what its line in a sheet of that version would show. A
+/// refused call stores nothing to it.
+pub fn advance(version: u8, battery: &mut Battery, call: &[u8]) -> Shown {
     // SAFETY: a record with the header's layout, nobody else's while it is lent, and a slice
     // with its own length.
-    unsafe { c::heat_battery_advance(battery, call.as_ptr(), call.len()) }
+    unsafe { c::heat_battery_advance(version, battery, call.as_ptr(), call.len()) }
 }

@@ -116,7 +116,7 @@ pub struct Answer {
     pub charge_energy_demand: Option<f64>,
     /// Outlet temperature in °C of a demand that ran.
     pub outlet: Option<f64>,
-    /// Time that a demand ran, s.
+    /// Time run, s: a demand's and, from version 2 on, that of a hydronic charge's pump; else 0.
     pub time: f64,
     /// Substeps that were taken.
     pub substeps: u32,

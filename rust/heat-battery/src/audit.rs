@@ -101,8 +101,8 @@ pub enum Explanation {
     },
 }
 
-/// Finds what the audit refuses a sheet for: the calls are made again through the entries up
-/// to the line that disagrees, which is compared field by field.
+/// Finds what the audit refuses a sheet for: the calls are made again through the entries, in the
+/// sheet's own version, up to the line that disagrees, which is compared field by field.
 pub fn explain(sheet: &[u8]) -> Explanation {
     match first_trouble(sheet) {
         Ok(None) => Explanation::Agreement,
@@ -114,19 +114,19 @@ pub fn explain(sheet: &[u8]) -> Explanation {
 type Disagreement = (u64, Call, Vec<Difference>);
 
 fn first_trouble(sheet: &[u8]) -> Result<Option<Disagreement>, Damage> {
-    let (card, lines) = read(sheet)?;
+    let (version, card, lines) = read(sheet)?;
     let refused = |refusal: Refusal, line, kind| Damage {
         refusal: kind,
         line,
         words: format!("the entry refuses it with {refusal}"),
     };
-    let mut battery =
-        Battery::open(&card).map_err(|refusal| refused(refusal, 0, Refusal::BadCard))?;
+    let mut battery = Battery::open_as(version, &card)
+        .map_err(|refusal| refused(refusal, 0, Refusal::BadCard))?;
     for line in lines {
         let Line { index, call, answer } = line?;
         let given =
             battery.answer(&call).map_err(|refusal| refused(refusal, index, Refusal::BadLine))?;
-        let fields = differences(&answer, &given);
+        let fields = differences(&call, &answer, &given);
         if !fields.is_empty() {
             return Ok(Some((index, call, fields)));
         }
@@ -134,15 +134,15 @@ fn first_trouble(sheet: &[u8]) -> Result<Option<Disagreement>, Damage> {
     Ok(None)
 }
 
-/// Every field in which a shown answer is not the one given, by f64 equality.
-pub fn differences(shown: &Answer, given: &Answer) -> Vec<Difference> {
+/// Every field in which the answer to a call that is shown is not the one given, by f64 equality.
+pub fn differences(call: &Call, shown: &Answer, given: &Answer) -> Vec<Difference> {
     let mut found = Found(Vec::new());
     found.compare("refusal", &refusal_number(shown), &refusal_number(given));
-    found.number(figure_name(shown, given), shown.figure(), given.figure());
+    found.number(figure_name(call), shown.figure(), given.figure());
     if shown.outlet != given.outlet {
         found.add("outlet, °C", optional(shown.outlet), optional(given.outlet));
     }
-    found.number("time, s", shown.time, given.time);
+    found.number(time_name(call), shown.time, given.time);
     found.compare("substeps", &shown.substeps, &given.substeps);
     for (at, (shown, given)) in shown.zones.iter().zip(given.zones.iter()).enumerate() {
         found.number(&format!("zone {}, °C", at + 1), *shown, *given);
@@ -154,17 +154,21 @@ pub fn differences(shown: &Answer, given: &Answer) -> Vec<Difference> {
     found.0
 }
 
-/// What the figure of two answers to one call is.
-fn figure_name(shown: &Answer, given: &Answer) -> &'static str {
-    let has = |part: fn(&Answer) -> Option<f64>| part(shown).or(part(given)).is_some();
-    if has(|answer| answer.state_of_charge) {
-        "state of charge"
-    } else if has(|answer| answer.charge_energy_demand) {
-        "charge energy demand, kWh"
-    } else if has(|answer| answer.trial_energy) {
-        "energy of the trial, kWh"
-    } else {
-        "energy, kWh"
+/// What the figure of an answer to a call is.
+fn figure_name(call: &Call) -> &'static str {
+    match call {
+        Call::StateOfCharge => "state of charge",
+        Call::ChargeEnergyDemand { .. } => "charge energy demand, kWh",
+        Call::Demand { commit: false, .. } => "energy of the trial, kWh",
+        _ => "energy, kWh",
+    }
+}
+
+/// What the time of an answer to a call is.
+fn time_name(call: &Call) -> &'static str {
+    match call {
+        Call::Hydronic { .. } => "time of the charging loop, s (0 in version 1)",
+        _ => "time, s",
     }
 }
 

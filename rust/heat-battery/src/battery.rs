@@ -9,6 +9,7 @@ use crate::call::{Call, MOST_BYTES};
 use crate::card::Card;
 use crate::ffi;
 use crate::refusal::Refusal;
+use crate::version::Version;
 use std::fmt;
 
 /// Version, length of line 0, line 0.
@@ -21,10 +22,11 @@ pub(crate) fn line_bytes(call: usize, layers: u8) -> usize {
     2 + call + Answer::bytes(layers)
 }
 
-/// A battery: its card, zones and totals.
+/// A battery: its card, zones and totals, and the version of the sheet that its lines are for.
 ///
 /// Calls change it only where they are answered. [`Battery::call`] gives every refusal as an
-/// error; a battery that a call was refused for is as it was.
+/// error; a battery that a call was refused for is as it was. [`Version`] says what an answer
+/// shows in which version.
 ///
 /// ```
 /// use heat_battery::{Battery, Call, Card, Refusal, ServiceType};
@@ -50,59 +52,92 @@ pub(crate) fn line_bytes(call: usize, layers: u8) -> usize {
 /// ```
 #[derive(Clone)]
 pub struct Battery {
+    version: Version,
     card: Card,
     /// Card, zones and totals as the entries take them.
     record: Buffer<MOST_RECORD>,
 }
 
 impl Battery {
-    /// A fresh battery: all zones at the card's start, totals 0. Refusals 1 to 4.
+    /// A fresh battery of the newest version: all zones at the card's start, totals 0. Refusals 1
+    /// to 4.
     pub fn open(card: &Card) -> Result<Battery, Refusal> {
-        Battery::open_on(card, &mut [0; OPENING_BYTES])
+        Battery::open_as(Version::NEWEST, card)
+    }
+
+    /// A fresh battery of a version. Refusals 1 to 4.
+    ///
+    /// ```
+    /// use heat_battery::{Battery, Call, Card, Refusal, Version};
+    ///
+    /// let charge = "hydronic inlet=70 hours=0.5 flow=8 target=1 limit=4 hex_a=174 hex_b=-930 \
+    ///               velocity=0.035 diameter=0.0065";
+    /// let charge: Call = charge.parse().unwrap();
+    /// let [one, two] = [Version::One, Version::Two].map(|version| {
+    ///     let mut battery = Battery::open_as(version, &Card::example())?;
+    ///     battery.call(&charge)
+    /// });
+    /// let (one, two) = (one?, two?);
+    /// assert_eq!((one.energy, one.zones), (two.energy, two.zones));
+    /// assert!(one.time == 0.0 && two.time > 0.0); // how long the pump ran, s
+    /// # Ok::<(), Refusal>(())
+    /// ```
+    pub fn open_as(version: Version, card: &Card) -> Result<Battery, Refusal> {
+        Battery::open_on(version, card, &mut [0; OPENING_BYTES])
     }
 
     /// A fresh battery, with version and line 0 at the front of a sheet. Refusals 1 to 4, 11.
-    pub(crate) fn open_on(card: &Card, sheet: &mut [u8]) -> Result<Battery, Refusal> {
+    pub(crate) fn open_on(
+        version: Version,
+        card: &Card,
+        sheet: &mut [u8],
+    ) -> Result<Battery, Refusal> {
         let length = Card::BYTES + state_bytes(card.layers);
         let mut record = Buffer::zeros(length);
-        let refusal = ffi::open(&card.to_bytes(), record.as_mut(), sheet);
+        let refusal = ffi::open(version.number(), &card.to_bytes(), record.as_mut(), sheet);
         match Refusal::from_number(refusal) {
             Some(refusal) => Err(refusal),
-            None => Ok(Battery { card: *card, record }),
+            None => Ok(Battery { version, card: *card, record }),
         }
     }
 
-    /// A battery with zones and totals of the caller's. The card's own refusals are 1 to 4;
-    /// 10 where there aren't as many zones as layers or a number isn't finite.
+    /// A battery of a version with zones and totals of the caller's. The card's own refusals are 1
+    /// to 4; 10 where there aren't as many zones as layers or a number isn't finite.
     ///
     /// ```
-    /// use heat_battery::{Battery, Card, Refusal, Totals};
+    /// use heat_battery::{Battery, Card, Refusal, Totals, Version};
     ///
-    /// let card = Card::example();
-    /// let battery = Battery::with_state(&card, &[58.5; 8], &Totals::default())?;
+    /// let (version, card) = (Version::NEWEST, Card::example());
+    /// let battery = Battery::with_state(version, &card, &[58.5; 8], &Totals::default())?;
     /// assert_eq!(*battery.zones(), [58.5; 8]);
-    /// let refused = Battery::with_state(&card, &[f64::NAN; 8], &Totals::default());
+    /// let refused = Battery::with_state(version, &card, &[f64::NAN; 8], &Totals::default());
     /// assert_eq!(refused.err(), Some(Refusal::BadBattery));
     /// # Ok::<(), Refusal>(())
     /// ```
-    pub fn with_state(card: &Card, zones: &[f64], totals: &Totals) -> Result<Battery, Refusal> {
+    pub fn with_state(
+        version: Version,
+        card: &Card,
+        zones: &[f64],
+        totals: &Totals,
+    ) -> Result<Battery, Refusal> {
         card.check()?;
         if zones.len() != usize::from(card.layers) {
             return Err(Refusal::BadBattery);
         }
-        Battery::of(card, zones, totals).tested()
+        Battery::of(version, card, zones, totals).tested()
     }
 
     /// The bytes of a card, as many zones as its layers, and totals.
-    pub(crate) fn of(card: &Card, zones: &[f64], totals: &Totals) -> Battery {
+    pub(crate) fn of(version: Version, card: &Card, zones: &[f64], totals: &Totals) -> Battery {
         let mut record = Buffer::new();
         record.push(&card.to_bytes());
         write_state(&mut record, zones, totals);
-        Battery { card: *card, record }
+        Battery { version, card: *card, record }
     }
 
-    /// A battery from the bytes of its card, zones and totals: 10 where it isn't good.
-    pub fn from_bytes(bytes: &[u8]) -> Result<Battery, Refusal> {
+    /// A battery from the bytes of its card, zones and totals: 10 where it isn't good. They don't
+    /// say their version, and versions 1 and 2 share them, so it is asked for.
+    pub fn from_bytes(version: Version, bytes: &[u8]) -> Result<Battery, Refusal> {
         let card = bytes.get(..Card::BYTES).and_then(|card| Card::from_bytes(card).ok());
         let card = card.filter(|card| card.check().is_ok()).ok_or(Refusal::BadBattery)?;
         if bytes.len() != Card::BYTES + state_bytes(card.layers) {
@@ -110,7 +145,7 @@ impl Battery {
         }
         let mut record = Buffer::new();
         record.push(bytes);
-        Battery { card, record }.tested()
+        Battery { version, card, record }.tested()
     }
 
     /// The battery where the engine takes it. A state of charge is asked, which changes nothing.
@@ -124,6 +159,11 @@ impl Battery {
     /// Card, zones and totals as the C entries take them.
     pub fn as_bytes(&self) -> &[u8] {
         &self.record
+    }
+
+    /// The version of the sheet that its lines are for.
+    pub fn version(&self) -> Version {
+        self.version
     }
 
     /// The card.
@@ -186,7 +226,9 @@ impl Battery {
     /// Makes a call with its line at the front of a sheet. Refusals 10 and 11; one of 20 to 25
     /// is in the answer.
     pub(crate) fn answer_on(&mut self, call: &Call, sheet: &mut [u8]) -> Result<Answer, Refusal> {
-        let result = call.with_bytes(|bytes| ffi::call(self.record.as_mut(), bytes, sheet));
+        let version = self.version.number();
+        let result =
+            call.with_bytes(|bytes| ffi::call(version, self.record.as_mut(), bytes, sheet));
         match Refusal::from_number(result) {
             Some(refusal) if !refusal.is_line() => Err(refusal),
             _ => self.read_answer(call, sheet).ok_or(Refusal::BadCall),
@@ -203,25 +245,30 @@ impl Battery {
 
 impl fmt::Debug for Battery {
     fn fmt(&self, f: &mut fmt::Formatter<'_>) -> fmt::Result {
-        debug("Battery", &self.card, &self.zones(), &self.totals(), f)
+        debug("Battery", self.version, &self.card, &self.zones(), &self.totals(), f)
     }
 }
 
-/// A battery by card, zones and totals.
+/// A battery by version, card, zones and totals.
 pub(crate) fn debug(
     name: &str,
+    version: Version,
     card: &Card,
     zones: &[f64],
     totals: &Totals,
     f: &mut fmt::Formatter<'_>,
 ) -> fmt::Result {
     let mut shown = f.debug_struct(name);
-    shown.field("card", card).field("zones", &zones).field("totals", totals).finish()
+    shown.field("version", &version).field("card", card);
+    shown.field("zones", &zones).field("totals", totals).finish()
 }
 
-/// The same card, zones and totals, as numbers.
+/// The same version, card, zones and totals, as numbers.
 impl PartialEq for Battery {
     fn eq(&self, other: &Battery) -> bool {
-        self.card == other.card && self.zones() == other.zones() && self.totals() == other.totals()
+        self.version == other.version
+            && self.card == other.card
+            && self.zones() == other.zones()
+            && self.totals() == other.totals()
     }
 }

@@ -131,7 +131,7 @@ impl Card {
         }
     }
 
-    /// Refusal 1 to 4 where the engine opens no battery with this card.
+    /// Refusal 1 to 4 where the engine opens no battery with this card, in whichever version.
     pub fn check(&self) -> Result<(), Refusal> {
         Battery::open(self).map(|_| ())
     }

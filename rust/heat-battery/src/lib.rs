@@ -2,15 +2,17 @@
 //!
 //! The engine, the writer of the run sheet and its auditor are proved against their
 //! definitions; this crate lends them bytes and reads the answers. Every figure of an answer
-//! comes from the static library libheat_battery.a; only what a demand lacks ([`shortfall`]) is
-//! worked out here.
+//! comes from the static library libheat_battery.a; only what a demand lacks ([`shortfall`]) and
+//! the hours of a sheet's charging loop ([`ChargingLoop`]) are worked out here.
 //!
 //! - [`Card`] describes a battery, [`Battery`] is one, a [`Call`] asks something of it and an
 //!   [`Answer`] has energy, outlet, zones and totals; what was only asked, such as a state of
 //!   charge, stands apart from energy. [`Record`] is a battery as a record of
 //!   numbers, for long lists of calls.
 //! - [`Sheet`] is a battery with the sheet of its calls; [`audit()`] gives the [`Verdict`] on a
-//!   sheet, [`explain`] what lies behind it, [`read`] its card and lines.
+//!   sheet, [`explain`] what lies behind it, [`read`] its version, card and lines.
+//! - [`Version`] is a sheet's version: the newest unless another is asked for (`open_as`); a sheet
+//!   that is read keeps its own.
 //! - [`text`] has cards and lists of calls as plain text, [`ffi`] the C entries as they stand.
 //!
 //! # Refusals
@@ -54,6 +56,7 @@ mod battery;
 mod bytes;
 mod call;
 mod card;
+mod charging_loop;
 mod field;
 mod fingerprint;
 mod form;
@@ -68,6 +71,7 @@ mod sheet;
 mod slips;
 pub mod text;
 mod unmet;
+mod version;
 
 pub use answer::{Answer, Line, Totals, Zones, MOST_LAYERS};
 pub use audit::{
@@ -76,15 +80,17 @@ pub use audit::{
 pub use battery::Battery;
 pub use call::{Call, Kind};
 pub use card::Card;
+pub use charging_loop::ChargingLoop;
 pub use field::{Fault, Field, ServiceType, Shape, Value};
 pub use fingerprint::Fingerprint;
 pub use heat_battery_sys as ffi;
 pub use looks::{looks, Looks};
-pub use reading::{read, Damage, Lines, VERSION};
+pub use reading::{read, Damage, Lines};
 pub use record::Record;
 pub use refusal::Refusal;
 pub use sheet::Sheet;
 pub use unmet::{shortfall, Unmet, LEAST_SHORTFALL};
+pub use version::Version;
 
 /// The examples of README.md are tests.
 #[cfg(doctest)]

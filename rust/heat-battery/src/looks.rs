@@ -3,8 +3,8 @@
 use crate::bytes::Cursor;
 use crate::call::Kind;
 use crate::card::Card;
-use crate::reading::VERSION;
 use crate::text::bare_lines;
+use crate::version::Version;
 use std::fmt;
 
 /// What a file looks like.
@@ -29,8 +29,8 @@ impl fmt::Display for Looks {
     }
 }
 
-/// What a file looks like by its front: version and length of a card, a card's field, a call's
-/// kind. None where it has none of them.
+/// What a file looks like by its front: a known version and the length of a card, a card's field,
+/// a call's kind. None where it has none of them.
 ///
 /// ```
 /// use heat_battery::{looks, Card, Looks};
@@ -41,7 +41,8 @@ impl fmt::Display for Looks {
 /// ```
 pub fn looks(bytes: &[u8]) -> Option<Looks> {
     let mut front = Cursor(bytes);
-    if front.byte() == Some(VERSION) && front.short() == Some(Card::BYTES as u16) {
+    let version = front.byte().and_then(Version::from_number);
+    if version.is_some() && front.short() == Some(Card::BYTES as u16) {
         return Some(Looks::Sheet);
     }
     let text = std::str::from_utf8(bytes).ok()?;

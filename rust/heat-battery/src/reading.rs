@@ -1,4 +1,4 @@
-//! A sheet's bytes read as its card and its lines, by document 01's layout. What is found
+//! A sheet's bytes read as its version, card and lines, by document 01's layout. What is found
 //! here explains; the verdict is the auditor's.
 
 use crate::answer::{Answer, Line};
@@ -6,10 +6,8 @@ use crate::bytes::Cursor;
 use crate::call::Call;
 use crate::card::Card;
 use crate::refusal::Refusal;
+use crate::version::Version;
 use std::fmt;
-
-/// The only version there is.
-pub const VERSION: u8 = 1;
 
 /// Where a sheet leaves the layout: refusal 40, 41 or 42.
 #[derive(Clone, Debug, PartialEq, Eq)]
@@ -36,28 +34,32 @@ impl fmt::Display for Damage {
 
 impl std::error::Error for Damage {}
 
-/// The card of a sheet, and its lines to be gone through.
+/// The version and the card of a sheet, and its lines to be gone through.
 ///
 /// ```
-/// use heat_battery::{read, Call, Card, Sheet};
+/// use heat_battery::{read, Call, Card, Sheet, Version};
 ///
 /// let mut sheet = Sheet::open(&Card::example()).unwrap();
 /// sheet.call(&Call::StandingLoss).unwrap();
-/// let (card, lines) = read(sheet.as_bytes()).unwrap();
-/// assert_eq!(card, Card::example());
+/// let (version, card, lines) = read(sheet.as_bytes()).unwrap();
+/// assert_eq!((version, card), (Version::NEWEST, Card::example()));
 /// for line in lines {
 ///     assert_eq!(line.unwrap().call, Call::StandingLoss);
 /// }
 /// ```
-pub fn read(sheet: &[u8]) -> Result<(Card, Lines<'_>), Damage> {
-    let version = |words: String| Damage::new(Refusal::NoVersion, 0, words);
-    let (first, rest) = sheet.split_first().ok_or_else(|| version("no bytes at all".into()))?;
-    if *first != VERSION {
-        return Err(version(format!("the first byte is {first}, not the version {VERSION}")));
-    }
-    let mut bytes = Cursor(rest);
+pub fn read(sheet: &[u8]) -> Result<(Version, Card, Lines<'_>), Damage> {
+    let mut bytes = Cursor(sheet);
+    let version =
+        first_byte(&mut bytes).map_err(|words| Damage::new(Refusal::NoVersion, 0, words))?;
     let card = card_line(&mut bytes).map_err(|words| Damage::new(Refusal::BadCard, 0, words))?;
-    Ok((card, Lines { card, bytes: bytes.0, index: 0 }))
+    Ok((version, card, Lines { card, bytes: bytes.0, index: 0 }))
+}
+
+/// The version; the error in words.
+fn first_byte(bytes: &mut Cursor) -> Result<Version, String> {
+    let first = bytes.byte().ok_or("no bytes at all")?;
+    let unknown = || format!("the first byte is {first}, no known version ({})", Version::known());
+    Version::from_number(first).ok_or_else(unknown)
 }
 
 /// The content of the next line; the error in words.

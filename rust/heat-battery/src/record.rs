@@ -6,6 +6,7 @@ use crate::call::Call;
 use crate::card::Card;
 use crate::ffi;
 use crate::refusal::Refusal;
+use crate::version::Version;
 use std::fmt;
 
 /// A battery as a record of numbers, laid out as C's `struct heat_battery`: the quickest way
@@ -28,37 +29,44 @@ use std::fmt;
 /// # Ok::<(), Refusal>(())
 /// ```
 #[derive(PartialEq)]
-pub struct Record(ffi::Battery);
+pub struct Record {
+    version: Version,
+    battery: ffi::Battery,
+}
 
 impl Clone for Record {
     fn clone(&self) -> Record {
-        Record(self.0)
+        let Record { version, battery } = *self;
+        Record { version, battery }
     }
 
     /// Copies no more zones than there are, and the card number by number, as the engine reads
     /// it: the quick way back to a kept state.
     #[inline]
     fn clone_from(&mut self, source: &Record) {
-        let Record(ffi::Battery { card, zones, count, totals }) = source;
+        let ffi::Battery { card, zones, count, totals } = &source.battery;
         let ffi::Card { layers, units, simultaneous, budget, numbers } = *card;
-        self.0.card.layers = layers;
-        self.0.card.units = units;
-        self.0.card.simultaneous = simultaneous;
-        self.0.card.budget = budget;
-        self.0.card.numbers = numbers;
-        self.0.totals = *totals;
-        if self.0.count > *count {
-            self.0.zones = *zones;
+        self.version = source.version;
+        let battery = &mut self.battery;
+        battery.card.layers = layers;
+        battery.card.units = units;
+        battery.card.simultaneous = simultaneous;
+        battery.card.budget = budget;
+        battery.card.numbers = numbers;
+        battery.totals = *totals;
+        if battery.count > *count {
+            battery.zones = *zones;
         }
-        self.0.count = *count;
-        for (place, zone) in self.0.zones.iter_mut().zip(zones).take(usize::from(*count)) {
+        battery.count = *count;
+        for (place, zone) in battery.zones.iter_mut().zip(zones).take(usize::from(*count)) {
             *place = *zone;
         }
     }
 }
 
 impl Record {
-    /// A fresh battery: all zones at the card's start, totals 0. Refusals 1 to 4.
+    /// A fresh battery of the newest version: all zones at the card's start, totals 0. Refusals 1
+    /// to 4.
     ///
     /// ```
     /// use heat_battery::{Card, Record, Refusal};
@@ -70,23 +78,33 @@ impl Record {
     /// # Ok::<(), Refusal>(())
     /// ```
     pub fn open(card: &Card) -> Result<Record, Refusal> {
-        Battery::open(card).map(|battery| Record::from(&battery))
+        Record::open_as(Version::NEWEST, card)
+    }
+
+    /// A fresh battery of a version. Refusals 1 to 4.
+    pub fn open_as(version: Version, card: &Card) -> Result<Record, Refusal> {
+        Battery::open_as(version, card).map(|battery| Record::from(&battery))
+    }
+
+    /// The version of the sheet that its answers are for.
+    pub fn version(&self) -> Version {
+        self.version
     }
 
     /// The card.
     pub fn card(&self) -> Card {
-        let ffi::Card { layers, units, simultaneous, budget, numbers } = self.0.card;
+        let ffi::Card { layers, units, simultaneous, budget, numbers } = self.battery.card;
         Card::of(layers, units, simultaneous == 1, budget, numbers)
     }
 
     /// Zone temperatures, °C.
     pub fn zones(&self) -> &[f64] {
-        self.0.zones.get(..usize::from(self.0.count)).unwrap_or_default()
+        self.battery.zones.get(..usize::from(self.battery.count)).unwrap_or_default()
     }
 
     /// The five totals.
     pub fn totals(&self) -> Totals {
-        Totals::from_numbers(self.0.totals)
+        Totals::from_numbers(self.battery.totals)
     }
 
     /// The state of charge, 0 to 1. Refusals 23 and 25.
@@ -119,7 +137,7 @@ impl Record {
     /// ```
     #[inline]
     pub fn advance(&mut self, call: &Call) -> Result<Answer, Refusal> {
-        let shown = call.with_bytes(|bytes| ffi::advance(&mut self.0, bytes));
+        let shown = self.entry(call);
         match Refusal::from_number(shown.refusal) {
             Some(refusal) => Err(refusal),
             None => Ok(self.shown(call, None, &shown)),
@@ -130,11 +148,17 @@ impl Record {
     /// an answer with its refusal, only 10 is an error.
     #[inline]
     pub fn answer(&mut self, call: &Call) -> Result<Answer, Refusal> {
-        let shown = call.with_bytes(|bytes| ffi::advance(&mut self.0, bytes));
+        let shown = self.entry(call);
         match Refusal::from_number(shown.refusal) {
             Some(refusal) if !refusal.is_line() => Err(refusal),
             refusal => Ok(self.shown(call, refusal, &shown)),
         }
+    }
+
+    #[inline]
+    fn entry(&mut self, call: &Call) -> ffi::Shown {
+        let version = self.version.number();
+        call.with_bytes(|bytes| ffi::advance(version, &mut self.battery, bytes))
     }
 
     /// The line's answer, with the battery as it is now.
@@ -165,29 +189,27 @@ impl From<&Battery> for Record {
         for (place, zone) in zones.iter_mut().zip(read.iter()) {
             *place = *zone;
         }
-        Record(ffi::Battery {
-            card: ffi::Card {
-                layers: card.layers,
-                units: card.units,
-                simultaneous: u8::from(card.simultaneous),
-                budget: card.budget,
-                numbers: card.numbers(),
-            },
-            zones,
-            count: card.layers,
-            totals: battery.totals().numbers(),
-        })
+        let card = ffi::Card {
+            layers: card.layers,
+            units: card.units,
+            simultaneous: u8::from(card.simultaneous),
+            budget: card.budget,
+            numbers: card.numbers(),
+        };
+        let (count, totals) = (card.layers, battery.totals().numbers());
+        let version = battery.version();
+        Record { version, battery: ffi::Battery { card, zones, count, totals } }
     }
 }
 
 impl From<&Record> for Battery {
     fn from(record: &Record) -> Battery {
-        Battery::of(&record.card(), record.zones(), &record.totals())
+        Battery::of(record.version, &record.card(), record.zones(), &record.totals())
     }
 }
 
 impl fmt::Debug for Record {
     fn fmt(&self, f: &mut fmt::Formatter<'_>) -> fmt::Result {
-        debug("Record", &self.card(), self.zones(), &self.totals(), f)
+        debug("Record", self.version, &self.card(), self.zones(), &self.totals(), f)
     }
 }

@@ -42,7 +42,7 @@ pub enum Refusal {
     NoLogarithm,
     /// 25, as a line.
     OverFull,
-    /// 40, a sheet.
+    /// 40, a sheet, or the version that a C entry is given.
     NoVersion,
     /// 41, a sheet.
     BadCard,
@@ -75,7 +75,7 @@ const REFUSALS: [(Refusal, u8, &str, &str); 18] = [
     ),
     (Refusal::NoLogarithm, 24, "NO_LOGARITHM", "the logarithm's argument is not positive, normal and finite"),
     (Refusal::OverFull, 25, "OVER_FULL", "the state of charge is above 1"),
-    (Refusal::NoVersion, 40, "NO_VERSION", "no first byte, or it is not the version 1"),
+    (Refusal::NoVersion, 40, "NO_VERSION", "the version, a sheet's first byte, is missing or not known"),
     (Refusal::BadCard, 41, "BAD_CARD", "the card line is missing, of wrong length or its card is refused"),
     (Refusal::BadLine, 42, "BAD_LINE",
         "a call line is cut short, of unknown kind or wrong length, or has a field out of range",

@@ -6,6 +6,7 @@ use crate::call::Call;
 use crate::card::Card;
 use crate::reading::read;
 use crate::refusal::Refusal;
+use crate::version::Version;
 
 /// A fresh battery with the sheet of all calls made on it.
 ///
@@ -30,17 +31,28 @@ pub struct Sheet {
 }
 
 impl Sheet {
-    /// Opens a battery and a sheet that grows with its lines. Refusals 1 to 4. The laboratory's
-    /// audit program takes sheets of at most [`MOST_AUDITED`](crate::MOST_AUDITED) bytes.
+    /// Opens a battery and a sheet of the newest version that grows with its lines. Refusals 1 to
+    /// 4. The laboratory's audit program takes sheets of at most
+    /// [`MOST_AUDITED`](crate::MOST_AUDITED) bytes.
     pub fn open(card: &Card) -> Result<Sheet, Refusal> {
-        Sheet::open_within(card, usize::MAX)
+        Sheet::open_as(Version::NEWEST, card)
+    }
+
+    /// Opens a battery and a sheet of a version, which every call is then given. Refusals 1 to 4.
+    pub fn open_as(version: Version, card: &Card) -> Result<Sheet, Refusal> {
+        Sheet::open_within(version, card, usize::MAX)
     }
 
     /// Opens a battery and a sheet of at most `most` bytes: 11 where a line has no room.
-    pub fn open_within(card: &Card, most: usize) -> Result<Sheet, Refusal> {
+    pub fn open_within(version: Version, card: &Card, most: usize) -> Result<Sheet, Refusal> {
         let mut bytes = vec![0; OPENING_BYTES.min(most)];
-        let battery = Battery::open_on(card, &mut bytes)?;
+        let battery = Battery::open_on(version, card, &mut bytes)?;
         Ok(Sheet { battery, bytes, most, lines: 0 })
+    }
+
+    /// The version that it was opened with.
+    pub fn version(&self) -> Version {
+        self.battery.version()
     }
 
     /// Makes a call. 10 and 11 leave battery and sheet as they were; 20 to 25 leave the
@@ -91,6 +103,6 @@ impl Sheet {
 
     /// The call lines.
     pub fn lines(&self) -> impl Iterator<Item = Line> + '_ {
-        read(&self.bytes).into_iter().flat_map(|(_, lines)| lines).flatten()
+        read(&self.bytes).into_iter().flat_map(|(_, _, lines)| lines).flatten()
     }
 }

@@ -5,7 +5,7 @@ mod common {
 }
 
 use common::command::{example, run, Ended, Folder};
-use heat_battery::{Battery, Card, Totals};
+use heat_battery::{Battery, Card, Totals, Version};
 
 fn check(folder: &Folder, card: &Card) -> Ended {
     let ended = run(&["card", "check", &folder.write("card", card.to_string().as_bytes())]);
@@ -44,8 +44,8 @@ fn what_a_card_holds_is_what_the_engine_charges() {
         Card { lower: 20.0, upper: 30.0, ..salt },
         Card { lower: 90.0, upper: 95.0, ..salt },
     ] {
-        let zones = [card.reference; 8];
-        let empty = Battery::with_state(&card, &zones, &Totals::default()).unwrap();
+        let (zones, totals) = ([card.reference; 8], Totals::default());
+        let empty = Battery::with_state(Version::NEWEST, &card, &zones, &totals).unwrap();
         let full = empty.charge_energy_demand(None, 1.0).unwrap();
         let said = holds(&check(&folder, &card));
         let [sum, below, during, above] = said[..] else { panic!("{said:?}") };

@@ -7,7 +7,7 @@ mod common {
 
 use common::command::{commands, example, run, run_unread, run_with, Folder};
 use common::json::is_json;
-use heat_battery::{Call, Card, Sheet, Totals};
+use heat_battery::{Call, Card, Sheet, Totals, Version};
 use std::fs;
 
 const DAY: &str = "winter-day.sheet";
@@ -19,9 +19,9 @@ const LINES: usize = 204;
 #[test]
 fn the_winter_day_runs_to_its_sheet() {
     let folder = Folder::new("day");
+    let (card, calls) = (example("salt-battery.card"), example("winter-day.calls"));
     let out = folder.path("day.sheet");
-    let ended =
-        run(&["run", &example("salt-battery.card"), &example("winter-day.calls"), "-o", &out]);
+    let ended = run(&["run", &card, &calls, "--version", "1", "-o", &out]);
     ended.assert_fine("run");
     assert!(ended.err.contains("204 calls, 0 refused: 204 lines, 29788 bytes"), "{}", ended.err);
     assert!(fs::read(&out).unwrap() == fs::read(example(DAY)).unwrap());
@@ -61,7 +61,7 @@ fn convert_and_run_give_the_same_bytes() {
     run(&["convert", &example(DAY), "-o", &name]).assert_fine("convert");
     let (card, calls, out) =
         (format!("{name}.card"), format!("{name}.calls"), folder.path("again"));
-    run(&["run", &card, &calls, "-o", &out]).assert_fine("run");
+    run(&["run", &card, &calls, "--version", "1", "-o", &out]).assert_fine("run");
     assert!(fs::read(&out).unwrap() == fs::read(example(DAY)).unwrap());
 }
 
@@ -287,7 +287,7 @@ fn bad_outputs_are_said() {
 /// As many lines as 65,536 bytes hold.
 fn full_sheet(layers: u8) -> Vec<u8> {
     let card = Card { layers, ..Card::example() };
-    let mut sheet = Sheet::open_within(&card, 65_536).unwrap();
+    let mut sheet = Sheet::open_within(Version::NEWEST, &card, 65_536).unwrap();
     while sheet.answer(&Call::StateOfCharge).is_ok() {}
     assert_eq!(sheet.battery().totals(), Totals::default());
     sheet.into_bytes()

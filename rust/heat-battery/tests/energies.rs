@@ -14,7 +14,7 @@ const DAY: &str = "winter-day.sheet";
 
 fn day() -> Vec<Line> {
     let bytes = fs::read(example(DAY)).unwrap();
-    read(&bytes).unwrap().1.map(Result::unwrap).collect()
+    read(&bytes).unwrap().2.map(Result::unwrap).collect()
 }
 
 fn hundredths(sum: f64) -> String {

@@ -4,26 +4,47 @@ mod common {
     pub mod command;
 }
 
-use common::command::{example, examples};
-use heat_battery::{audit, text, Card, Sheet, Verdict};
+use common::command::{example, examples, path_text, Folder};
+use heat_battery::{audit, read, text, Card, Sheet, Verdict, Version};
 use std::fs;
+use std::process::Command;
 
-/// The sheet that the texts of an example give.
-fn sheet(card: &str, calls: &str) -> Vec<u8> {
+/// The sheet that the texts of an example give in a version.
+fn sheet(version: Version, card: &str, calls: &str) -> Vec<u8> {
     let card: Card = fs::read_to_string(example(card)).unwrap().parse().unwrap();
     let calls = text::calls(&fs::read_to_string(example(calls)).unwrap()).unwrap();
-    let mut sheet = Sheet::open(&card).unwrap();
+    let mut sheet = Sheet::open_as(version, &card).unwrap();
     for listed in calls {
         sheet.call(&listed.call).unwrap();
     }
     sheet.into_bytes()
 }
 
+fn two_lines() -> Vec<u8> {
+    sheet(Version::One, "two-lines.card", "two-lines.calls")
+}
+
+fn charging_loop() -> Vec<u8> {
+    sheet(Version::Two, "charging-loop.card", "charging-loop.calls")
+}
+
 #[test]
 fn the_two_line_sheet_is_stored() {
-    let bytes = sheet("two-lines.card", "two-lines.calls");
-    assert!(bytes == fs::read(example("two-lines.sheet")).unwrap());
-    assert_eq!(audit(&bytes), Verdict::Accepted(2));
+    assert!(two_lines() == fs::read(example("two-lines.sheet")).unwrap());
+    assert_eq!(audit(&two_lines()), Verdict::Accepted(2));
+}
+
+/// A charge that the limit ends with a replayed substep, one that the hours end, one that its
+/// outlet does.
+#[test]
+fn the_charging_loops_sheet_is_stored() {
+    let bytes = charging_loop();
+    assert!(bytes == fs::read(example("charging-loop.sheet")).unwrap());
+    assert_eq!(audit(&bytes), Verdict::Accepted(4));
+    let (_, _, lines) = read(&bytes).unwrap();
+    let shown: Vec<(u32, f64)> =
+        lines.map(|line| line.unwrap().answer).map(|one| (one.substeps, one.time)).collect();
+    assert_eq!(shown, [(2, 0.2634034416826004), (1, 20.0), (2, 40.0), (0, 0.0)]);
 }
 
 #[test]
@@ -47,15 +68,41 @@ fn the_pages_show_one_program() {
     assert!(shown.lines().count() <= 20);
 }
 
-/// The hex columns of the annotated lines, in order, are the sheet's bytes.
+/// The C program of the crate's page fits the header.
+#[test]
+fn the_pages_c_program_agrees_with_the_header() {
+    let page = fs::read_to_string(examples().join("../rust/heat-battery/README.md")).unwrap();
+    let program = page.split("```c\n").nth(1).unwrap().split("```").next().unwrap();
+    let file = Folder::new("page-c").write("lose.c", program.as_bytes());
+    let include = path_text(&examples().join("../include"));
+    let words = ["-std=c11", "-Wall", "-Wextra", "-Werror", "-fsyntax-only", "-I", &include, &file];
+    let compiled = Command::new("cc").args(words).output().unwrap();
+    assert!(compiled.status.success(), "{}", String::from_utf8_lossy(&compiled.stderr));
+}
+
+/// The hex columns of the annotated lines in a section of the format page, in order.
+fn annotated(section: &str) -> String {
+    let page = fs::read_to_string(examples().join("../docs/FORMAT.md")).unwrap();
+    let rest = page.split(&format!("\n## {section}\n")).nth(1).unwrap();
+    rest.split("\n## ").next().unwrap().lines().filter_map(hex_column).collect()
+}
+
+fn hex(bytes: &[u8]) -> String {
+    bytes.iter().map(|byte| format!("{byte:02x}")).collect()
+}
+
 #[test]
 fn the_format_page_shows_the_two_line_sheet() {
-    let page = fs::read_to_string(examples().join("../docs/FORMAT.md")).unwrap();
-    let example = page.split("## An example").nth(1).unwrap();
-    let hex: String = example.lines().filter_map(hex_column).collect();
-    let bytes = sheet("two-lines.card", "two-lines.calls");
-    let written = |bytes: &[u8]| bytes.iter().map(|byte| format!("{byte:02x}")).collect::<String>();
-    assert_eq!(hex, written(&bytes[..25]) + &written(&bytes[161..]));
+    let bytes = two_lines();
+    assert_eq!(annotated("An example"), hex(&bytes[..25]) + &hex(&bytes[161..]));
+}
+
+/// The first byte and line 1.
+#[test]
+fn the_format_page_shows_a_hydronic_line_of_version_2() {
+    let bytes = charging_loop();
+    let line = 161..161 + 2 + 71 + 8 + 72;
+    assert_eq!(annotated("A hydronic line of version 2"), hex(&bytes[..1]) + &hex(&bytes[line]));
 }
 
 /// The hex digits at the front of an indented line, without blanks.
@@ -76,4 +123,12 @@ fn the_format_page_is_right_about_lengths_and_damage() {
     assert_eq!(bytes[zone], 0x72);
     bytes[zone] = 0x73;
     assert_eq!(audit(&bytes).to_string(), "refused 43 line 2");
+
+    let bytes = charging_loop();
+    let other = [&[1], &bytes[1..]].concat();
+    assert_eq!(audit(&other).to_string(), "refused 43 line 1");
+    // Behind length, call, refusal, energy and outlet.
+    let time = 161 + 2 + 73 + 1 + 8 + 9;
+    let without = [&bytes[..time], &[0; 8], &bytes[time + 8..]].concat();
+    assert_eq!(audit(&without).to_string(), "refused 43 line 1");
 }

@@ -104,7 +104,7 @@ fn program_line(length: usize) -> String {
 
 /// The line that says which card it is.
 fn card_line(sheet: &[u8]) -> String {
-    let (card, _) = read(sheet).expect("a card");
+    let (_, card, _) = read(sheet).expect("a card");
     format!("card {}\n", card.fingerprint())
 }
 

@@ -6,7 +6,7 @@ mod common {
 
 use common::command::{example, run, run_by_shell, run_in, run_unread, run_with, Ended, Folder};
 use heat_battery::{
-    audit, text, Battery, Call, Card, Refusal, ServiceType, Sheet, Totals, Verdict,
+    audit, text, Battery, Call, Card, Refusal, ServiceType, Sheet, Totals, Verdict, Version,
 };
 use std::fs;
 use std::time::{Duration, Instant};
@@ -42,7 +42,8 @@ fn convert_to_standard_output_gives_what_run_reads() {
     let card = folder.write("card", card.out.as_bytes());
     let calls = run(&["convert", &example(DAY), "--only", "calls"]);
     let out = folder.path("sheet");
-    run_with(&["run", &card, "-", "-o", &out], calls.out.as_bytes()).assert_fine("run");
+    let words = ["run", &card, "-", "--version", "1", "-o", &out];
+    run_with(&words, calls.out.as_bytes()).assert_fine("run");
     assert!(fs::read(&out).unwrap() == fs::read(example(DAY)).unwrap());
     assert_eq!(run(&["convert", &example(DAY), "--only", "zones"]).status, 2);
     let mine = folder.write("mine.card", &fs::read(&out).unwrap());
@@ -109,7 +110,8 @@ fn refusal_10_speaks_of_the_call() {
     let words = "refused 10: a call field is not finite or out of range; no line on the sheet\n";
     assert!(ended.err.contains(words), "{}", ended.err);
     // A battery handed in has the same number and its own words.
-    let bad = Battery::with_state(&Card::example(), &[f64::NAN; 8], &Totals::default());
+    let (card, totals) = (Card::example(), Totals::default());
+    let bad = Battery::with_state(Version::NEWEST, &card, &[f64::NAN; 8], &totals);
     let refusal = bad.unwrap_err();
     assert_eq!((refusal, refusal.number()), (Refusal::BadBattery, 10));
     assert!(refusal.to_string().starts_with("10: the battery handed in "), "{refusal}");

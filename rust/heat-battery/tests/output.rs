@@ -33,7 +33,7 @@ fn output_is_written_whole_or_not_at_all() {
     short(&["run", &salt(), &calls, "-o", &old]);
     assert_eq!(fs::read(&old).unwrap(), b"what stood here");
     assert_eq!(folder.names(), ["sheet"]);
-    run(&["run", &salt(), &calls, "-o", &old]).assert_fine("with room");
+    run(&["run", &salt(), &calls, "--version=1", "-o", &old]).assert_fine("with room");
     assert!(fs::read(&old).unwrap() == fs::read(&day).unwrap());
     assert_eq!(folder.names(), ["sheet"]);
 }
@@ -48,7 +48,7 @@ fn a_file_that_is_replaced_keeps_its_rights_and_its_links() {
     symlink(&file, &link).unwrap();
     let set = |mode| fs::set_permissions(&file, fs::Permissions::from_mode(mode)).unwrap();
     set(0o640);
-    run(&["run", &salt(), &calls, "-o", &link]).assert_fine("through a link");
+    run(&["run", &salt(), &calls, "--version=1", "-o", &link]).assert_fine("through a link");
     assert!(fs::symlink_metadata(&link).unwrap().is_symlink());
     assert!(fs::read(&file).unwrap() == fs::read(example(DAY)).unwrap());
     assert_eq!(fs::metadata(&file).unwrap().permissions().mode() & 0o777, 0o640);

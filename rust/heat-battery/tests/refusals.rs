@@ -26,11 +26,12 @@ fn words(line: &str) -> Vec<&str> {
     line.split_whitespace().collect()
 }
 
-/// `#define HEAT_BATTERY_NAME NUMBER`; lengths and the version are no refusals.
+/// `#define HEAT_BATTERY_NAME NUMBER`; lengths and versions are no refusals.
 fn of_header(line: &str) -> Option<(String, String)> {
     let [define, name, number, ..] = words(line)[..] else { return None };
     let name = name.strip_prefix("HEAT_BATTERY_").filter(|_| define == "#define")?;
-    let other = name.contains("_LENGTH") || ["VERSION", "MOST_LAYERS", "ANSWERED"].contains(&name);
+    let others = ["OLDEST_VERSION", "NEWEST_VERSION", "MOST_LAYERS", "ANSWERED"];
+    let other = name.contains("_LENGTH") || others.contains(&name);
     (!other).then(|| (name.to_string(), number.to_string()))
 }
 

@@ -9,8 +9,9 @@ use heat_battery::Card;
 use std::fs;
 
 const DAY: &str = "winter-day.sheet";
-/// CRC-32 of bytes 3 to 160 of the two example sheets, by another program (zlib).
-const FINGERPRINTS: [(&str, &str); 2] = [(DAY, "3ce57cdf"), ("two-lines.sheet", "49f80dbf")];
+/// CRC-32 of bytes 3 to 160 of the example sheets, by another program (zlib).
+const FINGERPRINTS: [(&str, &str); 3] =
+    [(DAY, "3ce57cdf"), ("two-lines.sheet", "49f80dbf"), ("charging-loop.sheet", "2ef770a9")];
 
 #[test]
 fn the_fingerprint_stands_beside_the_verdict() {

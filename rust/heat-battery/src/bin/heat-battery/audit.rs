@@ -16,7 +16,7 @@ pub fn audit(arguments: &Arguments) -> Result<(), Failure> {
     let expected = Expected::read(arguments)?;
     let bytes = files::sheet(path)?;
     let verdict = heat_battery::audit(&bytes);
-    let card = read(&bytes).ok().map(|(card, _)| card);
+    let card = read(&bytes).ok().map(|(_, card, _)| card);
     let mut text = format!("{verdict}\n");
     if let Some(card) = card {
         let _ = writeln!(text, "card {}", card.fingerprint());

@@ -3,9 +3,9 @@
 use crate::arguments::Arguments;
 use crate::card::count;
 use crate::failure::Failure;
-use crate::files;
+use crate::files::{self, Parts};
 use crate::output::{note, write_all};
-use heat_battery::{differences, read, text, Card, Line, Sheet};
+use heat_battery::{differences, read, text, Line, Sheet, Version};
 use std::ffi::{OsStr, OsString};
 
 pub fn convert(arguments: &Arguments) -> Result<(), Failure> {
@@ -15,13 +15,24 @@ pub fn convert(arguments: &Arguments) -> Result<(), Failure> {
         files::test_apart(&[path], &out)?;
     }
     let bytes = files::sheet(path)?;
-    let (card, lines, damage) = files::parts(path, &bytes)?;
-    if let Some(damage) = damage {
+    let parts = files::parts(path, &bytes)?;
+    if let Some(damage) = parts.damage {
         return Err(files::refused(path, damage));
     }
-    let calls = text::list(lines.iter().map(|line| line.call));
-    target.write(&card.to_string(), &calls)?;
-    compare(path, &bytes, &lines, &again(&card, &lines))
+    target.write(&parts.card.to_string(), &listed(&parts))?;
+    compare(path, &bytes, &parts.lines, &again(&parts))?;
+    if parts.version != Version::NEWEST {
+        let version = parts.version;
+        let name = files::name(path);
+        note(&format!("{name}: of version {version}; run --version {version} gives it again"));
+    }
+    Ok(())
+}
+
+/// The calls under the version, which `run` has to be told.
+fn listed(parts: &Parts) -> String {
+    let calls = text::list(parts.lines.iter().map(|line| line.call));
+    format!("# Of a sheet of version {}.\n{calls}", parts.version)
 }
 
 /// What is written where.
@@ -73,10 +84,10 @@ fn with_ending(name: &OsStr, ending: &str) -> OsString {
     path
 }
 
-/// The sheet that running the calls gives.
-fn again(card: &Card, lines: &[Line]) -> Vec<u8> {
-    let Ok(mut sheet) = Sheet::open(card) else { return Vec::new() };
-    for line in lines {
+/// The sheet that running the calls in its version gives.
+fn again(parts: &Parts) -> Vec<u8> {
+    let Ok(mut sheet) = Sheet::open_as(parts.version, &parts.card) else { return Vec::new() };
+    for line in &parts.lines {
         // A refusal is a line, or leaves a shorter sheet.
         let _ = sheet.answer(&line.call);
     }
@@ -86,9 +97,10 @@ fn again(card: &Card, lines: &[Line]) -> Vec<u8> {
 /// Whether the answers are the engine's, by f64 equality as the audit has it.
 fn compare(path: &OsStr, bytes: &[u8], lines: &[Line], again: &[u8]) -> Result<(), Failure> {
     let given: Vec<Line> =
-        read(again).into_iter().flat_map(|(_, lines)| lines).map_while(Result::ok).collect();
-    let agree =
-        |(shown, given): (&Line, &Line)| differences(&shown.answer, &given.answer).is_empty();
+        read(again).into_iter().flat_map(|(_, _, lines)| lines).map_while(Result::ok).collect();
+    let agree = |(shown, given): (&Line, &Line)| {
+        differences(&shown.call, &shown.answer, &given.answer).is_empty()
+    };
     if given.len() != lines.len() || !lines.iter().zip(&given).all(agree) {
         let words = "its answers aren't the engine's; run will give another sheet";
         return Err(files::refused(path, words));

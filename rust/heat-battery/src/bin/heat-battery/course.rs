@@ -2,7 +2,7 @@
 //! or, where no timestep is closed, over the lines.
 
 use crate::axis::is_drawable;
-use heat_battery::{Battery, Call, Card, Line, ServiceType};
+use heat_battery::{Battery, Call, Card, Line, ServiceType, Version};
 
 /// A line and where it begins and ends across the picture.
 struct Placed {
@@ -13,6 +13,7 @@ struct Placed {
 
 /// The course of a sheet from one line to another.
 pub struct Course {
+    pub version: Version,
     pub card: Card,
     /// Whether the picture goes over hours.
     pub is_timed: bool,
@@ -86,7 +87,7 @@ fn placed(card: &Card, lines: Vec<Line>, is_timed: bool) -> Vec<Placed> {
 
 impl Course {
     /// The lines from one index to another, both among them.
-    pub fn new(card: Card, lines: Vec<Line>, from: u64, to: u64) -> Course {
+    pub fn new(version: Version, card: Card, lines: Vec<Line>, (from, to): (u64, u64)) -> Course {
         let is_timed = lines.iter().any(|line| line.call == Call::CloseTimestep);
         let mut lines = placed(&card, lines, is_timed);
         let last = lines.iter().take_while(|placed| placed.line.index < from).last();
@@ -95,7 +96,7 @@ impl Course {
         });
         lines.retain(|placed| placed.line.index >= from && placed.line.index <= to);
         let together = lines.len().div_ceil(MOST_STEPS).max(1);
-        Course { card, is_timed, before, lines, together }
+        Course { version, card, is_timed, before, lines, together }
     }
 
     /// The lines in order.
@@ -130,7 +131,8 @@ impl Course {
 
     /// The state of charge that the engine gives for a line's zones, in percent.
     fn percent(&self, zones: &[f64]) -> Option<f64> {
-        let battery = Battery::with_state(&self.card, zones, &Default::default()).ok()?;
+        let totals = Default::default();
+        let battery = Battery::with_state(self.version, &self.card, zones, &totals).ok()?;
         Some(battery.state_of_charge().ok()? * 100.0)
     }
 

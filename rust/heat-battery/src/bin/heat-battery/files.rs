@@ -1,7 +1,7 @@
 //! Files read up to a limit.
 
 use crate::failure::Failure;
-use heat_battery::{looks, read, Card, Damage, Line, Looks, Refusal};
+use heat_battery::{looks, read, Card, Damage, Line, Looks, Refusal, Version};
 use std::ffi::OsStr;
 use std::fmt::Display;
 use std::fs::{self, File};
@@ -86,18 +86,26 @@ fn is_same(one: &OsStr, other: &OsStr) -> bool {
     }
 }
 
-/// A sheet's card and the lines up to the first damage, which is given too.
-pub fn parts(path: &OsStr, bytes: &[u8]) -> Result<(Card, Vec<Line>, Option<Damage>), Failure> {
-    let (card, lines) = read(bytes)
+/// A sheet as far as it can be read.
+pub struct Parts {
+    pub version: Version,
+    pub card: Card,
+    /// Up to the first damage.
+    pub lines: Vec<Line>,
+    pub damage: Option<Damage>,
+}
+
+pub fn parts(path: &OsStr, bytes: &[u8]) -> Result<Parts, Failure> {
+    let (version, card, lines) = read(bytes)
         .map_err(|damage| refused(path, format!("{damage}{}", no_sheet(damage.refusal, bytes))))?;
-    let mut whole = Vec::new();
+    let mut parts = Parts { version, card, lines: Vec::new(), damage: None };
     for line in lines {
         match line {
-            Ok(line) => whole.push(line),
-            Err(damage) => return Ok((card, whole, Some(damage))),
+            Ok(line) => parts.lines.push(line),
+            Err(damage) => parts.damage = Some(damage),
         }
     }
-    Ok((card, whole, None))
+    Ok(parts)
 }
 
 /// The end of a message on bytes that are refused for their first one: what they are instead of

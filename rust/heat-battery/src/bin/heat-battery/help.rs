@@ -46,7 +46,7 @@ Prints a card to start from, with each field's meaning, unit and range.
 ";
 
 pub const RUN: &str = "\
-heat-battery run CARD CALLS -o SHEET [--stop] [--most BYTES] [--unmet-fails]
+heat-battery run CARD CALLS -o SHEET [--version N] [--stop] [--most BYTES] [--unmet-fails]
 
 Opens a battery with the card, makes the calls in order and writes the sheet. CALLS has one call
 on each line, a kind and its fields in any order; what follows # is a comment:
@@ -67,6 +67,8 @@ twenty, refused calls are counted.
 A committed demand that got over 0.001 kWh less than it required is unmet; a refused one got
 nothing. How many are, and what they lack, is said at the end.
 
+  --version N    write a sheet of version N (1, 2), not of the newest. From version 2 on an answered
+                 hydronic charge shows how long its pump ran; in version 1 it shows 0 s
   --stop         end at the first refused call; the sheet so far is written
   --most BYTES   hold the sheet to so many bytes; the list ends at the first line that has no room
   --unmet-fails  status 3 where a demand is unmet
@@ -79,13 +81,17 @@ pub const SHOW: &str = "\
 heat-battery show SHEET [--json] [--unmet-fails]
 
 Prints the card and every line: kind and fields of the call, refusal in words, energy, shortfall of
-a demand, outlet, time, substeps, zones and totals; at the end unmet demand, the card's fingerprint
-and the audit's verdict. Energy is heat that moved. What was only asked stands apart: the energy of
-a trial, the state of charge (0 to 1), the charge energy demand ('to charge').
+a demand, outlet, time, substeps, zones and totals; at the end unmet demand, the hours of the
+charging loop, the sheet's version, the card's fingerprint and the audit's verdict. Energy is heat
+that moved. What was only asked stands apart: the energy of a trial, the state of charge (0 to 1),
+the charge energy demand ('to charge').
+
+The time is that of a demand and, from version 2 on, of the pump of a hydronic charge. The charging
+loop's hours are the sum of the latter; they are in none of the running totals.
 
 The table is rounded; --json has every number exactly (one that isn't finite is a string). Its energy
 and shortfall are 0 where there is none; trial_energy, state_of_charge, charge_energy_demand and
-outlet are then null.
+outlet are then null, as is charging_loop in version 1.
 
   --unmet-fails  status 3 where a demand is unmet, as 'run' has it
 
@@ -99,7 +105,7 @@ heat-battery audit SHEET [--explain] [--card CARD] [--lines N]
 Makes the sheet's calls again on a fresh battery and compares every answer. Prints 'accepted N'
 with the number of call lines, or 'refused R line K':
 
-  40  no first byte, or not the version 1
+  40  no first byte, or no known version
   41  the card line is missing, of wrong length or its card is refused
   42  a call line is cut short, of unknown kind or wrong length, or a field is out of range
   43  an answer disagrees with the steps
@@ -124,8 +130,8 @@ heat-battery plot SHEET -o FILE.svg [--from LINE] [--to LINE]
 Draws zone temperatures, state of charge and energies over hours; call lines stand along the top.
 Hours are those of closed timesteps; the calls of one share it in their order. A sheet that closes
 none is drawn over its call lines. Heat in points up, heat out points down; trials are hollow. Marked
-are refused lines, unmet demands and the line that the audit refuses; card and verdict stand under
-the title.
+are refused lines, unmet demands and the line that the audit refuses; card, verdict and, from
+version 2 on, the hours of the charging loop stand under the title.
 
   --from, --to  only these call lines
 
@@ -141,9 +147,10 @@ heat-battery convert SHEET -o NAME
 heat-battery convert SHEET --only card|calls [-o FILE]
 
 Writes the sheet's card and calls as text, to NAME.card and NAME.calls, or only one of them, to FILE
-or to standard output. 'heat-battery run' of the two gives the same sheet again if the engine wrote
-it. convert makes the calls again and says so if not; as for the audit, a zero of the other sign is
-no difference, but it is noted.
+or to standard output. 'heat-battery run' of the two in the sheet's version (--version) gives the
+same sheet again if the engine wrote it. convert makes the calls again and says so if not; as for the
+audit, a zero of the other sign is no difference, but it is noted. So is a version that isn't the
+newest; a comment above the calls has the version in any case.
 
 Status: 0 the same sheet will come; 1 the sheet is refused or another will come; 2 bad usage or file.
 ";

@@ -1,12 +1,14 @@
 //! A sheet as JSON. Numbers are written so that they read back exactly; one that is not finite,
 //! which only a damaged sheet has, is a string.
 
-use heat_battery::{Call, Card, Damage, Line, Totals, Unmet, Value, Verdict, VERSION};
+use crate::files::Parts;
+use heat_battery::{Call, Card, ChargingLoop, Line, Totals, Unmet, Value, Verdict};
 use std::fmt::Write;
 
-pub fn sheet(card: &Card, lines: &[Line], damage: Option<&Damage>, verdict: Verdict) -> String {
+pub fn sheet(parts: &Parts, verdict: Verdict) -> String {
+    let Parts { version, card, lines, damage } = parts;
     let mut text = format!(
-        "{{\"version\":{VERSION},\n\"card\":{},\n\"fingerprint\":{},\n\"lines\":[",
+        "{{\"version\":{version},\n\"card\":{},\n\"fingerprint\":{},\n\"lines\":[",
         card_object(card),
         string(&card.fingerprint().to_string())
     );
@@ -15,6 +17,8 @@ pub fn sheet(card: &Card, lines: &[Line], damage: Option<&Damage>, verdict: Verd
         text.push_str(&line(one));
     }
     let _ = writeln!(text, "],\n\"unmet\":{},", unmet_object(&Unmet::of(lines)));
+    let pump = ChargingLoop::of(*version, lines).map_or("null".into(), pump_object);
+    let _ = writeln!(text, "\"charging_loop\":{pump},");
     if let Some(damage) = damage {
         let _ = writeln!(text, "\"damage\":{},", string(&damage.to_string()));
     }
@@ -66,6 +70,10 @@ fn totals_object(totals: &Totals) -> String {
 
 fn unmet_object(unmet: &Unmet) -> String {
     object([("lines", unmet.lines.to_string()), ("shortfall", number(unmet.energy))])
+}
+
+fn pump_object(pump: ChargingLoop) -> String {
+    object([("lines", pump.lines.to_string()), ("hours", number(pump.hours()))])
 }
 
 fn object<'a>(members: impl IntoIterator<Item = (&'a str, String)>) -> String {

@@ -57,6 +57,7 @@ const COMMANDS: [Command; 8] = [
         places: &["CARD", "CALLS"],
         flags: &[
             Flag::value("-o"),
+            Flag::value("--version"),
             Flag::bare("--stop"),
             Flag::value("--most"),
             Flag::bare("--unmet-fails"),

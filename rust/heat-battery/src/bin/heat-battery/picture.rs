@@ -3,6 +3,7 @@
 use crate::axis::{is_drawable, Axis};
 use crate::card::size;
 use crate::course::Course;
+use crate::show::pump;
 use crate::svg::{Hang, Svg};
 use heat_battery::{Line, Unmet, Verdict};
 
@@ -113,6 +114,9 @@ impl<'a> Picture<'a> {
             words.push_str(&format!("; {unmet}"));
         }
         self.svg.label(LEFT, 50.0, Hang::Start, "fill=\"#333\"", &words);
+        if let Some(pump) = pump(course.version, course.lines()) {
+            self.svg.label(LEFT, 70.0, Hang::Start, "fill=\"#333\"", &pump.to_string());
+        }
     }
 
     /// Grid, frame, ticks and label of one panel.

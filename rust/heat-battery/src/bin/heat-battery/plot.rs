@@ -4,7 +4,7 @@ use crate::arguments::Arguments;
 use crate::card::count;
 use crate::course::Course;
 use crate::failure::Failure;
-use crate::files;
+use crate::files::{self, Parts};
 use crate::output::write;
 use crate::picture::Picture;
 use crate::show::verdict_status;
@@ -18,10 +18,10 @@ pub fn plot(arguments: &Arguments) -> Result<(), Failure> {
     test_name(path, out)?;
     let range = Range::read(arguments)?;
     let bytes = files::sheet(path)?;
-    let (card, lines, damage) = files::parts(path, &bytes)?;
+    let Parts { version, card, lines, damage } = files::parts(path, &bytes)?;
     range.test(path, lines.len() as u64)?;
     let verdict = audit(&bytes);
-    let course = Course::new(card, lines, range.from.unwrap_or(1), range.to.unwrap_or(u64::MAX));
+    let course = Course::new(version, card, lines, range.ends());
     let picture = Picture::new(&course, &short_name(path)).draw(verdict);
     write(out, picture.as_bytes())?;
     verdict_status(path, verdict, damage)
@@ -50,9 +50,14 @@ impl Range {
         Ok(Range { from: whole("--from")?, to: whole("--to")? })
     }
 
+    /// The first line and the last.
+    fn ends(&self) -> (u64, u64) {
+        (self.from.unwrap_or(1), self.to.unwrap_or(u64::MAX))
+    }
+
     /// An error where it is reversed, or has none of the sheet's lines.
     fn test(&self, path: &OsStr, lines: u64) -> Result<(), Failure> {
-        let (from, to) = (self.from.unwrap_or(1), self.to.unwrap_or(u64::MAX));
+        let (from, to) = self.ends();
         if from > to {
             return Err(Failure::Usage(format!("plot: --from {from} is above --to {to}")));
         }

@@ -7,24 +7,36 @@ use crate::files;
 use crate::output::{note, write};
 use crate::progress::Progress;
 use heat_battery::text::{self, ListedCall};
-use heat_battery::{shortfall, Looks, Refusal, Sheet, Unmet, MOST_AUDITED};
+use heat_battery::{shortfall, Looks, Refusal, Sheet, Unmet, Version, MOST_AUDITED};
 use std::ffi::OsStr;
 
 pub fn run(arguments: &Arguments) -> Result<(), Failure> {
     let (card_path, calls_path) = (arguments.place(0), arguments.place(1));
     let out = arguments.flag("-o").ok_or(Failure::Usage("run: -o SHEET is missing".into()))?;
+    let version = version(arguments)?;
     let most = arguments.whole("--most").map_err(Failure::Usage)?;
     let most = most.map_or(usize::MAX, |most| usize::try_from(most).unwrap_or(usize::MAX));
     test_paths(card_path, calls_path, out)?;
     let card = accepted(card_path)?;
     let calls = text::calls(&files::text(calls_path, Looks::Calls)?)
         .map_err(|slips| files::trouble(calls_path, format!("no list of calls:\n{slips}")))?;
-    let sheet = Sheet::open_within(&card, most)
+    let sheet = Sheet::open_within(version, &card, most)
         .map_err(|refusal| Failure::Refused(format!("no sheet: {refusal}")))?;
     let mut list = List::new(sheet, files::name(calls_path), calls.len());
     list.make(&calls, arguments.has("--stop"));
     write(out, list.sheet.as_bytes())?;
     list.close(calls.len(), arguments.has("--unmet-fails"))
+}
+
+/// The version asked for, or the newest.
+fn version(arguments: &Arguments) -> Result<Version, Failure> {
+    let Some(value) = arguments.flag("--version") else { return Ok(Version::NEWEST) };
+    let number = value.to_str().and_then(|value| value.parse().ok());
+    number.and_then(Version::from_number).ok_or_else(|| {
+        let value = value.to_string_lossy().escape_debug().to_string();
+        let known = Version::known();
+        Failure::Usage(format!("run: --version {value} is no known version of a sheet ({known})"))
+    })
 }
 
 fn test_paths(card: &OsStr, calls: &OsStr, out: &OsStr) -> Result<(), Failure> {
@@ -114,8 +126,10 @@ impl List {
         let [calls, lines, length] =
             [(calls as u64, "call"), (self.sheet.len(), "line"), (bytes as u64, "byte")]
                 .map(|(number, thing)| count(number, thing));
+        let version = self.sheet.version();
         let card = self.sheet.battery().card().fingerprint();
-        note(&format!("{calls}, {} refused: {lines}, {length}, card {card}", self.refused));
+        let made = format!("{calls}, {} refused: {lines}, {length}", self.refused);
+        note(&format!("{made}, version {version}, card {card}"));
         if !self.unmet.is_none() {
             note(&self.unmet.to_string());
         }

@@ -2,27 +2,27 @@
 
 use crate::arguments::Arguments;
 use crate::failure::Failure;
-use crate::files;
+use crate::files::{self, Parts};
 use crate::json;
 use crate::output::print;
 use crate::run::unmet_status;
-use heat_battery::{audit, Answer, Card, Damage, Line, Unmet, Verdict};
+use heat_battery::{audit, Answer, ChargingLoop, Damage, Line, Unmet, Verdict, Version};
 use std::ffi::OsStr;
 use std::fmt::Write;
 
 pub fn show(arguments: &Arguments) -> Result<(), Failure> {
     let path = arguments.place(0);
     let bytes = files::sheet(path)?;
-    let (card, lines, damage) = files::parts(path, &bytes)?;
+    let parts = files::parts(path, &bytes)?;
     let verdict = audit(&bytes);
     let text = match arguments.has("--json") {
-        true => json::sheet(&card, &lines, damage.as_ref(), verdict),
-        false => table(&card, &lines, verdict),
+        true => json::sheet(&parts, verdict),
+        false => table(&parts, verdict),
     };
     print(&text)?;
-    verdict_status(path, verdict, damage)?;
+    verdict_status(path, verdict, parts.damage)?;
     match arguments.has("--unmet-fails") {
-        true => unmet_status(&files::name(path), Unmet::of(&lines)),
+        true => unmet_status(&files::name(path), Unmet::of(&parts.lines)),
         false => Ok(()),
     }
 }
@@ -49,7 +49,8 @@ const HEAD: &str = "\
 line  kind                   energy kWh  shortfall kWh   trial kWh  charge 0-1  to charge kWh  outlet °C     time s  substeps  running h     pump h   direct h  charged kWh  electric kWh
 ";
 
-fn table(card: &Card, lines: &[Line], verdict: Verdict) -> String {
+fn table(parts: &Parts, verdict: Verdict) -> String {
+    let Parts { version, card, lines, .. } = parts;
     let mut text = format!("{card}\n{HEAD}");
     for line in lines {
         add_line(&mut text, line);
@@ -58,8 +59,20 @@ fn table(card: &Card, lines: &[Line], verdict: Verdict) -> String {
     if !unmet.is_none() {
         let _ = writeln!(text, "\n{unmet}");
     }
-    let _ = writeln!(text, "\ncard {}\naudit: {verdict}", card.fingerprint());
+    if let Some(pump) = pump(*version, lines) {
+        let _ = writeln!(text, "\n{pump}");
+    }
+    let card = card.fingerprint();
+    let _ = writeln!(text, "\nversion {version}\ncard {card}\naudit: {verdict}");
     text
+}
+
+/// The charging loop, where the version shows its time and some line has one.
+pub fn pump<'a>(
+    version: Version,
+    lines: impl IntoIterator<Item = &'a Line>,
+) -> Option<ChargingLoop> {
+    ChargingLoop::of(version, lines).filter(|pump| pump.lines > 0)
 }
 
 fn add_line(text: &mut String, line: &Line) {
