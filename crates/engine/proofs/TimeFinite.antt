@@ -1,12 +1,12 @@
 -- The time of a hydronic run on an accepted card is finite: at most 65,535 substeps of at most 3,600 s, and a fractional one whose heat is finite.
-use mathlib.Core.Path.{_≡_, refl, sym, _∙_, subst}
+use mathlib.Core.Path.{_≡_, refl, subst}
 use mathlib.Core.Logic.{inl, inr}
 use mathlib.Core.Bool.{true}
 use Prim.Native.Nat.{ℕ, zero, suc, _+_, _-_, _*_, _^_, _≤_}
 use native.Mathlib.Omega.{arith}
 use lib.Dec.{T}
 use lib.IntN.{pos}
-use lib.Ieee.{Float, binary64, prec, add, le, fits, ofBits, ofInt}
+use lib.Ieee.{Float, binary64, add, le, fits, ofBits, ofInt}
 use lib.Ieee.Fits.{and-i, add-fits, mul-fits}
 use lib.Ieee.Bits.{is-true, ofBits-fits}
 use lib.Ieee.Scale.{finite}
@@ -17,7 +17,7 @@ use Rattle.floats.specs.Constants.{hour}
 use Rattle.floats.specs.Standins.{finite64}
 use Rattle.floats.proofs.Compare.{le-of-eq}
 use Rattle.floats.proofs.Finite.{between-finite}
-use Rattle.floats.proofs.Integer.{ofInt-nonneg, ofInt-mono, ofInt-finite, ofInt-add}
+use Rattle.floats.proofs.Integer.{ofInt-mono, ofInt-finite, ofInt-add}
 use Rattle.floats.proofs.Operands.{aside, small-beside}
 use Rattle.floats.proofs.Order.{le-refl, le-trans, finite-number}
 use Rattle.floats.proofs.Range.{add-range}
@@ -26,7 +26,6 @@ use Rattle.zone.specs.Layer.{saltAt}
 use Rattle.card.specs.Card.{timesInRange, cardRefusal}
 use Rattle.card.specs.Derived.{saltsOf}
 use Rattle.card.specs.Ranges.{tenth, isSubstep, isTimestep}
-use Rattle.card.specs.declared.Card.{Card}
 use Rattle.card.proofs.Accepted.{accepted, accepted-layers, accepted-budget}
 use Rattle.card.proofs.Within.{within-low, within-high}
 use Rattle.battery.specs.declared.Battery.{Battery}
@@ -36,12 +35,8 @@ use Rattle.substep.specs.declared.Fault.the-variants.{Nothing}
 use Rattle.substep.proofs.Seconds.{seconds-finite}
 use Rattle.runs.specs.Runs.{endRefusal}
 use Rattle.runs.specs.Hydronic.{wetInput, fractionSeconds, wholeSubsteps}
-use Rattle.runs.specs.Charge.{hydronicTask, hydronicStart}
-use Rattle.runs.specs.Zoned.{Zoned, zoned}
+use Rattle.runs.specs.Charge.{hydronicTask}
 use Rattle.runs.specs.declared.HydronicTask.{HydronicTask}
-use Rattle.runs.specs.declared.HydronicState.{HydronicState}
-use Rattle.runs.specs.declared.HydronicEnd.{HydronicEnd}
-use Rattle.engine.specs.Steps.{wetOf}
 use Rattle.engine.specs.Budget.{hydronicTaskOf, hydronicRunOf}
 use Rattle.engine.specs.Faults.{heatOf, absorbedWith, fractionInput}
 use Rattle.engine.specs.Times.{addedUp, afterTurns, wholeAfter, fractionAfter, TimeRun}

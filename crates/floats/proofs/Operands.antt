@@ -13,7 +13,7 @@ use lib.Pow.{pow-pos, pow-mono, pow-add, le-ones}
 use lib.Ieee.{Float, nan, inf, fin, Format, binary64, up, down, low, add, mul, neg, le, fits, ofBits, ofInt}
 use lib.Ieee.Fits.{and-l, and-r, neg-fits}
 use lib.Ieee.Scale.{finite}
-use Rattle.floats.specs.F64.{_⊕_, _⊖_}
+use Rattle.floats.specs.F64.{_⊕_}
 use Rattle.floats.specs.Constants as Constants
 use Rattle.floats.specs.Constants.{largestFinite}
 use Rattle.floats.specs.Standins.{finite64}

@@ -1,17 +1,16 @@
 -- A substep with water that works ran for a finite time: seconds that aren't finite show in the heat of its last zone, and so in the delivered sum.
-use mathlib.Core.Path.{_≡_, refl, sym, _∙_, ap, subst}
+use mathlib.Core.Path.{_≡_, refl, subst}
 use mathlib.Core.Bool.{Bool, true, false, cond, _&&_}
 use mathlib.Core.List.{List}
 use Prim.Native.Nat.{ℕ, suc, _≤_, _<_}
 use native.Mathlib.Omega.{arith}
 use lib.Dec.{T}
-use lib.ListN.{length, getD, replicate, length-replicate}
+use lib.ListN.{length, getD}
 use lib.Seq.{getD-set-same}
 use lib.Ieee.{Float, nan, binary64}
 use lib.Ieee.Scale.{finite}
-use Rattle.logic.proofs.Tests.{and-true, holds}
+use Rattle.logic.proofs.Tests.{no-both, and-true, holds}
 use Rattle.floats.specs.F64.{_⊕_}
-use Rattle.floats.specs.Constants as Constants
 use Rattle.floats.specs.Standins.{finite64}
 use Rattle.floats.specs.Sum2.{sum2}
 use Rattle.floats.specs.declared.Log.{Log}
@@ -31,13 +30,9 @@ use Rattle.battery.specs.Battery.{zonesFinite}
 use Rattle.substep.specs.Substep.{zoneIndex, zoneStep, zoneAt, zonesAfter, zoneTransfer, commonOf, progressFrom, progressFinite, progressFault, withoutLogarithm, substepFrom, withTransfer, processHeatBatteryZones}
 use Rattle.substep.specs.declared.Common.{Common}
 use Rattle.substep.specs.declared.SubstepInput.{SubstepInput}
-use Rattle.substep.specs.declared.Fault.the-variants.{Nothing, Logarithm, NotFinite}
+use Rattle.substep.specs.declared.Fault.the-variants.{Nothing, NotFinite}
 use Rattle.substep.specs.Progress.{Progress}
 use Rattle.substep.proofs.Stores.{stored-places}
-
--- two faults are apart: `never (cc)`
-never : {A : Type 0} → _≡_ {A = ℕ} 0 1 → A
-never h = absurd (omega arith)
 
 -- a zone's heat in the mode with water is a product with the seconds
 water-seconds : (shared : Shared) (t inlet : Float) (left : Kilojoules) → T (finite (zoneProperties Normal shared t inlet left .energy .0)) → T (finite (shared .seconds))
@@ -79,11 +74,11 @@ module _ (card : Card) (pcm : HeatBatteryPcm) (s : ℕ → Salt) (input : Subste
           let a = and-true (zonesFinite (p .zones) (card .layers)) (finite64 (p .outlet) && rest) e in
           let b = and-true (finite64 (p .outlet)) rest (a .1) in
           holds (and-true (finite64 (sum .0)) (finite64 (p .charged .0)) (b .1) .0)
-      on false e g = never (cc)
+      on false e g = no-both (cc)
 
   by-transfer : (l : Log) → withTransfer card pcm s input zones l .fault ≡ Nothing → T (finite (input .seconds))
   unfolding withTransfer withoutLogarithm substepFrom progressFrom commonOf
-  by-transfer Refused h = never (cc)
+  by-transfer Refused h = no-both (cc)
   by-transfer (Value u) h =
       let p = zonesAfter (commonOf card pcm input u) s (card .layers) (card .layers) (progressFrom input zones) in
       let f = finite64-finite (sum2 (p .energies) (card .layers)) (sum-finite p (kj (sum2 (p .energies) (card .layers))) h) in
