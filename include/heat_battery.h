@@ -40,7 +40,7 @@ extern "C" {
    Versions 1 and 2 share all lengths and records, so no entry can tell a call
    that is given the wrong one of the two. */
 #define HEAT_BATTERY_OLDEST_VERSION 1
-#define HEAT_BATTERY_NEWEST_VERSION 2
+#define HEAT_BATTERY_NEWEST_VERSION 3
 
 /* A card: layers (u8, 1..64), units (u16), simultaneous (u8), budget (u16),
    then 19 f64: substep s, timestep h, initial inlet, estimated outlet, max,
@@ -49,6 +49,7 @@ extern "C" {
 #define HEAT_BATTERY_CARD_LENGTH 158
 
 #define HEAT_BATTERY_MOST_LAYERS 64
+#define HEAT_BATTERY_MOST_SERVICES 32
 
 /* A battery record: the bytes of its card, then an f64 for each zone, then five
    f64: total, pump and direct running hours, charged total, charged electric.
@@ -92,6 +93,8 @@ extern "C" {
 #define HEAT_BATTERY_LOWER_ABOVE_UPPER 2
 #define HEAT_BATTERY_MAX_TOO_LOW 3         /* max at most 20 */
 #define HEAT_BATTERY_NOTHING_TO_STORE 4    /* max below ref, or nearly equal */
+#define HEAT_BATTERY_BAD_SERVICES 61       /* of a card, after 4: more than 32 listed, numbers under 4 or
+                                              not rising, a class other than 1 to 3 */
 #define HEAT_BATTERY_BAD_CALL 10           /* or a bad record */
 #define HEAT_BATTERY_NO_ROOM 11
 #define HEAT_BATTERY_NO_RETURN 20          /* required above 1e-10, no return temperature */
@@ -176,6 +179,11 @@ struct heat_battery {
     /* the card's layers, or 10 */
     uint8_t count;
     double total, pump, direct, charged, electric;
+    /* read from version 3 on, never written; before, they may hold anything */
+    uint8_t services;
+    /* the first `services` of them; the places above may hold anything */
+    uint16_t numbers[HEAT_BATTERY_MOST_SERVICES];
+    uint8_t classes[HEAT_BATTERY_MOST_SERVICES];
 };
 
 /* What a call answers, as its line would show it. */

@@ -29,6 +29,9 @@ use std::mem::{align_of, offset_of, size_of};
 /// The most layers.
 pub const MOST_LAYERS: usize = 64;
 
+/// The most listed services.
+pub const MOST_SERVICES: usize = 32;
+
 /// `struct heat_battery_card`: a card of any numbers.
 #[repr(C)]
 #[derive(Clone, Copy, Debug, PartialEq)]
@@ -57,6 +60,14 @@ pub struct Battery {
     pub count: u8,
     /// The five totals in the order of a call line.
     pub totals: [f64; 5],
+    /// How many services are listed. This and the next two are read from version 3 on; before, they
+    /// may hold anything. No call writes them.
+    pub services: u8,
+    /// The numbers of the first `services` services, rising from 4; the places above may hold
+    /// anything.
+    pub numbers: [u16; MOST_SERVICES],
+    /// Their classes: 1 regular, 2 space, 3 direct.
+    pub classes: [u8; MOST_SERVICES],
 }
 
 /// `struct heat_battery_shown`: what a call answers, as its line would show it.
@@ -93,9 +104,11 @@ const _: () = {
     assert!(offset_of!(Card, layers) == 0 && offset_of!(Card, units) == 2);
     assert!(offset_of!(Card, simultaneous) == 4 && offset_of!(Card, budget) == 6);
     assert!(offset_of!(Card, numbers) == 8);
-    assert!(size_of::<Battery>() == 720 && align_of::<Battery>() == 8);
+    assert!(size_of::<Battery>() == 824 && align_of::<Battery>() == 8);
     assert!(offset_of!(Battery, card) == 0 && offset_of!(Battery, zones) == 160);
     assert!(offset_of!(Battery, count) == 672 && offset_of!(Battery, totals) == 680);
+    assert!(offset_of!(Battery, services) == 720 && offset_of!(Battery, numbers) == 722);
+    assert!(offset_of!(Battery, classes) == 786);
     assert!(size_of::<Shown>() == 32 && align_of::<Shown>() == 8);
     assert!(offset_of!(Shown, refusal) == 0 && offset_of!(Shown, mark) == 1);
     assert!(offset_of!(Shown, substeps) == 4 && offset_of!(Shown, energy) == 8);
