@@ -4,5 +4,6 @@ pub mod Within
 pub mod OneTest
 pub mod Versions
 pub mod Refusals
+pub mod Listed
 pub mod Figures
 pub mod RangeConstants

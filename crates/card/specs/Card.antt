@@ -6,7 +6,7 @@ use mathlib.Core.List.{List, [], _∷_}
 use mathlib.Core.Logic.{_⊎_}
 use lib.Dec.{leb}
 use lib.Ieee.{lt, le}
-use Rattle.refusals.specs.Refusals.{answered, cardOutOfRange, lowerAboveUpper, maxTooLow, nothingToStore}
+use Rattle.refusals.specs.Refusals.{answered, cardOutOfRange, lowerAboveUpper, maxTooLow, nothingToStore, badServices}
 use Rattle.floats.specs.Constants.{maxRelative, tolerance, ratedAmbient}
 use Rattle.floats.specs.Standins.{nearlyEqual}
 use Rattle.card.specs.Ranges.{isSubstep, isTimestep, isTemperature, isCapacity, isVelocity, isDiameter, isCoefficient, isFlow, isPower}
@@ -79,9 +79,9 @@ abbrev pub OneOf : List ℕ → ℕ → Type 0
 OneOf [] n = ⊥
 OneOf (x ∷ xs) n = (n ≡ x) ⊎ OneOf xs n
 
--- the refusals of a card
+-- the refusals of a card, with document 02's 61 for the services that it lists
 abbrev pub cardRefusals : List ℕ
-cardRefusals = cardOutOfRange ∷ lowerAboveUpper ∷ maxTooLow ∷ nothingToStore ∷ []
+cardRefusals = cardOutOfRange ∷ lowerAboveUpper ∷ maxTooLow ∷ nothingToStore ∷ badServices ∷ []
 
 abbrev pub CardRefusal : ℕ → Type 0
 CardRefusal r = OneOf cardRefusals r

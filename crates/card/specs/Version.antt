@@ -8,7 +8,7 @@ abbrev pub oldestVersion : ℕ
 oldestVersion = 1
 
 abbrev pub newestVersion : ℕ
-newestVersion = 2
+newestVersion = 3
 
 -- document 02, Three: 'From here on 40 means a first byte that is missing or no known version'
 unfoldable pub knownVersion : ℕ → Bool
@@ -17,3 +17,7 @@ knownVersion version = leb oldestVersion version && leb version newestVersion
 -- Three: 'From sheet version 2' a hydronic line shows its time
 unfoldable pub showsHydronicTime : ℕ → Bool
 showsHydronicTime version = leb 2 version
+
+-- Four: 'In version 3 the type field has two bytes', and the card lists services
+unfoldable pub listsServices : ℕ → Bool
+listsServices version = leb 3 version

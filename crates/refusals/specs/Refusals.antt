@@ -22,6 +22,10 @@ maxTooLow = 3
 abbrev pub nothingToStore : ℕ
 nothingToStore = 4
 
+-- document 02, Four: 'a count above 32, a list not rising, a number under 4 or an unknown class, after 4 and counted with 1 to 4 everywhere'
+abbrev pub badServices : ℕ
+badServices = 61
+
 -- ---- 'The caller'
 
 -- 'a call field not finite or out of range .., or a battery handed in whose card 1 to 4 refuse or whose zones or totals aren't finite'

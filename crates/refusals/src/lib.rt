@@ -1,4 +1,4 @@
-// Document 01's refusals by name. The C header, the Rust crate and the command have the same names.
+// Document 01's refusals by name, and document 02's. The C header, the Rust crate and the command have the same names.
 
 pub const ANSWERED: u8 = 0;
 
@@ -10,6 +10,8 @@ pub const LOWER_ABOVE_UPPER: u8 = 2;
 pub const MAX_TOO_LOW: u8 = 3;
 
 pub const NOTHING_TO_STORE: u8 = 4;
+
+pub const BAD_SERVICES: u8 = 61;
 
 // Of a call, without a line.
 pub const BAD_CALL: u8 = 10;
