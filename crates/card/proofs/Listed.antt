@@ -3,7 +3,7 @@ use mathlib.Core.Path.{_≡_, refl, sym, ap, _∙_, subst}
 use mathlib.Core.Bool.{Bool, true, false, cond, _&&_}
 use mathlib.Core.List.{List, [], _∷_}
 use mathlib.Core.Logic.{_⊎_, inl, inr, _↔_}
-use Prim.Native.Nat.{ℕ, zero, suc, _+_, _≤_, _<_}
+use Prim.Native.Nat.{ℕ, zero, suc, _+_, _-_, _≤_, _<_}
 use native.Mathlib.Decide.{ℕ-discrete, decLt}
 use native.Mathlib.Omega.{arith}
 use borrow.Author.Tests.{eq-eqb, ne-eqb, eqb-true, leb-true, le-leb}
@@ -32,10 +32,69 @@ listed-same service other k zero h = refl
 listed-same service other k (suc n) h =
     rw (h k (omega arith) (omega arith), listed-same service other (suc k) n (λ i l m. h i (omega arith) (omega arith)))
 
--- the next entry, where one is left
-pub listed-next : (service : ℕ → Service) (k n m : ℕ) → n ≡ suc m → listed service k n ≡ service k ∷ listed service (suc k) m
-unfolding listed
-listed-next service k n m e = rw e
+-- ---- a walk over the entries, from the k-th of n on
+
+module _ (service : ℕ → Service) (k n : ℕ) where
+  next : (m r : ℕ) → m ≡ suc r → listed service k m ≡ service k ∷ listed service (suc k) r
+  unfolding listed
+  next m r e = rw e
+
+  pub one-more : k < n → listed service k (n - k) ≡ service k ∷ listed service (k + 1) (n - (k + 1))
+  one-more h =
+      let e : suc k ≡ k + 1 = omega arith in
+      next (n - k) (n - (k + 1)) (omega arith) ∙ ap (λ (j : ℕ). service k ∷ listed service j (n - (k + 1))) e
+
+  none : (m : ℕ) → m ≡ 0 → listed service k m ≡ []
+  unfolding listed
+  none m e = rw e
+
+  pub none-left : n ≤ k → listed service k (n - k) ≡ []
+  none-left h = none (n - k) (omega arith)
+
+  -- whether they rise
+  pub rising-stops : (least : ℕ) → k < n → serviceOk least (service k) ≡ false → risingFrom least (listed service k (n - k)) ≡ false
+  unfolding risingFrom
+  rising-stops least h e = ap (risingFrom least) (one-more h) ∙ rw e
+
+  pub rising-further : (least : ℕ) → k < n → serviceOk least (service k) ≡ true
+      → risingFrom least (listed service k (n - k)) ≡ risingFrom (service k .number + 1) (listed service (k + 1) (n - (k + 1)))
+  unfolding risingFrom
+  rising-further least h e =
+      let q : suc (service k .number) ≡ service k .number + 1 = omega arith in
+      ap (risingFrom least) (one-more h) ∙ rw (e, q)
+
+  pub rising-done : (least : ℕ) → n ≤ k → risingFrom least (listed service k (n - k)) ≡ true
+  unfolding risingFrom
+  rising-done least h = ap (risingFrom least) (none-left h)
+
+  -- the class of a number
+  pub class-here : (number : ℕ) → k < n → service k .number ≡ number → listedClass (listed service k (n - k)) number ≡ service k .class
+  unfolding listedClass
+  class-here number h e = ap (λ (l : List Service). listedClass l number) (one-more h) ∙ rw (eq-eqb (service k .number) number e)
+
+  pub class-further : (number : ℕ) → k < n → (service k .number ≡ number → ⊥)
+      → listedClass (listed service k (n - k)) number ≡ listedClass (listed service (k + 1) (n - (k + 1))) number
+  unfolding listedClass
+  class-further number h ne = ap (λ (l : List Service). listedClass l number) (one-more h) ∙ rw (ne-eqb (service k .number) number ne)
+
+  pub class-none : (number : ℕ) → n ≤ k → listedClass (listed service k (n - k)) number ≡ 0
+  unfolding listedClass
+  class-none number h = ap (λ (l : List Service). listedClass l number) (none-left h)
+
+-- ---- the count first
+
+pub ok-few : (service : ℕ → Service) (n : ℕ) → n ≤ 32 → servicesOk (listed service 0 n) ≡ risingFrom 4 (listed service 0 n)
+unfolding servicesOk
+ok-few service n h = rw (le-leb (length (listed service 0 n)) mostServices (omega (arith, listed-length service 0 n)))
+
+pub ok-many : (service : ℕ → Service) (n : ℕ) → 32 < n → servicesOk (listed service 0 n) ≡ false
+unfolding servicesOk
+ok-many service n h =
+    rw (fails (leb (length (listed service 0 n)) mostServices) (λ t. omega (arith, leb→le (length (listed service 0 n)) mostServices t, listed-length service 0 n)))
+
+pub ok-none : servicesOk [] ≡ true
+unfolding servicesOk risingFrom
+ok-none = refl
 
 -- ---- a card's refusal with its services
 
@@ -220,6 +279,10 @@ module _ (service : ℕ → Service) where
 pub own-type : (services : List Service) (number : ℕ) → number ≤ 3 → classOf services number ≡ number
 unfolding classOf
 own-type services number h = rw (le-leb number lastType h)
+
+pub above-type : (services : List Service) (number : ℕ) → 3 < number → classOf services number ≡ listedClass services number
+unfolding classOf
+above-type services number h = rw (fails (leb number lastType) (λ t. omega (arith, leb→le number lastType t)))
 
 listed-class-small : (services : List Service) (least number : ℕ) → risingFrom least services ≡ true → listedClass services number ≤ 3
 unfolding risingFrom listedClass

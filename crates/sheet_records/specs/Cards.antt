@@ -1,13 +1,24 @@
--- Document 01, 'Line 0: the card, 158 bytes'. The version is the sheet's.
-use Prim.Native.Nat.{ℕ}
-use mathlib.Core.List.{List}
+-- Document 01, 'Line 0: the card, 158 bytes', and document 02, Four, the services after its fields. The version is the sheet's.
+use Prim.Native.Nat.{ℕ, _+_, _*_}
+use mathlib.Core.Bool.{cond}
+use mathlib.Core.List.{List, []}
 use lib.ListN.{getD}
 use Rattle.codec.specs.Bytes.{beAt, nthF64}
+use Rattle.card.specs.Version.{listsServices}
+use Rattle.card.specs.Services.{Service, listed, fullRefusal}
 use Rattle.card.specs.declared.Card.{Card}
 
--- the length of the card at the front of bs, by the version and the card's own bytes
+-- 'a list after the card fields: a count byte'
+abbrev pub countPlace : ℕ
+countPlace = 158
+
+-- 'then number (u16) and class (u8, ..)': the place of the i-th
+abbrev pub servicePlace : ℕ → ℕ
+servicePlace i = 159 + 3 * i
+
+-- the length of the card at the front of bs, by the version and the card's own bytes: 'line 0 has 159 + 3 × count bytes, whatever the count'
 unfoldable pub cardLength : ℕ → List ℕ → ℕ
-cardLength version bs = 158
+cardLength version bs = cond (listsServices version) (servicePlace (getD bs countPlace 0)) 158
 
 -- the place of the first f64
 abbrev pub cardNumbers : ℕ
@@ -41,3 +52,14 @@ cardAt version bs =
       start = nthF64 bs cardNumbers 17;
       power = nthF64 bs cardNumbers 18;
     }
+
+-- the i-th service, and all that the card lists; none before version 3
+unfoldable pub serviceAt : List ℕ → ℕ → Service
+serviceAt bs i = record { number = beAt bs (servicePlace i) 2; class = getD bs (servicePlace i + 2) 0 }
+
+unfoldable pub servicesAt : ℕ → List ℕ → List Service
+servicesAt version bs = cond (listsServices version) (listed (serviceAt bs) 0 (getD bs countPlace 0)) []
+
+-- the refusal of the card at the front of bs, in its length: 1 to 4, then 61; 0 for none
+unfoldable pub refusalAt : ℕ → List ℕ → ℕ
+refusalAt version bs = fullRefusal version (cardAt version bs) (servicesAt version bs)

@@ -1,18 +1,31 @@
 // A card's bytes.
 use card::Card;
 ghost use mathlib.Core.Path.{_≡_};
-ghost use Prim.Native.Nat.{_≤_};
+ghost use Prim.Native.Nat.{_≤_, _<_};
 ghost use lib.ListN.{length};
 ghost use Rattle.sheet_records.specs.Cards.{cardLength, cardAt};
 
 // Place of the first of the card's f64.
 const NUMBERS: usize = 6;
 
-// The length of the card at the front of the bytes.
+// Bytes of the card's fields.
+const FIELDS: usize = 158;
+
+// The places of the count of services and of the first service, and the bytes of each.
+pub const COUNT: usize = 158;
+
+pub const SERVICES: usize = 159;
+
+pub const SERVICE: usize = 3;
+
+// The length of the card at the front of the bytes: two bytes say it.
 pub fn card_length(version: u8, bytes: &[u8]) -> usize
-    ensures { λ r. ⌜ r ≡ cardLength version (now (bytes .entry)) ⌝ }
+    ensures { λ r. ⌜ (r ≡ cardLength version (now (bytes .entry))) × (r < 65536) ⌝ }
 {
-    158
+    if card::version::lists_services(version) {
+        return SERVICES + SERVICE * (codec::byte_or_zero(bytes, COUNT) as usize);
+    }
+    FIELDS
 }
 
 // That card.

@@ -1,5 +1,6 @@
 // A battery's zones and totals as bytes, and the record that a caller keeps: its card's bytes, then these.
 pub mod cards;
+pub mod services;
 
 use battery::Battery;
 use card::Card;

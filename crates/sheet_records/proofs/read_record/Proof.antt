@@ -13,11 +13,11 @@ unfolding recordLength
 read-state-requires c κs =
     let r = c .before .before in
     let e = ap (stateLength (r .args .version)) (r .pre .0) in
-    (r .pre .1, omega (arith, r .pre .2, c .card-length .ensures, e))
+    (r .pre .1, omega (arith, r .pre .2, c .card-length .ensures .0, e))
 
 returns : tie.Need-returns
 unfolding recordOf
-returns c = c .read-state .ensures ∙ rw (c .before .card-length .ensures, c .before .before .before .pre .0)
+returns c = c .read-state .ensures ∙ rw (c .before .card-length .ensures .0, c .before .before .before .pre .0)
 
 pub read-record-spec : {M : Type 1} → statement M
 read-record-spec = tie.close (tie.spec card-length-requires read-state-requires returns)

@@ -1,5 +1,4 @@
 use native.Mathlib.Omega.{arith}
-use Rattle.sheet_records.proofs.CardLaws.{card-below}
 use Rattle.sheet_records.specs.Records.{stateLength, recordLength}
 use borrow.Author.Needs.{needs}
 use Rattle.sheet_records.proofs.record_length.Statement.{statement}
@@ -15,11 +14,11 @@ add-result : tie.Need-add-result
 unfolding stateLength
 add-result c =
     let r = c .before .before .before in
-    omega (arith, card-below (r .args .version) (r .args .bytes .now), c .before .card-length .ensures, c .state-length .ensures, r .good)
+    omega (arith, c .before .card-length .ensures .1, c .state-length .ensures, r .good)
 
 returns : tie.Need-returns
 unfolding recordLength
-returns c = rw (← (c .before .card-length .ensures), ← (c .before .before .before .pre), ← (c .state-length .ensures))
+returns c = rw (← (c .before .card-length .ensures .0), ← (c .before .before .before .pre), ← (c .state-length .ensures))
 
 pub record-length-spec : {M : Type 1} → statement M
 record-length-spec =

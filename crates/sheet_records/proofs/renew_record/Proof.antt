@@ -24,7 +24,7 @@ unfolding recordBytes
 returns c =
     let r = c .before .before .before .before .before .before .before in
     let a = r .args in
-    c .before .before .put-state .ensures .1 ∙ ap (λ (n : ℕ). sets (a .bytes .now) n (stateBytes (a .version) (a .battery))) (c .before .before .before .before .card-length .ensures)
+    c .before .before .put-state .ensures .1 ∙ ap (λ (n : ℕ). sets (a .bytes .now) n (stateBytes (a .version) (a .battery))) (c .before .before .before .before .card-length .ensures .0)
     ∙ put-tail (a .bytes .now) (stateBytes (a .version) (a .battery)) (cardLength (a .version) (a .bytes .now)) (omega (arith, r .pre .1, length-stateBytes (a .version) (a .battery)))
 
 pub renew-record-spec : {M : Type 1} → statement M
