@@ -7,7 +7,8 @@ use native.Mathlib.Omega.{arith}
 use borrow.Author.Tests.{eqb-true}
 use lib.Dec.{eqb}
 use lib.ListN.{length, getD}
-use Rattle.sheet_calls.specs.Calls.{callLength, bareCall, callBy, kindOf, callOf}
+use Rattle.card.specs.Services.{Service}
+use Rattle.sheet_calls.specs.Calls.{callLength, bareCall, demandClass, callBy, kindOf, callOf}
 use Rattle.sheet_calls.specs.declared.ReadCall.{ReadCall}
 use Rattle.sheet_calls.specs.declared.ReadCall.the-variants.{Bad}
 
@@ -21,14 +22,20 @@ unfolding kindOf
 kind-fits version bs = enough version (getD bs 0 0) (length bs) _ refl
 
 -- kind 0 is no call
-no-kind : (version kind : ℕ) (bs : List ℕ) (fits : Bool) → callBy version (cond fits kind 0) bs ≡ cond fits (callBy version kind bs) Bad
-unfolding callBy bareCall
-no-kind version kind bs true = refl
-no-kind version kind bs false = refl
+byKind : ℕ → List Service → List ℕ → ℕ → ReadCall
+byKind version services bs kind = callBy version kind (demandClass version services kind bs) bs
 
-by-kind : (version : ℕ) (bs : List ℕ) → callBy version (kindOf version bs) bs ≡ callOf version bs
-unfolding kindOf callOf
-by-kind version bs = no-kind version (getD bs 0 0) bs (eqb (length bs) (callLength version (getD bs 0 0)))
+no-kind : (version kind : ℕ) (services : List Service) (bs : List ℕ) (fits : Bool) → byKind version services bs (cond fits kind 0) ≡ cond fits (byKind version services bs kind) Bad
+unfolding byKind callBy bareCall
+no-kind version kind services bs true = refl
+no-kind version kind services bs false = refl
 
-pub read-by-kind : (version : ℕ) (bs : List ℕ) (kind : ℕ) (read : ReadCall) → kind ≡ kindOf version bs → read ≡ callBy version kind bs → read ≡ callOf version bs
-read-by-kind version bs kind read e f = f ∙ ap (λ (k : ℕ). callBy version k bs) e ∙ by-kind version bs
+by-kind : (version : ℕ) (services : List Service) (bs : List ℕ) → byKind version services bs (kindOf version bs) ≡ callOf version services bs
+unfolding byKind kindOf callOf
+by-kind version services bs = no-kind version (getD bs 0 0) services bs (eqb (length bs) (callLength version (getD bs 0 0)))
+
+pub read-by-kind : (version : ℕ) (services : List Service) (bs : List ℕ) (kind class : ℕ) (read : ReadCall) → kind ≡ kindOf version bs → class ≡ demandClass version services kind bs
+    → read ≡ callBy version kind class bs → read ≡ callOf version services bs
+unfolding byKind
+read-by-kind version services bs kind class read e c f =
+    f ∙ ap (λ (k : ℕ). callBy version kind k bs) c ∙ ap (byKind version services bs) e ∙ by-kind version services bs

@@ -1,15 +1,20 @@
 -- Where a demand's fields stand, and how long a call is, whatever the version. No other law opens commitPlace or callLength but examples by computation.
-use mathlib.Core.Path.{_≡_, refl}
+use mathlib.Core.Path.{_≡_, refl, ap}
 use mathlib.Core.Bool.{Bool, true, false, cond}
 use Prim.Native.Nat.{ℕ, _+_, _≤_, _<_}
 use native.Mathlib.Omega.{arith}
 use lib.Dec.{eqb}
+use Rattle.card.specs.Version.{listsServices}
 use Rattle.sheet_calls.specs.Calls.{fieldsPlace, commitPlace, returnPlace, callLength}
 
 -- the flags follow the type, within a byte or two
+place-by : (t : Bool) → (1 < cond t 3 2) × (cond t 3 2 ≤ 3)
+place-by true = omega arith
+place-by false = omega arith
+
 pub commit-place : (version : ℕ) → (fieldsPlace < commitPlace version) × (commitPlace version ≤ 3)
 unfolding commitPlace
-commit-place version = omega arith
+commit-place version = place-by (listsServices version)
 
 -- the bytes of each kind with fields
 pub demand-length : (version : ℕ) → callLength version 1 ≡ returnPlace version + 9
@@ -18,6 +23,14 @@ demand-length version = refl
 
 pub demand-fits : (version n : ℕ) → callLength version 1 ≤ n → (fieldsPlace < commitPlace version) × (returnPlace version + 9 ≤ n)
 demand-fits version n h = let l = demand-length version in (commit-place version .0, omega arith)
+
+-- a demand's type is there
+pub demand-long : (version kind n : ℕ) → kind ≡ 1 → callLength version kind ≤ n → 29 ≤ n
+demand-long version kind n e h =
+    let p = commit-place version .0 in
+    let l = demand-length version in
+    let k = ap (callLength version) e in
+    omega arith
 
 pub electric-length : (version : ℕ) → callLength version 2 ≡ 17
 unfolding callLength

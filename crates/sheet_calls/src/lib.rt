@@ -6,7 +6,8 @@ use battery::Hydronic;
 ghost use mathlib.Core.Path.{_≡_};
 ghost use Prim.Native.Nat.{_+_, _≤_};
 ghost use lib.ListN.{length};
-ghost use Rattle.sheet_calls.specs.Calls.{commitPlace, callLength, markOk, givenAt, demandAt, demandCall, hydronicAt, chargeDemandCall, bareCall, kindOf, callBy};
+ghost use Rattle.sheet_calls.specs.Calls.{commitPlace, callLength, markOk, givenAt, demandAt, demandCall, hydronicAt, chargeDemandCall, bareCall, kindOf, demandClass, callBy};
+ghost use Rattle.sheet_records.specs.Cards.{cardLength, servicesAt};
 
 // What the bytes of a call are: bad ones are refused with 10 by A's entry, with 42 by the auditor.
 pub enum ReadCall {
@@ -28,6 +29,9 @@ const RETURN: usize = 18;
 fn commit_place(version: u8) -> usize
     ensures { λ r. ⌜ r ≡ commitPlace version ⌝ }
 {
+    if card::version::lists_services(version) {
+        return 3;
+    }
     2
 }
 
@@ -77,14 +81,14 @@ fn read_given(bytes: &[u8], at: usize) -> Given
     }
 }
 
-fn read_demand(version: u8, bytes: &[u8]) -> Demand
+fn read_demand(version: u8, class: u8, bytes: &[u8]) -> Demand
     requires { ⌜ callLength version 1 ≤ length (now bytes) ⌝ }
-    ensures { λ r. ⌜ r ≡ demandAt version (now (bytes .entry)) ⌝ }
+    ensures { λ r. ⌜ r ≡ demandAt version class (now (bytes .entry)) ⌝ }
 {
     let commit = commit_place(version);
     let feed = read_given(bytes, commit + RETURN);
     Demand {
-        service: bytes[FIELDS],
+        service: class,
         commit: bytes[commit] == 1,
         control: bytes[commit + CONTROL] == 1,
         required: codec::nth_f64(bytes, commit + NUMBERS, 0),
@@ -93,9 +97,9 @@ fn read_demand(version: u8, bytes: &[u8]) -> Demand
     }
 }
 
-fn demand_call(version: u8, bytes: &[u8]) -> ReadCall
+fn demand_call(version: u8, class: u8, bytes: &[u8]) -> ReadCall
     requires { ⌜ callLength version 1 ≤ length (now bytes) ⌝ }
-    ensures { λ r. ⌜ r ≡ demandCall version (now (bytes .entry)) ⌝ }
+    ensures { λ r. ⌜ r ≡ demandCall version class (now (bytes .entry)) ⌝ }
 {
     let commit = commit_place(version);
     if logic::all_three(
@@ -103,7 +107,7 @@ fn demand_call(version: u8, bytes: &[u8]) -> ReadCall
         bytes[commit + CONTROL] <= 1,
         mark_ok(bytes, commit + RETURN),
     ) {
-        return ReadCall::Good(Call::DemandEnergy(read_demand(version, bytes)));
+        return ReadCall::Good(Call::DemandEnergy(read_demand(version, class, bytes)));
     }
     ReadCall::Bad
 }
@@ -166,13 +170,28 @@ pub fn kind_of(version: u8, bytes: &[u8]) -> u8
     }
 }
 
-// The call of a kind, in no fewer bytes than it has.
-pub fn call_by(version: u8, kind: u8, bytes: &[u8]) -> ReadCall
-    requires { ⌜ callLength version kind ≤ length (now bytes) ⌝ }
-    ensures { λ r. ⌜ r ≡ callBy version kind (now (bytes .entry)) ⌝ }
+// The class of a demand's type, by the services of the card at the front of other bytes; 0 for another kind.
+pub fn demand_class(version: u8, card: &[u8], kind: u8, bytes: &[u8]) -> u8
+    requires { ⌜ (cardLength version (now card) ≤ length (now card)) × (callLength version kind ≤ length (now bytes)) ⌝ }
+    ensures { λ r. ⌜ r ≡ demandClass version (servicesAt version (now (card .entry))) kind (now (bytes .entry)) ⌝ }
 {
     if kind == 1 {
-        return demand_call(version, bytes);
+        if card::version::lists_services(version) {
+            let number = codec::read_u16(bytes, FIELDS);
+            return sheet_records::services::class_of(version, card, number);
+        }
+        return bytes[FIELDS];
+    }
+    0
+}
+
+// The call of a kind, with a demand's class, in no fewer bytes than it has.
+pub fn call_by(version: u8, kind: u8, class: u8, bytes: &[u8]) -> ReadCall
+    requires { ⌜ callLength version kind ≤ length (now bytes) ⌝ }
+    ensures { λ r. ⌜ r ≡ callBy version kind class (now (bytes .entry)) ⌝ }
+{
+    if kind == 1 {
+        return demand_call(version, class, bytes);
     }
     if kind == 2 {
         let power = codec::nth_f64(bytes, FIELDS, 0);
