@@ -7,8 +7,8 @@ use lib.ListN.{length, take, drop, getD, List·getD-append, take-append-drop}
 use lib.Seq.{length-take-le}
 use Rattle.codec.specs.Bytes.{be, beAt, nthF64, f64Of}
 use Rattle.codec.proofs.Places.{in-front}
-use Rattle.sheet_records.specs.Cards.{cardLength, cardAt}
-use Rattle.sheet_records.proofs.CardLaws.{card-least, card-length-take}
+use Rattle.sheet_records.specs.Cards.{cardLength, cardAt, servicesAt, refusalAt}
+use Rattle.sheet_records.proofs.CardLaws.{card-least, card-length-take, services-front, services-take}
 
 -- a card is read from its own bytes, whatever follows them
 pub card-at-front : (version : ℕ) (card r : List ℕ) → cardLength version card ≤ length card → cardAt version (card ++ r) ≡ cardAt version card
@@ -51,3 +51,12 @@ card-at-take version bs h =
     let l : length (take n bs) ≡ n = length-take-le n bs h in
     let k : cardLength version (take n bs) ≡ n = card-length-take version bs h in
     sym (card-at-front version (take n bs) (drop n bs) (omega arith)) ∙ ap (cardAt version) (take-append-drop n bs)
+
+-- so its refusal, its services' too, hangs on them alone
+pub refusal-at-front : (version : ℕ) (card r : List ℕ) → cardLength version card ≤ length card → refusalAt version (card ++ r) ≡ refusalAt version card
+unfolding refusalAt
+refusal-at-front version card r h = rw (card-at-front version card r h, services-front version card r h)
+
+pub refusal-at-take : (version : ℕ) (bs : List ℕ) → cardLength version bs ≤ length bs → refusalAt version (take (cardLength version bs) bs) ≡ refusalAt version bs
+unfolding refusalAt
+refusal-at-take version bs h = rw (card-at-take version bs h, services-take version bs h)

@@ -10,6 +10,7 @@ use Rattle.floats.specs.Constants as Constants
 use Rattle.codec.specs.Bytes.{beAt, beBytes, f64Bytes}
 use Rattle.codec.proofs.Laws.{length-beBytes}
 use Rattle.codec.proofs.Places.{bytes-here, number-here, byte-here}
+use Rattle.card.specs.Services.{Service}
 use Rattle.card.specs.declared.Card.{Card}
 use Rattle.battery.specs.declared.Battery.{Battery}
 use Rattle.battery.specs.declared.Answer.{Answer}
@@ -17,7 +18,6 @@ use Rattle.battery.specs.declared.Call.the-variants.{CloseTimestep}
 use Rattle.battery.specs.Answer.{plainAnswer}
 use Rattle.sheet_calls.specs.declared.ReadCall.the-variants.{Good}
 use Rattle.sheet_records.specs.Cards.{cardLength}
-use Rattle.sheet_records.proofs.CardLaws.{card-below}
 use Rattle.sheet_records.specs.Records.{stateLength, zonesBytes, totalsBytes, stateBytes}
 use Rattle.sheet_calls.specs.Calls.{callLength, bareCall, callBy, callOf}
 use Rattle.sheet_lines.specs.Answers.{headLength, headBytes, answerLength, answerBytes}
@@ -82,9 +82,6 @@ module _ (version : ℕ) (card r : List ℕ) where
   pub opening-version : version < 256 → getD (openingBytes version card ++ r) 0 0 ≡ version
   opening-version h = byte-here (openingBytes version card ++ r) [] _ 0 version head refl h
 
-  pub opening-says : beAt (openingBytes version card ++ r) 1 2 ≡ cardLength version card
-  opening-says = number-here (openingBytes version card ++ r) (beBytes 1 version) _ 1 2 (cardLength version card) head (length-beBytes 1 version) (card-below version card)
-
   pub opening-card : length card ≡ cardLength version card → take (cardLength version card) (drop 3 (openingBytes version card ++ r)) ≡ card
   opening-card h =
       bytes-here (openingBytes version card ++ r) (beBytes 1 version ++ beBytes 2 (cardLength version card)) card r 3 (cardLength version card) head-card
@@ -109,9 +106,9 @@ unfolding lineBytes lineLength plainAnswer answerLength headLength stateLength a
 closing-line version b c = rw (c .layers, c .zone, c .total, c .pump, c .direct, c .charged, c .electric)
 
 -- and its call is the closing of a timestep
-pub closing-call : (version : ℕ) → callOf version (5 ∷ []) ≡ Good CloseTimestep
+pub closing-call : (version : ℕ) (services : List Service) → callOf version services (5 ∷ []) ≡ Good CloseTimestep
 unfolding callOf callLength callBy bareCall
-closing-call version = refl
+closing-call version services = refl
 
 -- what a call's line says of its length fits two bytes
 pub line-fits : (version : ℕ) (card : Card) (n : ℕ) → card .layers ≤ 64 → n ≤ 73 → lineLength version card n < 65536

@@ -1,5 +1,4 @@
 use native.Mathlib.Omega.{arith}
-use Rattle.sheet_records.proofs.CardLaws.{card-below}
 use Rattle.sheet_lines.specs.Lines.{openingLength}
 use borrow.Author.Needs.{needs}
 use Rattle.sheet_lines.proofs.lines.opening_length.Statement.{statement}
@@ -10,12 +9,11 @@ card-length-requires c κs = search needs
 
 add-result : tie.Need-add-result
 add-result c =
-    let a = c .before .before .args in
-    omega (arith, c .card-length .ensures, card-below (a .version) (a .bytes .now))
+    omega (arith, c .card-length .ensures .1)
 
 returns : tie.Need-returns
 unfolding openingLength
-returns c = rw (← (c .card-length .ensures))
+returns c = rw (← (c .card-length .ensures .0))
 
 pub opening-length-spec : {M : Type 1} → statement M
 opening-length-spec = tie.close (tie.spec card-length-requires add-result returns)

@@ -31,7 +31,7 @@ unfolding openingBytes
 returns c =
     let a = c .before .before .before .before .before .before .before .before .before .before .before .before .before .before .before .args in
     let w1 = then-number 1 (a .version) (nothing-written (a .sheet .now) 0) (c .before .before .before .before .before .before .before .before .before .before .put-u8 .ensures) in
-    let w2 = then-equal 2 (cardLength (a .version) (a .card .now)) (c .before .before .before .before .before .before .before .before .before .before .before .before .card-length .ensures) w1 (c .before .before .before .before .before .before .put-be .ensures) in
+    let w2 = then-equal 2 (cardLength (a .version) (a .card .now)) (c .before .before .before .before .before .before .before .before .before .before .before .before .card-length .ensures .0) w1 (c .before .before .before .before .before .before .put-be .ensures) in
     let w3 = then-sized (a .card .now) refl w2 (c .before .before .put-bytes .ensures) in
     written-front w3 (omega (arith, length-openingBytes (a .version) (a .card .now) (c .before .before .before .before .before .before .before .before .before .before .before .before .before .before .before .pre .0), c .before .before .before .before .before .before .before .before .before .before .before .before .before .before .before .pre .1))
 
