@@ -8,9 +8,8 @@ use lib.ListN.{length, take}
 use lib.Dec.{leb, eqb}
 use Rattle.logic.proofs.Branch.{three-tests}
 use Rattle.codec.specs.Bytes.{over}
-use Rattle.card.specs.Card.{cardRefusal}
 use Rattle.battery.specs.declared.Answer.{Answer}
-use Rattle.sheet_records.specs.Cards.{cardLength, cardAt}
+use Rattle.sheet_records.specs.Cards.{cardLength, refusalAt}
 use Rattle.sheet_records.specs.Records.{recordLength, recordBytes}
 use Rattle.sheet_lines.specs.Lines.{lineSize, lineBytes}
 use Rattle.entries.specs.Entry.{After, unchanged, renewed, entered, lineAfter, recordLaid}
@@ -57,7 +56,7 @@ module _ (version : ℕ) (rec call free : List ℕ) (a : Answer) where
 
 pub record LaidRecord (version : ℕ) (rec : List ℕ) : Type 0 where
   pub card-there : cardLength version rec ≤ length rec
-  pub card-accepted : cardRefusal version (cardAt version rec) ≡ 0
+  pub card-accepted : refusalAt version rec ≡ 0
   pub long : length rec ≡ recordLength version rec
 
 module _ (version : ℕ) (rec : List ℕ) where
@@ -65,7 +64,7 @@ module _ (version : ℕ) (rec : List ℕ) where
   unfolding recordLaid
   record-laid h =
       let w =
-      three-tests (leb (cardLength version rec) (length rec)) (eqb (cardRefusal version (cardAt version rec)) 0) (eqb (length rec) (recordLength version rec)) h in
+      three-tests (leb (cardLength version rec) (length rec)) (eqb (refusalAt version rec) 0) (eqb (length rec) (recordLength version rec)) h in
       record { card-there = leb-true _ _ (w .0); card-accepted = eqb-true _ _ (w .1); long = eqb-true _ _ (w .2) }
 
   pub laid-record : LaidRecord version rec → recordLaid version rec ≡ true

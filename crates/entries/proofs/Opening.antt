@@ -5,9 +5,8 @@ use mathlib.Core.List.{List}
 use Prim.Native.Nat.{ℕ, _≤_, _<_}
 use borrow.Author.Tests.{eq-eqb, ne-eqb, le-leb, lt-leb}
 use lib.ListN.{length}
-use Rattle.card.specs.Card.{cardRefusal}
 use Rattle.card.specs.Version.{knownVersion}
-use Rattle.sheet_records.specs.Cards.{cardLength, cardAt}
+use Rattle.sheet_records.specs.Cards.{cardLength, refusalAt}
 use Rattle.sheet_records.specs.Records.{recordLength}
 use Rattle.sheet_lines.specs.Lines.{openingLength}
 use Rattle.entries.specs.Entry.{After, unchanged, openedWith, openKnown, ofVersion, openOf}
@@ -18,26 +17,26 @@ module _ (version : ℕ) (card rec free : List ℕ) where
   open-length h = rw (ne-eqb (length card) (cardLength version card) h)
 
   module _ (l : length card ≡ cardLength version card) where
-    pub open-card : (cardRefusal version (cardAt version card) ≡ 0 → ⊥) → openKnown version card rec free ≡ unchanged (cardRefusal version (cardAt version card)) rec free
+    pub open-card : (refusalAt version card ≡ 0 → ⊥) → openKnown version card rec free ≡ unchanged (refusalAt version card) rec free
     unfolding openKnown
-    open-card h = rw (eq-eqb (length card) (cardLength version card) l, ne-eqb (cardRefusal version (cardAt version card)) 0 h)
+    open-card h = rw (eq-eqb (length card) (cardLength version card) l, ne-eqb (refusalAt version card) 0 h)
 
-    module _ (a : cardRefusal version (cardAt version card) ≡ 0) where
+    module _ (a : refusalAt version card ≡ 0) where
       pub open-record : (length rec ≡ recordLength version card → ⊥) → openKnown version card rec free ≡ unchanged 10 rec free
       unfolding openKnown
       open-record h =
-          rw (eq-eqb (length card) (cardLength version card) l, eq-eqb (cardRefusal version (cardAt version card)) 0 a, ne-eqb (length rec) (recordLength version card) h)
+          rw (eq-eqb (length card) (cardLength version card) l, eq-eqb (refusalAt version card) 0 a, ne-eqb (length rec) (recordLength version card) h)
 
       module _ (k : length rec ≡ recordLength version card) where
         pub open-room : length free < openingLength version card → openKnown version card rec free ≡ unchanged 11 rec free
         unfolding openKnown
         open-room h =
-            rw (eq-eqb (length card) (cardLength version card) l, eq-eqb (cardRefusal version (cardAt version card)) 0 a, eq-eqb (length rec) (recordLength version card) k, lt-leb (openingLength version card) (length free) h)
+            rw (eq-eqb (length card) (cardLength version card) l, eq-eqb (refusalAt version card) 0 a, eq-eqb (length rec) (recordLength version card) k, lt-leb (openingLength version card) (length free) h)
 
         pub opened : openingLength version card ≤ length free → openKnown version card rec free ≡ openedWith version card free
         unfolding openKnown
         opened h =
-            rw (eq-eqb (length card) (cardLength version card) l, eq-eqb (cardRefusal version (cardAt version card)) 0 a, eq-eqb (length rec) (recordLength version card) k, le-leb (openingLength version card) (length free) h)
+            rw (eq-eqb (length card) (cardLength version card) l, eq-eqb (refusalAt version card) 0 a, eq-eqb (length rec) (recordLength version card) k, le-leb (openingLength version card) (length free) h)
 
 -- ---- the version, before all
 

@@ -7,11 +7,10 @@ use lib.Dec.{leb, eqb}
 use lib.ListN.{length, take}
 use Rattle.refusals.specs.Refusals.{cardOutOfRange, badCall, noRoom, noVersion}
 use Rattle.codec.specs.Bytes.{over}
-use Rattle.card.specs.Card.{cardRefusal}
 use Rattle.card.specs.Version.{knownVersion}
 use Rattle.battery.specs.Battery.{fresh}
 use Rattle.battery.specs.declared.Answer.{Answer}
-use Rattle.sheet_records.specs.Cards.{cardLength, cardAt}
+use Rattle.sheet_records.specs.Cards.{cardLength, cardAt, refusalAt}
 use Rattle.sheet_records.specs.Records.{recordLength, recordBytes}
 use Rattle.sheet_lines.specs.Lines.{lineSize, lineBytes, openingLength, openingBytes}
 use Rattle.entries.specs.declared.RecordCard.{RecordCard}
@@ -38,19 +37,18 @@ abbrev pub openedWith : ℕ → List ℕ → List ℕ → After
 openedWith version card free =
     record { code = 0; record' = recordBytes version card (fresh (cardAt version card)); sheet = over (openingBytes version card) free }
 
--- opening a sheet of a known version: 'There a card is its bytes as in line 0 (another length is 1)', 1 to 4, then 10 for another length of the record,
--- then 11: 'fewer free sheet bytes than the line needs (for line 0 the version byte too, after 1 to 4)'
+-- opening a sheet of a known version: 'There a card is its bytes as in line 0 (another length is 1)', 1 to 4 and 61, then 10 for another length of the
+-- record, then 11: 'fewer free sheet bytes than the line needs (for line 0 the version byte too, after 1 to 4)'
 unfoldable pub openKnown : ℕ → List ℕ → List ℕ → List ℕ → After
 openKnown version card rec free =
-    let c = cardAt version card in
     cond (eqb (length card) (cardLength version card))
-    (cond (eqb (cardRefusal version c) 0)
+    (cond (eqb (refusalAt version card) 0)
     (cond (eqb (length rec) (recordLength version card))
     (cond (leb (openingLength version card) (length free))
     (openedWith version card free)
     (unchanged noRoom rec free))
     (unchanged badCall rec free))
-    (unchanged (cardRefusal version c) rec free))
+    (unchanged (refusalAt version card) rec free))
     (unchanged cardOutOfRange rec free)
 
 -- document 02, Three: 'All entries for cards and calls take the version as one more number; an unknown one is 40 there, before all'
@@ -81,7 +79,7 @@ lineAfter version rec call free answer =
 unfoldable pub recordLaid : ℕ → List ℕ → Bool
 recordLaid version rec =
     cond (leb (cardLength version rec) (length rec))
-    (cond (eqb (cardRefusal version (cardAt version rec)) 0)
+    (cond (eqb (refusalAt version rec) 0)
     (eqb (length rec) (recordLength version rec))
     false)
     false

@@ -1,11 +1,12 @@
 -- Document 01, module 9: 'One more entry takes the caller's own battery record and advances it by a call.' There is no sheet, so no 11.
 use Prim.Native.Nat.{ℕ, zero, suc}
 use mathlib.Core.Bool.{cond}
-use mathlib.Core.List.{List}
+use mathlib.Core.List.{List, []}
 use lib.ListN.{getD, set}
 use lib.Ieee.{Float, nan}
 use Rattle.refusals.specs.Refusals.{badCall, noVersion}
-use Rattle.card.specs.Version.{knownVersion}
+use Rattle.card.specs.Version.{knownVersion, listsServices}
+use Rattle.card.specs.Services.{Service, listed, servicesOk}
 use Rattle.battery.specs.Answer.{replyOf, refusedReply, refusedWith}
 use Rattle.battery.specs.Ledger.{renewedBattery}
 use Rattle.battery.specs.declared.Battery.{Battery}
@@ -18,6 +19,7 @@ use Rattle.sheet_calls.specs.declared.ReadCall.{ReadCall}
 use Rattle.sheet_calls.specs.declared.ReadCall.the-variants.{Good, Bad}
 use Rattle.entries.specs.declared.own_record.Shown.{Shown}
 use Rattle.entries.specs.declared.own_record.Renewed.{Renewed}
+use Rattle.entries.specs.declared.own_record.OwnRecord.{OwnRecord}
 
 -- a battery after a call, and what the call answers
 pub record Advanced : Type 0 where
@@ -54,9 +56,38 @@ unfoldable pub advanceRead : ℕ → Battery → ReadCall → Answer
 advanceRead version battery Bad = refusedWith badCall battery
 advanceRead version battery (Good call) = advanceOf version battery call
 
--- document 02, Three: 'an unknown one is 40 there, before all'
-unfoldable pub answerOwn : ℕ → Battery → List ℕ → Answer
-answerOwn version battery call = cond (knownVersion version) (advanceRead version battery (callOf version call)) (refusedWith noVersion battery)
+-- document 02, Four: '61 .. counted with 1 to 4 everywhere', so 10 for services that are refused
+unfoldable pub advanceListed : ℕ → List Service → Battery → List ℕ → Answer
+advanceListed version services battery call = cond (servicesOk services) (advanceRead version battery (callOf version services call)) (refusedWith badCall battery)
 
-unfoldable pub advancedOf : ℕ → Battery → List ℕ → Advanced
-advancedOf version battery call = advancedBy (answerOwn version battery call)
+-- document 02, Three: 'an unknown one is 40 there, before all'
+unfoldable pub answerOwn : ℕ → List Service → Battery → List ℕ → Answer
+answerOwn version services battery call = cond (knownVersion version) (advanceListed version services battery call) (refusedWith noVersion battery)
+
+unfoldable pub advancedOf : ℕ → List Service → Battery → List ℕ → Advanced
+advancedOf version services battery call = advancedBy (answerOwn version services battery call)
+
+-- ---- the struct that the caller keeps
+
+-- its services, from version 3 on
+unfoldable pub ownService : List ℕ → List ℕ → ℕ → Service
+ownService numbers classes i = record { number = getD numbers i 0; class = getD classes i 0 }
+
+unfoldable pub ownServices : ℕ → ℕ → List ℕ → List ℕ → List Service
+ownServices version count numbers classes = cond (listsServices version) (listed (ownService numbers classes) 0 count) []
+
+abbrev pub servicesOf : ℕ → OwnRecord → List Service
+servicesOf version own = ownServices version (own .services) (own .numbers) (own .classes)
+
+-- the struct afterwards, and what the call answers: its services stay
+pub record OwnAdvanced : Type 0 where
+  pub own : OwnRecord
+  pub shown : Shown
+
+abbrev pub withBattery : OwnRecord → Battery → OwnRecord
+withBattery own battery = record { battery = battery; services = own .services; numbers = own .numbers; classes = own .classes }
+
+unfoldable pub ownAdvanced : ℕ → OwnRecord → List ℕ → OwnAdvanced
+ownAdvanced version own call =
+    let a = advancedOf version (servicesOf version own) (own .battery) call in
+    record { own = withBattery own (a .battery); shown = a .shown }

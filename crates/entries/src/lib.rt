@@ -28,7 +28,7 @@ pub fn open(version: u8, card: &[u8], record: &mut [u8], sheet: &mut [u8]) -> u8
         return refusals::CARD_OUT_OF_RANGE;
     }
     let c = sheet_records::cards::read_card(version, card);
-    let refusal = card::verdict::refusal(version, c);
+    let refusal = sheet_records::services::refusal(version, c, card);
     if refusal != 0 {
         return refusal;
     }
@@ -50,7 +50,7 @@ pub fn record_card(version: u8, record: &[u8]) -> RecordCard
 {
     if sheet_records::cards::card_length(version, record) <= record.len() {
         let c = sheet_records::cards::read_card(version, record);
-        if card::verdict::refusal(version, c) == refusals::ANSWERED {
+        if sheet_records::services::refusal(version, c, record) == refusals::ANSWERED {
             if record.len() == sheet_records::record_length(version, c, record) {
                 return RecordCard::Good(c);
             }

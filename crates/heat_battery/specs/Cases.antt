@@ -10,11 +10,13 @@ use Rattle.floats.specs.Constants.{maxRelative, tolerance, ratedAmbient}
 use Rattle.floats.specs.Standins.{finite64, nearlyEqual}
 use Rattle.codec.specs.Bytes.{nthF64}
 use Rattle.card.specs.Card.{cardInRange, cardRefusal}
+use Rattle.card.specs.Version.{listsServices}
+use Rattle.card.specs.Services.{Service, fullRefusal, BadServices}
 use Rattle.card.specs.declared.Card.{Card}
 use Rattle.battery.specs.Call.{callInRange}
 use Rattle.battery.specs.declared.Call.{Call}
 use Rattle.battery.specs.declared.Battery.{Battery}
-use Rattle.sheet_records.specs.Cards.{cardLength, cardAt}
+use Rattle.sheet_records.specs.Cards.{countPlace, cardLength, cardAt, serviceAt, servicesAt, refusalAt}
 use Rattle.sheet_records.specs.Records.{recordLength, recordOf}
 use Rattle.sheet_calls.specs.Calls.{callOf}
 use Rattle.sheet_lines.specs.Lines.{openingLength, lineSize}
@@ -52,10 +54,17 @@ pub record OpenCase4 (version : ℕ) (card : List ℕ) : Type 0 where
       (lt (cardAt version card .max) (cardAt version card .reference) ≡ true)
       ⊎ (nearlyEqual (cardAt version card .max) (cardAt version card .reference) tolerance maxRelative ≡ true)
 
--- 1 to 4 don't apply
+-- document 02, Four: '61, a count above 32, a list not rising, a number under 4 or an unknown class, after 4'
+pub record OpenCase61 (version : ℕ) (card : List ℕ) : Type 0 where
+  pub long : length card ≡ cardLength version card
+  pub fields : cardRefusal version (cardAt version card) ≡ 0
+  pub lists : listsServices version ≡ true
+  pub list : BadServices (serviceAt card) (getD card countPlace 0)
+
+-- 1 to 4 and 61 don't apply
 pub record AcceptedBytes (version : ℕ) (card : List ℕ) : Type 0 where
   pub long : length card ≡ cardLength version card
-  pub accepted : cardRefusal version (cardAt version card) ≡ 0
+  pub accepted : refusalAt version card ≡ 0
 
 -- 'another length of either is 10, on opening after 1 to 4'
 pub record OpenCase10 (version : ℕ) (card rec : List ℕ) : Type 0 where
@@ -79,45 +88,45 @@ pub record Opens (version : ℕ) (card rec free : List ℕ) : Type 0 where
 -- a battery handed in that 10 lets through: 'its card, zones and totals as in the lines'
 pub record GoodRecord (version : ℕ) (rec : List ℕ) : Type 0 where
   pub card-there : cardLength version rec ≤ length rec
-  pub card-accepted : cardRefusal version (cardAt version rec) ≡ 0
+  pub card-accepted : refusalAt version rec ≡ 0
   pub long : length rec ≡ recordLength version rec
   pub zones : (i : ℕ) → i < cardAt version rec .layers → finite64 (nthF64 rec (cardLength version rec) i) ≡ true
   pub totals : (i : ℕ) → i < 5 → finite64 (nthF64 rec (cardLength version rec + 8 * cardAt version rec .layers) i) ≡ true
 
--- a call that 10 lets through: laid out as its kind, and its fields in their ranges
-pub record GoodCall (version : ℕ) (card : Card) (call : List ℕ) : Type 0 where
+-- a call that 10 lets through, on a card that lists these services: laid out as its kind, and its fields in their ranges
+pub record GoodCall (version : ℕ) (services : List Service) (card : Card) (call : List ℕ) : Type 0 where
   pub laid : LaidCall version call
-  pub in-range : (asked : Call) → callOf version call ≡ Good asked → callInRange version card asked ≡ true
+  pub in-range : (asked : Call) → callOf version services call ≡ Good asked → callInRange version card asked ≡ true
 
--- '10 a call field not finite or out of range .., or a battery handed in whose card 1 to 4 refuse or whose zones or totals aren't finite'
+-- '10 a call field not finite or out of range .., or a battery handed in whose card 1 to 4 refuse or whose zones or totals aren't finite', 61 'counted with 1 to 4'
 pub data CallCase10 (version : ℕ) (rec call : List ℕ) : Type 0 where
   bad-record : (GoodRecord version rec → ⊥) → CallCase10 version rec call
-  bad-call : (GoodCall version (cardAt version rec) call → ⊥) → CallCase10 version rec call
+  bad-call : (GoodCall version (servicesAt version rec) (cardAt version rec) call → ⊥) → CallCase10 version rec call
 
 -- 'fewer free sheet bytes than the line needs. 10 before 11'
 pub record CallCase11 (version : ℕ) (rec call free : List ℕ) : Type 0 where
   pub record-good : GoodRecord version rec
-  pub call-good : GoodCall version (cardAt version rec) call
+  pub call-good : GoodCall version (servicesAt version rec) (cardAt version rec) call
   pub no-room : length free < lineSize version (cardAt version rec) (length call)
 
 -- neither 10 nor 11: the call gets a line
 pub record GetsLine (version : ℕ) (rec call free : List ℕ) : Type 0 where
   pub record-good : GoodRecord version rec
-  pub call-good : GoodCall version (cardAt version rec) call
+  pub call-good : GoodCall version (servicesAt version rec) (cardAt version rec) call
   pub room : lineSize version (cardAt version rec) (length call) ≤ length free
 
 -- one of 20 to 25: the call gets a line, and the call that was read is in the number's case (crates/engine/specs/Cases.antt)
 pub record LineCase (Case : Battery → Call → Type 0) (version : ℕ) (rec call free : List ℕ) : Type 0 where
   pub gets-line : GetsLine version rec call free
   pub asked : Call
-  pub read : callOf version call ≡ Good asked
+  pub read : callOf version (servicesAt version rec) call ≡ Good asked
   pub case-of : Case (recordOf version rec) asked
 
 -- ---- a call on the caller's own record, without a sheet
 
--- a record that 10 lets through; its count is its card's layers
-pub record GoodOwn (version : ℕ) (battery : Battery) : Type 0 where
-  pub card-accepted : cardRefusal version (battery .card) ≡ 0
+-- a record that 10 lets through, with its services; its count is its card's layers
+pub record GoodOwn (version : ℕ) (services : List Service) (battery : Battery) : Type 0 where
+  pub card-accepted : fullRefusal version (battery .card) services ≡ 0
   pub count : battery .count ≡ battery .card .layers
   pub zones : (i : ℕ) → i < battery .card .layers → finite64 (getD (battery .zones) i nan) ≡ true
   pub total : finite64 (battery .total) ≡ true
@@ -126,15 +135,15 @@ pub record GoodOwn (version : ℕ) (battery : Battery) : Type 0 where
   pub charged : finite64 (battery .charged) ≡ true
   pub electric : finite64 (battery .electric) ≡ true
 
--- '10 a call field not finite or out of range .., or a battery handed in whose card 1 to 4 refuse or whose zones or totals aren't finite'
-pub data OwnCase10 (version : ℕ) (battery : Battery) (call : List ℕ) : Type 0 where
-  bad-own : (GoodOwn version battery → ⊥) → OwnCase10 version battery call
-  bad-own-call : (GoodCall version (battery .card) call → ⊥) → OwnCase10 version battery call
+-- '10 a call field not finite or out of range .., or a battery handed in whose card 1 to 4 refuse or whose zones or totals aren't finite', 61 'counted with 1 to 4'
+pub data OwnCase10 (version : ℕ) (services : List Service) (battery : Battery) (call : List ℕ) : Type 0 where
+  bad-own : (GoodOwn version services battery → ⊥) → OwnCase10 version services battery call
+  bad-own-call : (GoodCall version services (battery .card) call → ⊥) → OwnCase10 version services battery call
 
 -- one of 20 to 25
-pub record OwnCase (Case : Battery → Call → Type 0) (version : ℕ) (battery : Battery) (call : List ℕ) : Type 0 where
-  pub own-good : GoodOwn version battery
-  pub call-good : GoodCall version (battery .card) call
+pub record OwnCase (Case : Battery → Call → Type 0) (version : ℕ) (services : List Service) (battery : Battery) (call : List ℕ) : Type 0 where
+  pub own-good : GoodOwn version services battery
+  pub call-good : GoodCall version services (battery .card) call
   pub asked : Call
-  pub read : callOf version call ≡ Good asked
+  pub read : callOf version services call ≡ Good asked
   pub case-of : Case battery asked

@@ -5,17 +5,18 @@ use auditor::AuditVerdict;
 use battery::Battery;
 use card::Card;
 use entries::RecordCard;
+use entries::own_record::OwnRecord;
 use entries::own_record::Shown;
 use sheet_calls::ReadCall;
 ghost use mathlib.Core.Path.{_≡_};
 ghost use mathlib.Core.Bool.{true};
 ghost use Rattle.battery.specs.Battery.{batteryAccepted};
-ghost use Rattle.sheet_records.specs.Cards.{cardAt};
+ghost use Rattle.sheet_records.specs.Cards.{cardAt, servicesAt};
 ghost use Rattle.sheet_records.specs.Records.{recordOf};
 ghost use Rattle.sheet_calls.specs.Calls.{callOf};
 ghost use Rattle.auditor.specs.Rules.{plain};
 ghost use Rattle.auditor.specs.Audit.{verdictWord, verdictFields, auditOf, limitedAuditOf};
-ghost use Rattle.entries.specs.Record.{advancedOf};
+ghost use Rattle.entries.specs.Record.{ownAdvanced};
 ghost use Rattle.entries.specs.Entry.{WasAfter, openOf, recordLaid};
 ghost use Rattle.heat_battery.specs.Entries.{entryRead, entryKnown, entryOf};
 
@@ -38,10 +39,11 @@ pub extern "C" fn heat_battery_open(
 // A call on a record's accepted battery: read, advanced, entered.
 fn advance(version: u8, battery: Battery, record: &mut [u8], call: &[u8], sheet: &mut [u8]) -> u8
     requires { ⌜ (recordLaid version (now «record») ≡ true) × (battery ≡ recordOf version (now «record»)) × (batteryAccepted version battery ≡ true) ⌝ }
-    ensures { λ r. ⌜ WasAfter (entryRead version (now («record» .entry)) (now (call .entry)) (now (sheet .entry)) (callOf version (now (call .entry)))) r (now («record» .exit)) (now (sheet .exit)) ⌝ }
+    ensures { λ r. ⌜ WasAfter (entryRead version (now («record» .entry)) (now (call .entry)) (now (sheet .entry)) (callOf version (servicesAt version (now («record» .entry))) (now (call .entry)))) r (now («record» .exit)) (now (sheet .exit)) ⌝ }
 {
     let kind = sheet_calls::kind_of(version, call);
-    let read = sheet_calls::call_by(version, kind, call);
+    let class = sheet_calls::demand_class(version, record, kind, call);
+    let read = sheet_calls::call_by(version, kind, class, call);
     match read {
         ReadCall::Bad => refusals::BAD_CALL,
         ReadCall::Good(c) => {
@@ -54,7 +56,7 @@ fn advance(version: u8, battery: Battery, record: &mut [u8], call: &[u8], sheet:
 // A call on a record whose card was read and accepted: its battery read and judged.
 fn with_card(version: u8, card: Card, record: &mut [u8], call: &[u8], sheet: &mut [u8]) -> u8
     requires { ⌜ (recordLaid version (now «record») ≡ true) × (card ≡ cardAt version (now «record»)) ⌝ }
-    ensures { λ r. ⌜ WasAfter (entryRead version (now («record» .entry)) (now (call .entry)) (now (sheet .entry)) (callOf version (now (call .entry)))) r (now («record» .exit)) (now (sheet .exit)) ⌝ }
+    ensures { λ r. ⌜ WasAfter (entryRead version (now («record» .entry)) (now (call .entry)) (now (sheet .entry)) (callOf version (servicesAt version (now («record» .entry))) (now (call .entry)))) r (now («record» .exit)) (now (sheet .exit)) ⌝ }
 {
     let b = sheet_records::read_record(version, card, record);
     if entries::record_accepted(version, b) {
@@ -108,17 +110,25 @@ pub extern "C" fn heat_battery_audit_whole(sheet: &[u8]) -> AuditVerdict
 
 // Advances the caller's own battery by a call: 40, 10, or the steps. Answered, its first `count` zones and five totals are stored; refused, nothing is.
 #[no_mangle]
-pub extern "C" fn heat_battery_advance(version: u8, battery: &mut Battery, call: &[u8]) -> Shown
-    ensures { λ r. ⌜ (r ≡ advancedOf version (now (battery .entry)) (now (call .entry)) .shown) × (now (battery .exit) ≡ advancedOf version (now (battery .entry)) (now (call .entry)) .battery) ⌝ }
+pub extern "C" fn heat_battery_advance(version: u8, own: &mut OwnRecord, call: &[u8]) -> Shown
+    ensures { λ r. ⌜ (r ≡ ownAdvanced version (now (own .entry)) (now (call .entry)) .shown) × (now (own .exit) ≡ ownAdvanced version (now (own .entry)) (now (call .entry)) .own) ⌝ }
 {
-    let l = battery::ledger_of(*battery);
-    let out = entries::own_record::advance_apart(version, l, call, &mut battery.zones);
+    let l = battery::ledger_of(own.battery);
+    let out = entries::own_record::advance_apart(
+        version,
+        l,
+        own.services,
+        &own.numbers,
+        &own.classes,
+        call,
+        &mut own.battery.zones,
+    );
     if out.shown.refusal == 0 {
-        battery.total = out.totals.total;
-        battery.pump = out.totals.pump;
-        battery.direct = out.totals.direct;
-        battery.charged = out.totals.charged;
-        battery.electric = out.totals.electric;
+        own.battery.total = out.totals.total;
+        own.battery.pump = out.totals.pump;
+        own.battery.direct = out.totals.direct;
+        own.battery.charged = out.totals.charged;
+        own.battery.electric = out.totals.electric;
     }
     out.shown
 }

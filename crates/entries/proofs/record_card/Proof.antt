@@ -16,7 +16,7 @@ read-card-requires : tie.Need-read-card-requires
 read-card-requires c κs = search needs
 
 refusal-requires : tie.Need-refusal-requires
-refusal-requires c κs = search needs
+refusal-requires c κs = (c .read-card .ensures, rw (← (c .before .before .card-length .ensures .0)) (c .before .if1 .taken))
 
 record-length-requires : tie.Need-record-length-requires
 record-length-requires c κs = search needs
@@ -28,8 +28,8 @@ returns c =
     let l =
     laid-record (a .version) (a .«record» .now)
     (record {
-      card-there = rw (← (c .before .before .before .before .before .before .card-length .ensures)) (c .before .before .before .before .before .if1 .taken);
-      card-accepted = rw (← (c .before .before .before .before .read-card .ensures)) (sym (c .before .before .before .refusal .ensures) ∙ c .before .before .if2 .taken);
+      card-there = rw (← (c .before .before .before .before .before .before .card-length .ensures .0)) (c .before .before .before .before .before .if1 .taken);
+      card-accepted = sym (c .before .before .before .refusal .ensures) ∙ c .before .before .if2 .taken;
       long = rw (← (c .before .record-length .ensures)) (c .if3 .taken);
     }) in
     via-true _ _ l (ap Good (c .before .before .before .before .read-card .ensures))
@@ -40,7 +40,7 @@ returns-2 c =
     let a = c .before .before .before .before .before .before .before .before .args in
     let l : recordLaid (a .version) (a .«record» .now) ≡ false =
     sym
-    (rw (← (c .before .before .before .before .before .before .card-length .ensures), ← (c .before .before .before .before .read-card .ensures), ← (c .before .before .before .refusal .ensures), ← (c .before .record-length .ensures))
+    (rw (← (c .before .before .before .before .before .before .card-length .ensures .0), ← (c .before .before .before .refusal .ensures), ← (c .before .record-length .ensures))
     (via-true _ _ (le-leb _ _ (c .before .before .before .before .before .if1 .taken)) (via-true _ _ (eq-eqb _ _ (c .before .before .if2 .taken)) (sym (ne-eqb _ _ (c .if3 .left)))))) in
     via-false _ _ l refl
 
@@ -50,7 +50,7 @@ returns-3 c =
     let a = c .before .before .before .before .before .before .args in
     let l : recordLaid (a .version) (a .«record» .now) ≡ false =
     sym
-    (rw (← (c .before .before .before .before .card-length .ensures), ← (c .before .before .read-card .ensures), ← (c .before .refusal .ensures))
+    (rw (← (c .before .before .before .before .card-length .ensures .0), ← (c .before .refusal .ensures))
     (via-true _ _ (le-leb _ _ (c .before .before .before .if1 .taken)) (via-false _ _ (ne-eqb _ _ (c .if2 .left)) refl))) in
     via-false _ _ l refl
 
@@ -58,7 +58,7 @@ returns-4 : tie.Need-returns-4
 unfolding recordCard recordLaid
 returns-4 c =
     let a = c .before .before .before .args in
-    let l : recordLaid (a .version) (a .«record» .now) ≡ false = sym (rw (← (c .before .card-length .ensures)) (via-false _ _ (lt-leb _ _ (c .if1 .left)) refl)) in
+    let l : recordLaid (a .version) (a .«record» .now) ≡ false = sym (rw (← (c .before .card-length .ensures .0)) (via-false _ _ (lt-leb _ _ (c .if1 .left)) refl)) in
     via-false _ _ l refl
 
 pub record-card-spec : {M : Type 1} → statement M

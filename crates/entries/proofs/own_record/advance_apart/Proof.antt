@@ -21,7 +21,7 @@ cast-n : tie.Need-cast-n
 cast-n c = search needs
 
 renew-zones-requires : tie.Need-renew-zones-requires
-renew-zones-requires c κs = answered-few _ _ _ _ _ _ (c .before .before .before .if1 .taken) (c .before .before .before .before .before .advance-version .ensures)
+renew-zones-requires c κs = answered-few _ _ _ _ _ _ _ (c .before .before .before .if1 .taken) (c .before .before .before .before .before .advance-version .ensures)
 
 reply-shown-requires : tie.Need-reply-shown-requires
 reply-shown-requires c κs = search needs
@@ -31,8 +31,8 @@ unfolding advancedOf advancedBy shownOf
 returns c =
     let taken = c .before .before .before .before .before .before .if1 .taken in
     let said = c .before .before .before .before .before .before .before .before .advance-version .ensures in
-    let stored = c .before .before .renew-zones .ensures ∙ answered-zones _ _ _ _ _ _ taken said in
-    rw (c .reply-shown .ensures, stored) (ap advancedBy (answer-is _ _ _ _ _ _ taken said))
+    let stored = c .before .before .renew-zones .ensures ∙ answered-zones _ _ _ _ _ _ _ taken said in
+    rw (c .reply-shown .ensures, stored) (ap advancedBy (answer-is _ _ _ _ _ _ _ taken said))
 
 refused-shown-requires : tie.Need-refused-shown-requires
 refused-shown-requires c κs = search needs
