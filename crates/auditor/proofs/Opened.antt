@@ -9,11 +9,10 @@ use lib.ListN.{length, take, drop, getD, length-append, length-drop, take-append
 use lib.Seq.{take-at, drop-at, drop-drop, length-take-le}
 use Rattle.codec.specs.Bytes.{be}
 use Rattle.card.specs.Version.{knownVersion}
-use Rattle.card.specs.Card.{cardRefusal}
 use Rattle.card.proofs.Versions.{zero-unknown}
 use Rattle.battery.specs.Battery.{fresh}
-use Rattle.sheet_records.specs.Cards.{cardLength, cardAt}
-use Rattle.sheet_records.proofs.CardLaws.{card-length-front, card-length-take}
+use Rattle.sheet_records.specs.Cards.{cardLength, cardAt, servicesAt, refusalAt}
+use Rattle.sheet_records.proofs.CardLaws.{card-length-front, card-length-take, fields-accepted}
 use Rattle.sheet_lines.specs.Lines.{openingLength}
 use Rattle.auditor.specs.Audit.{cardPart, linesPart, cardLineOk, auditCard, auditOf}
 use Rattle.auditor.specs.Rules.{Rules}
@@ -24,7 +23,7 @@ use Rattle.auditor.proofs.Walks.{Own, own-fresh}
 use Rattle.auditor.proofs.ReadCalls.{card-held}
 
 pub fresh-own : (version : ℕ) (card : List ℕ) → CardAccepted version card → Own version (cardAt version card) (fresh (cardAt version card))
-fresh-own version card a = own-fresh version (cardAt version card) a (card-held version card .start)
+fresh-own version card a = own-fresh version (cardAt version card) (fields-accepted version card a) (card-held version card .start)
 
 -- ---- taken apart
 module _ (version : ℕ) (known : knownVersion version ≡ true) (head card rest : List ℕ) (two : length head ≡ 2) (long : length card ≡ cardLength version card) where
@@ -60,13 +59,13 @@ module _ (version : ℕ) (known : knownVersion version ≡ true) (head card rest
   unfolding cardLineOk
   ok counts a =
       rw (le-leb (openingLength version (drop 3 bs)) (length bs) sheet-long, head-part, eq-eqb (be head) (cardLength version (drop 3 bs)) (counts ∙ sym card-size), card-part)
-      (eq-eqb (cardRefusal version (cardAt version card)) 0 a)
+      (eq-eqb (refusalAt version card) 0 a)
 
-  verdict : (rules : Rules) → be head ≡ cardLength version card → CardAccepted version card → auditOf rules bs ≡ auditCard rules version (cardAt version card) rest
+  verdict : (rules : Rules) → be head ≡ cardLength version card → CardAccepted version card → auditOf rules bs ≡ auditCard rules version (servicesAt version card) (cardAt version card) rest
   unfolding auditOf
   verdict rules counts a = rw (known, ok counts a, card-part, rest-part)
 
-pub audit-opened : (rules : Rules) (bs : List ℕ) (o : Opened bs) → auditOf rules bs ≡ auditCard rules (o .version) (cardAt (o .version) (o .card)) (o .rest)
+pub audit-opened : (rules : Rules) (bs : List ℕ) (o : Opened bs) → auditOf rules bs ≡ auditCard rules (o .version) (servicesAt (o .version) (o .card)) (cardAt (o .version) (o .card)) (o .rest)
 audit-opened rules bs o =
     ap (auditOf rules) (o .bytes) ∙ verdict (o .version) (o .known) (o .head) (o .card) (o .rest) (o .two) (o .long) rules (o .counts) (o .accepted)
 

@@ -9,9 +9,8 @@ use native.Mathlib.Omega.{arith}
 use lib.ListN.{length, take, drop, length-drop}
 use lib.Seq.{take-all, length-take-le}
 use Rattle.codec.specs.Bytes.{beAt}
-use Rattle.card.specs.Card.{cardRefusal}
 use Rattle.card.specs.declared.Card.{Card}
-use Rattle.sheet_records.specs.Cards.{cardLength, cardAt}
+use Rattle.sheet_records.specs.Cards.{cardLength, cardAt, refusalAt}
 use Rattle.sheet_records.proofs.CardLaws.{card-length-take}
 use Rattle.sheet_lines.specs.Lines.{openingLength}
 use Rattle.auditor.specs.declared.CardLine.the-variants.{Fit, Unfit}
@@ -49,12 +48,12 @@ module _ (version : ℕ) (bs : List ℕ) (end : ℕ) (e : end ≡ openingLength 
 pub record CardLineOk (version : ℕ) (bs : List ℕ) : Type 0 where
   pub long : 3 + cardLength version (drop 3 bs) ≤ length bs
   pub says : beAt bs 1 2 ≡ cardLength version (drop 3 bs)
-  pub accepted : cardRefusal version (cardAt version (cardPart version bs)) ≡ 0
+  pub accepted : refusalAt version (cardPart version bs) ≡ 0
 
 pub card-line : (version : ℕ) (bs : List ℕ) → cardLineOk version bs ≡ true → CardLineOk version bs
 unfolding cardLineOk
 card-line version bs ok =
-    let r = cardRefusal version (cardAt version (cardPart version bs)) in
+    let r = refusalAt version (cardPart version bs) in
     let n = openingLength version (drop 3 bs) in
     let t = three-tests (leb n (length bs)) (eqb (beAt bs 1 2) (cardLength version (drop 3 bs))) (eqb r 0) ok in
     let l : n ≤ length bs = leb-true n (length bs) (t .0) in

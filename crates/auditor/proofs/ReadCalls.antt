@@ -9,13 +9,14 @@ use lib.ListN.{length, take, drop, getD}
 use lib.Ieee.{Float, binary64, fits}
 use lib.Ieee.Bits.{ofBits-fits}
 use Rattle.codec.specs.Bytes.{be, f64Of, f64At}
+use Rattle.card.specs.Services.{Service}
 use Rattle.card.specs.Fits.{CardFits}
 use Rattle.battery.specs.Kinds.{kindOf, isCharge}
 use Rattle.battery.specs.declared.Demand.{Demand}
 use Rattle.battery.specs.declared.Call.{Call}
 use Rattle.battery.specs.declared.Call.the-variants.{DemandEnergy, ChargeElectric, ChargeHydronic, HeatLoss, CloseTimestep, ReadStateOfCharge, ChargeEnergyDemand}
 use Rattle.sheet_records.specs.Cards.{cardAt}
-use Rattle.sheet_calls.specs.Calls.{callLength, commitPlace, controlPlace, returnPlace, markOk, demandAt, demandCall, callBy, callOf}
+use Rattle.sheet_calls.specs.Calls.{callLength, commitPlace, controlPlace, returnPlace, markOk, demandClass, demandAt, demandCall, callBy, callOf}
 use Rattle.sheet_calls.specs.declared.ReadCall.{ReadCall}
 use Rattle.sheet_calls.specs.declared.ReadCall.the-variants.{Good}
 use Rattle.sheet_calls.proofs.CallLaws.{test-good, call-kind, same-call}
@@ -93,23 +94,24 @@ charge-kinds ReadStateOfCharge = refl
 charge-kinds (ChargeEnergyDemand most target) = refl
 
 -- ---- from the bytes
-module _ (version : ℕ) (bs : List ℕ) (call : Call) (h : callOf version bs ≡ Good call) where
+module _ (version : ℕ) (services : List Service) (bs : List ℕ) (call : Call) (h : callOf version services bs ≡ Good call) where
   pub read-loss : getD bs 0 0 ≡ 4 → call ≡ HeatLoss
-  read-loss k = loss-call call (call-kind version bs call h ∙ k)
+  read-loss k = loss-call call (call-kind version services bs call h ∙ k)
 
   pub read-electric : getD bs 0 0 ≡ 2 → IsElectric call
-  read-electric k = electric-call call (call-kind version bs call h ∙ k)
+  read-electric k = electric-call call (call-kind version services bs call h ∙ k)
 
   pub read-charge : isCharge call ≡ (eqb (getD bs 0 0) 2 || eqb (getD bs 0 0) 3)
-  read-charge = charge-kinds call ∙ ap (λ (k : ℕ). eqb k 2 || eqb k 3) (call-kind version bs call h)
+  read-charge = charge-kinds call ∙ ap (λ (k : ℕ). eqb k 2 || eqb k 3) (call-kind version services bs call h)
 
   -- a trial is a demand that is not committed
   pub read-trial : getD bs 0 0 ≡ 1 → getD bs (commitPlace version) 0 ≡ 0 → (d : Demand) × (call ≡ DemandEnergy d) × (d .commit ≡ false)
   unfolding callOf callBy demandCall demandAt
   read-trial k c =
-      let d = demandAt version bs in
-      let r : callBy version (getD bs 0 0) bs ≡ Good call = test-good (eqb (length bs) (callLength version (getD bs 0 0))) (callBy version (getD bs 0 0) bs) call h .1 in
-      let q : demandCall version bs ≡ Good call = ap (λ (n : ℕ). callBy version n bs) (sym k) ∙ r in
+      let class = demandClass version services (getD bs 0 0) bs in
+      let d = demandAt version class bs in
+      let r : callBy version (getD bs 0 0) class bs ≡ Good call = test-good (eqb (length bs) (callLength version (getD bs 0 0))) (callBy version (getD bs 0 0) class bs) call h .1 in
+      let q : demandCall version class bs ≡ Good call = ap (λ (n : ℕ). callBy version n class bs) (sym k) ∙ r in
       let t = leb (getD bs (commitPlace version) 0) 1 && (leb (getD bs (controlPlace version) 0) 1 && markOk bs (returnPlace version)) in
       let g : _≡_ {A = ReadCall} (Good (DemandEnergy d)) (Good call) = test-good t (Good (DemandEnergy d)) call q .1 in
       (d, same-call (Good (DemandEnergy d)) refl g, ap (λ (n : ℕ). eqb n 1) c)

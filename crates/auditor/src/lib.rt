@@ -44,7 +44,7 @@ fn card_line(version: u8, sheet: &[u8]) -> CardLine
         let says = codec::read_be(sheet, 1, 2);
         if says == (n as u64) {
             let card = sheet_records::cards::read_card(version, &sheet[3..end]);
-            if card::verdict::refusal(version, card) == 0 {
+            if sheet_records::services::refusal(version, card, &sheet[3..end]) == 0 {
                 return CardLine::Fit(card, end);
             }
             return CardLine::Unfit;
@@ -65,7 +65,7 @@ pub fn audit(sheet: &[u8]) -> Verdict
                 return Verdict::Refused(refusals::BAD_CARD, 0);
             }
             CardLine::Fit(card, end) => {
-                return lines::audit_lines(version, card, &sheet[end..]);
+                return lines::audit_lines(version, card, &sheet[3..end], &sheet[end..]);
             }
         }
     }

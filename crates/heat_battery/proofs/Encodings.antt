@@ -11,13 +11,14 @@ use lib.ListN.{length, take, drop, getD}
 use lib.Seq.{take-at}
 use Rattle.codec.specs.Bytes.{over}
 use Rattle.card.specs.Version.{knownVersion}
+use Rattle.card.specs.Services.{Service}
 use Rattle.card.specs.declared.Card.{Card}
 use Rattle.battery.specs.declared.Battery.{Battery}
 use Rattle.battery.specs.declared.Call.{Call}
 use Rattle.battery.specs.declared.Answer.{Answer}
 use Rattle.battery.specs.Call.{callInRange}
 use Rattle.engine.specs.Steps.{stepOf}
-use Rattle.sheet_records.specs.Cards.{cardLength, cardAt}
+use Rattle.sheet_records.specs.Cards.{cardLength, cardAt, servicesAt}
 use Rattle.sheet_records.specs.Records.{recordOf, stateBytes, recordBytes}
 use Rattle.sheet_calls.specs.Calls.{callOf}
 use Rattle.sheet_lines.specs.Lines.{lineLength, lineSize, lineBytes}
@@ -25,7 +26,7 @@ use Rattle.sheet_calls.specs.declared.ReadCall.the-variants.{Good}
 use Rattle.sheet_lines.proofs.Lengths.{length-lineBytes}
 use Rattle.battery.proofs.GoodParts.{good-layers}
 use Rattle.sheet_lines.proofs.AnswerBack.{record-back}
-use Rattle.sheet_records.proofs.CardLaws.{card-length-front}
+use Rattle.sheet_records.proofs.CardLaws.{card-length-front, services-front}
 use Rattle.sheet_lines.proofs.CardFront.{card-at-front}
 use Rattle.sheet_calls.proofs.CallLaws.{call-length}
 use Rattle.sheet_calls.proofs.Places.{call-short}
@@ -44,7 +45,7 @@ lined version card call free s = record { code = s .refusal; record' = recordByt
 pub data Entered (version : ℕ) (card : List ℕ) (b : Battery) (rec call free : List ℕ) : Type 0 where
   kept-10 : entryOf version rec call free ≡ unchanged 10 rec free → Entered version card b rec call free
   kept-11 : entryOf version rec call free ≡ unchanged 11 rec free → Entered version card b rec call free
-  stepped : (c : Call) → callOf version call ≡ Good c → callInRange version (b .card) c ≡ true → entryOf version rec call free ≡ lined version card call free (stepOf version b c)
+  stepped : (c : Call) → callOf version (servicesAt version card) call ≡ Good c → callInRange version (b .card) c ≡ true → entryOf version rec call free ≡ lined version card call free (stepOf version b c)
       → length (lineBytes version call (stepOf version b c)) ≤ length free → Entered version card b rec call free
 
 module _ (version : ℕ) (card : List ℕ) (b : Battery) (rec : List ℕ) (e : Encoded version card b rec) where
@@ -62,6 +63,11 @@ module _ (version : ℕ) (card : List ℕ) (b : Battery) (rec : List ℕ) (e : E
   card-size : cardLength version rec ≡ cardLength version card
   unfolding recordBytes
   card-size = ap (cardLength version) (e .bytes) ∙ card-length-front version card (stateBytes version b) whole
+
+  -- and so are its services
+  services-are : servicesAt version rec ≡ servicesAt version card
+  unfolding recordBytes
+  services-are = ap (servicesAt version) (e .bytes) ∙ services-front version card (stateBytes version b) whole
 
   renewed-is : (c : Call) → renewed version rec (stepOf version b c) ≡ recordBytes version card (stepOf version b c .battery)
   renewed-is c = on (ℕ-discrete (stepOf version b c .refusal) 0)
@@ -83,7 +89,7 @@ module _ (version : ℕ) (card : List ℕ) (b : Battery) (rec : List ℕ) (e : E
       on (eleven x h) = kept-11 h
       on (line x c k h) =
           let s : stepOf version (recordOf version rec) c ≡ stepOf version b c = ap (λ (y : Battery). stepOf version y c) read-back in
-          stepped c k (ap (λ (y : Card). callInRange version y c) (sym card-is) ∙ x .call-good .in-range c k)
+          stepped c (ap (λ (y : List Service). callOf version y call) (sym services-are) ∙ k) (ap (λ (y : Card). callInRange version y c) (sym card-is) ∙ x .call-good .in-range c k)
           (h ∙ ap (entered version rec call free) s
           ∙ ap (λ (y : List ℕ). record { code = stepOf version b c .refusal; record' = y; sheet = over (lineBytes version call (stepOf version b c)) free }) (renewed-is c))
           (rw (length-lineBytes version call (stepOf version b c), step-keeps-card version b c, ← card-is) (x .room))
@@ -91,10 +97,10 @@ module _ (version : ℕ) (card : List ℕ) (b : Battery) (rec : List ℕ) (e : E
   -- the encoding after the step
   pub step-encoded : (c : Call) → Encoded version card (stepOf version b c .battery) (recordBytes version card (stepOf version b c .battery))
   step-encoded c =
-      record { long = e .long; card-read = e .card-read ∙ sym (step-keeps-card version b c); good = step-keeps-good version b c (e .good); bytes = refl }
+      record { long = e .long; card-read = e .card-read ∙ sym (step-keeps-card version b c); listed = e .listed; good = step-keeps-good version b c (e .good); bytes = refl }
 
   -- what the line takes of the lent part
-  module _ (call free : List ℕ) (c : Call) (k : callOf version call ≡ Good c) where
+  module _ (call free : List ℕ) (c : Call) (k : callOf version (servicesAt version card) call ≡ Good c) where
     abbrev s : Answer
     s = stepOf version b c
 
@@ -108,7 +114,7 @@ module _ (version : ℕ) (card : List ℕ) (b : Battery) (rec : List ℕ) (e : E
     fits-line : lineLength version (s .battery .card) (length call) < 65536
     fits-line =
         line-fits version (s .battery .card) (length call) (rw (step-keeps-card version b c) (good-layers version b (e .good)))
-        (omega (arith, call-length version call c k, call-short version (getD call 0 0)))
+        (omega (arith, call-length version (servicesAt version card) call c k, call-short version (getD call 0 0)))
 
     takes-line : lineTaken (lined version card call free s) ≡ lineSize version (s .battery .card) (length call)
     unfolding lineTaken over lineSize
@@ -128,6 +134,6 @@ module _ (version : ℕ) (card : List ℕ) (b : Battery) (rec : List ℕ) (e : E
     pub gets-line : noLine (lined version card call free s) ≡ false
     gets-line = has-line
 
-    pub answer-is : answerTo version b call ≡ s
+    pub answer-is : answerTo version (servicesAt version card) b call ≡ s
     unfolding answerTo answerRead
     answer-is = rw k

@@ -16,6 +16,7 @@ use Rattle.battery.proofs.Zones.{zones-finite-of, zones-finite-at}
 use Rattle.battery.proofs.Accepted.{accepted-battery}
 use Rattle.battery.proofs.AnswerLaws.{finite-totals}
 use Rattle.sheet_records.specs.Cards.{cardLength, cardAt}
+use Rattle.sheet_records.proofs.CardLaws.{fields-accepted}
 use Rattle.sheet_records.specs.Records.{zonesAt, stateAt, recordOf}
 use Rattle.sheet_lines.proofs.Back.{zonesAt-below}
 use Rattle.heat_battery.specs.Cases.{GoodRecord}
@@ -41,7 +42,7 @@ module _ (version : ℕ) (rec : List ℕ) (l : LaidRecord version rec) where
   n = cardAt version rec .layers
 
   few : n ≤ 64
-  few = accepted-layers version (cardAt version rec) (l .card-accepted) .1
+  few = accepted-layers version (cardAt version rec) (fields-accepted version rec (l .card-accepted)) .1
 
   pub accepted-good : batteryAccepted version (recordOf version rec) ≡ true → GoodRecord version rec
   unfolding recordOf stateAt
@@ -64,7 +65,7 @@ module _ (version : ℕ) (rec : List ℕ) (l : LaidRecord version rec) where
       let z : zonesFinite (zonesAt rec (cardLength version rec) n) n ≡ true =
       zones-finite-of (zonesAt rec (cardLength version rec) n) n (λ i k. ap finite64 (zonesAt-below rec (cardLength version rec) n i few k) ∙ g .zones i k) in
       rw (
-        eq-eqb (cardRefusal version (cardAt version rec)) 0 (l .card-accepted),
+        eq-eqb (cardRefusal version (cardAt version rec)) 0 (fields-accepted version rec (l .card-accepted)),
         eq-eqb n n refl,
         z,
         t 0 (omega arith),

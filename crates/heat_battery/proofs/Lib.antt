@@ -7,7 +7,5 @@ pub mod GoodAnswers
 pub mod CallNumbers
 pub mod CardCases
 pub mod OpenCases
-pub mod ZonesLent
 pub mod OwnCases
-pub mod RecordAfter
 pub mod AnyVersion

@@ -2,7 +2,7 @@
 use Prim.Native.Nat.{ℕ, _+_, _≤_}
 use mathlib.Core.Path.{_≡_}
 use mathlib.Core.List.{List, [], _∷_, _++_}
-use mathlib.Core.Bool.{Bool, cond, _||_}
+use mathlib.Core.Bool.{Bool, true, cond, _||_}
 use lib.Dec.{eqb}
 use lib.ListN.{length, take, drop}
 use Rattle.refusals.specs.Refusals.{badCall, noRoom, noVersion}

@@ -3,8 +3,9 @@ use native.Mathlib.Omega.{arith}
 use lib.ListN.{drop}
 use borrow.Author.Needs.{needs}
 use Rattle.logic.proofs.Branch.{via-true, via-false}
-use Rattle.auditor.specs.Audit.{auditCard, auditOf}
-use Rattle.auditor.proofs.Opening.{opening-is, card-line, card-line-fit, card-line-unfit}
+use Rattle.sheet_records.proofs.CardLaws.{fields-accepted}
+use Rattle.auditor.specs.Audit.{cardPart, auditCard, auditOf}
+use Rattle.auditor.proofs.Opening.{opening-is, card-slice, card-whole, card-line, card-line-fit, card-line-unfit}
 use Rattle.auditor.proofs.Turns.{rest-of}
 use Rattle.auditor.proofs.audit.Statement.{statement}
 use Rattle.auditor.proofs.audit.Tie as tie
@@ -47,23 +48,47 @@ part-audit-lines-start c =
     omega (arith, fit .2, opening-is version (drop 3 bs), card-line version bs (fit .0) .long)
 
 part-audit-lines-end : tie.Need-part-audit-lines-end
-part-audit-lines-end c = search needs
+part-audit-lines-end c =
+    let bs = c .before .before .before .before .before .before .before .before .args .sheet .now in
+    let version = c .before .before .before .before .before .before .byte-or-zero .result in
+    let fit = card-line-fit version bs _ _ (sym (c .before .card .given .1) ∙ c .before .before .before .card-line .ensures) in
+    omega (arith, fit .2, opening-is version (drop 3 bs), card-line version bs (fit .0) .long)
 
-audit-lines-requires : tie.Need-audit-lines-requires
-audit-lines-requires c κs =
+sub-audit-lines-2 : tie.Need-sub-audit-lines-2
+sub-audit-lines-2 c =
     let bs = c .before .before .before .before .before .before .before .before .before .args .sheet .now in
     let version = c .before .before .before .before .before .before .before .byte-or-zero .result in
     let fit = card-line-fit version bs _ _ (sym (c .before .before .card .given .1) ∙ c .before .before .before .before .card-line .ensures) in
-    rw (fit .1) (card-line version bs (fit .0) .accepted)
+    omega (arith, fit .2, opening-is version (drop 3 bs), card-line version bs (fit .0) .long)
+
+part-audit-lines-start-2 : tie.Need-part-audit-lines-start-2
+part-audit-lines-start-2 c =
+    let bs = c .before .before .before .before .before .before .before .before .before .args .sheet .now in
+    let version = c .before .before .before .before .before .before .before .byte-or-zero .result in
+    let fit = card-line-fit version bs _ _ (sym (c .before .before .card .given .1) ∙ c .before .before .before .before .card-line .ensures) in
+    omega (arith, fit .2, opening-is version (drop 3 bs), card-line version bs (fit .0) .long)
+
+part-audit-lines-end-2 : tie.Need-part-audit-lines-end-2
+part-audit-lines-end-2 c = search needs
+
+audit-lines-requires : tie.Need-audit-lines-requires
+audit-lines-requires c κs =
+    let bs = c .before .before .before .before .before .before .before .before .before .before .args .sheet .now in
+    let version = c .before .before .before .before .before .before .before .before .byte-or-zero .result in
+    let fit = card-line-fit version bs _ _ (sym (c .before .before .before .card .given .1) ∙ c .before .before .before .before .before .card-line .ensures) in
+    let line = card-line version bs (fit .0) in (
+      rw (fit .1) (fields-accepted version (cardPart version bs) (line .accepted)),
+      card-whole version bs _ (fit .2) (omega (arith, fit .2, opening-is version (drop 3 bs), line .long)),
+    )
 
 returns-2 : tie.Need-returns-2
 unfolding auditOf auditCard
 returns-2 c =
-    let bs = c .before .before .before .before .before .before .before .before .before .before .args .sheet .now in
-    let first = c .before .before .before .before .before .before .before .before .byte-or-zero in
-    let fit = card-line-fit (first .result) bs _ _ (sym (c .before .before .before .card .given .1) ∙ c .before .before .before .before .before .card-line .ensures) in
+    let bs = c .before .before .before .before .before .before .before .before .before .before .before .args .sheet .now in
+    let first = c .before .before .before .before .before .before .before .before .before .byte-or-zero in
+    let fit = card-line-fit (first .result) bs _ _ (sym (c .before .before .before .before .card .given .1) ∙ c .before .before .before .before .before .before .card-line .ensures) in
     c .audit-lines .ensures
-    ∙ rw (rest-of, fit .1, fit .2, ← (first .ensures)) (via-true _ _ (sym (c .before .before .before .before .before .before .before .known-version .ensures) ∙ c .before .before .before .before .before .before .if1 .taken) (via-true _ _ (fit .0) refl))
+    ∙ rw (rest-of, card-slice (first .result) bs _ (fit .2), fit .1, fit .2, ← (first .ensures)) (via-true _ _ (sym (c .before .before .before .before .before .before .before .before .known-version .ensures) ∙ c .before .before .before .before .before .before .before .if1 .taken) (via-true _ _ (fit .0) refl))
 
 returns-3 : tie.Need-returns-3
 unfolding auditOf
@@ -82,6 +107,9 @@ audit-spec =
     sub-audit-lines
     part-audit-lines-start
     part-audit-lines-end
+    sub-audit-lines-2
+    part-audit-lines-start-2
+    part-audit-lines-end-2
     audit-lines-requires
     returns-2
     returns-3)

@@ -1,12 +1,10 @@
 use mathlib.Core.Path.{refl, sym, _∙_, ap}
-use Prim.Native.Nat.{_+_, _-_}
+use Prim.Native.Nat.{_+_}
 use native.Mathlib.Omega.{arith}
 use borrow.Author.Needs.{needs}
 use borrow.Author.Tests.{le-leb, lt-leb, eq-eqb, ne-eqb}
-use lib.ListN.{length, take, drop}
 use Rattle.logic.proofs.Branch.{via-true, via-false}
 use Rattle.sheet_records.specs.Cards.{cardLength}
-use Rattle.sheet_records.proofs.CardLaws.{card-below}
 use Rattle.auditor.specs.Audit.{cardLineOk, cardLine}
 use Rattle.auditor.proofs.Opening.{from-three, opening-end, card-slice, card-whole, no-card-line}
 use Rattle.auditor.proofs.card_line.Statement.{statement}
@@ -28,7 +26,7 @@ card-length-requires : tie.Need-card-length-requires
 card-length-requires c κs = search needs
 
 add-end : tie.Need-add-end
-add-end c = omega (arith, c .card-length .ensures, card-below (c .before .before .before .before .args .version) (take (length (c .before .before .before .before .args .sheet .now) - 3) (drop 3 (c .before .before .before .before .args .sheet .now))))
+add-end c = omega (arith, c .card-length .ensures .1)
 
 read-be-requires : tie.Need-read-be-requires
 read-be-requires c κs = search needs
@@ -46,37 +44,50 @@ read-card-requires : tie.Need-read-card-requires
 read-card-requires c κs =
     let a = c .before .before .before .before .before .before .before .before .args in
     let n = c .before .before .before .before .card-length in
-    let end = opening-end (a .version) (a .sheet .now) (n .result) (n .ensures) in
+    let end = opening-end (a .version) (a .sheet .now) (n .result) (n .ensures .0) in
     card-whole (a .version) (a .sheet .now) (3 + n .result) end (c .before .before .before .if2 .taken)
 
+sub-refusal : tie.Need-sub-refusal
+sub-refusal c = search needs
+
+part-refusal-start : tie.Need-part-refusal-start
+part-refusal-start c = search needs
+
+part-refusal-end : tie.Need-part-refusal-end
+part-refusal-end c = search needs
+
 refusal-requires : tie.Need-refusal-requires
-refusal-requires c κs = search needs
+refusal-requires c κs =
+    let a = c .before .before .before .before .before .before .before .before .before .before .args in
+    let n = c .before .before .before .before .before .before .card-length in
+    let end = opening-end (a .version) (a .sheet .now) (n .result) (n .ensures .0) in
+    (c .before .read-card .ensures, card-whole (a .version) (a .sheet .now) (3 + n .result) end (c .before .before .before .before .before .if2 .taken))
 
 returns-2 : tie.Need-returns-2
 unfolding cardLine cardLineOk
 returns-2 c =
-    let a = c .before .before .before .before .before .before .before .before .before .before .before .args in
-    let n = c .before .before .before .before .before .before .before .card-length in
-    let end = opening-end (a .version) (a .sheet .now) (n .result) (n .ensures) in
-    rw (← end, ← card-slice (a .version) (a .sheet .now) (3 + n .result) end, ← (n .ensures ∙ ap (cardLength (a .version)) (from-three (a .sheet .now))), ← (c .before .before .before .before .before .read-be .ensures), ← (c .before .before .read-card .ensures), ← (c .before .refusal .ensures))
-    (via-true _ _ (sym (via-true _ _ (le-leb _ _ (c .before .before .before .before .before .before .if2 .taken)) (via-true _ _ (eq-eqb _ _ (c .before .before .before .before .if3 .taken)) (sym (eq-eqb _ _ (c .if4 .taken)))))) refl)
+    let a = c .before .before .before .before .before .before .before .before .before .before .before .before .args in
+    let n = c .before .before .before .before .before .before .before .before .card-length in
+    let end = opening-end (a .version) (a .sheet .now) (n .result) (n .ensures .0) in
+    rw (← end, ← card-slice (a .version) (a .sheet .now) (3 + n .result) end, ← (n .ensures .0 ∙ ap (cardLength (a .version)) (from-three (a .sheet .now))), ← (c .before .before .before .before .before .before .read-be .ensures), ← (c .before .before .before .read-card .ensures), ← (c .before .refusal .ensures))
+    (via-true _ _ (sym (via-true _ _ (le-leb _ _ (c .before .before .before .before .before .before .before .if2 .taken)) (via-true _ _ (eq-eqb _ _ (c .before .before .before .before .before .if3 .taken)) (sym (eq-eqb _ _ (c .if4 .taken)))))) refl)
 
 returns-3 : tie.Need-returns-3
 unfolding cardLine cardLineOk
 returns-3 c =
-    let a = c .before .before .before .before .before .before .before .before .before .before .before .args in
-    let n = c .before .before .before .before .before .before .before .card-length in
-    let end = opening-end (a .version) (a .sheet .now) (n .result) (n .ensures) in
-    rw (← end, ← card-slice (a .version) (a .sheet .now) (3 + n .result) end, ← (n .ensures ∙ ap (cardLength (a .version)) (from-three (a .sheet .now))), ← (c .before .before .before .before .before .read-be .ensures), ← (c .before .before .read-card .ensures), ← (c .before .refusal .ensures))
-    (via-false _ _ (sym (via-true _ _ (le-leb _ _ (c .before .before .before .before .before .before .if2 .taken)) (via-true _ _ (eq-eqb _ _ (c .before .before .before .before .if3 .taken)) (sym (ne-eqb _ _ (c .if4 .left)))))) refl)
+    let a = c .before .before .before .before .before .before .before .before .before .before .before .before .args in
+    let n = c .before .before .before .before .before .before .before .before .card-length in
+    let end = opening-end (a .version) (a .sheet .now) (n .result) (n .ensures .0) in
+    rw (← end, ← card-slice (a .version) (a .sheet .now) (3 + n .result) end, ← (n .ensures .0 ∙ ap (cardLength (a .version)) (from-three (a .sheet .now))), ← (c .before .before .before .before .before .before .read-be .ensures), ← (c .before .before .before .read-card .ensures), ← (c .before .refusal .ensures))
+    (via-false _ _ (sym (via-true _ _ (le-leb _ _ (c .before .before .before .before .before .before .before .if2 .taken)) (via-true _ _ (eq-eqb _ _ (c .before .before .before .before .before .if3 .taken)) (sym (ne-eqb _ _ (c .if4 .left)))))) refl)
 
 returns-4 : tie.Need-returns-4
 unfolding cardLine cardLineOk
 returns-4 c =
     let a = c .before .before .before .before .before .before .before .args in
     let n = c .before .before .before .card-length in
-    let end = opening-end (a .version) (a .sheet .now) (n .result) (n .ensures) in
-    rw (← end, ← (n .ensures ∙ ap (cardLength (a .version)) (from-three (a .sheet .now))), ← (c .before .read-be .ensures))
+    let end = opening-end (a .version) (a .sheet .now) (n .result) (n .ensures .0) in
+    rw (← end, ← (n .ensures .0 ∙ ap (cardLength (a .version)) (from-three (a .sheet .now))), ← (c .before .read-be .ensures))
     (via-false _ _ (sym (via-true _ _ (le-leb _ _ (c .before .before .if2 .taken)) (via-false _ _ (ne-eqb _ _ (c .if3 .left)) refl))) refl)
 
 returns-5 : tie.Need-returns-5
@@ -84,7 +95,7 @@ unfolding cardLine cardLineOk
 returns-5 c =
     let a = c .before .before .before .before .before .args in
     let n = c .before .card-length in
-    let end = opening-end (a .version) (a .sheet .now) (n .result) (n .ensures) in
+    let end = opening-end (a .version) (a .sheet .now) (n .result) (n .ensures .0) in
     rw (← end) (via-false _ _ (sym (via-false _ _ (lt-leb _ _ (c .if2 .left)) refl)) refl)
 
 pub card-line-spec : {M : Type 1} → statement M
@@ -102,6 +113,9 @@ card-line-spec =
     part-read-card-start
     part-read-card-end
     read-card-requires
+    sub-refusal
+    part-refusal-start
+    part-refusal-end
     refusal-requires
     returns-2
     returns-3
