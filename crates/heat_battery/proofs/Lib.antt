@@ -9,3 +9,5 @@ pub mod CardCases
 pub mod OpenCases
 pub mod OwnCases
 pub mod AnyVersion
+pub mod Lent
+pub mod RecordAfter
