@@ -10,6 +10,7 @@ use lib.Ieee.{Float, nan, le, eq}
 use lib.Ieee.Bits.{is-true}
 use Rattle.floats.proofs.Order.{le-respects, eq-refl, eq-sym, eq-trans}
 use Rattle.card.specs.Fits.{CardFits}
+use Rattle.card.specs.Services.{Service}
 use Rattle.card.specs.declared.Card.{Card}
 use Rattle.card.proofs.Accepted.{accepted-layers}
 use Rattle.battery.specs.Battery.{freshZones, fresh}
@@ -24,7 +25,7 @@ use Rattle.battery.proofs.Zones.{zones-finite-at}
 use Rattle.engine.specs.Steps.{stepOf}
 use Rattle.engine.proofs.StepKeeps.{refused-keeps-state, trial-keeps-state}
 use Rattle.engine.proofs.Warmth.{loss-warms-none, electric-cools-none}
-use Rattle.sheet_records.specs.Cards.{cardAt}
+use Rattle.sheet_records.specs.Cards.{cardAt, servicesAt}
 use Rattle.sheet_lines.specs.Answers.{sameNumber, agrees}
 use Rattle.auditor.specs.Rules.{Rules, plain, NoLooser}
 use Rattle.auditor.specs.Sheet.{Line, Laid, Sheet}
@@ -38,7 +39,7 @@ use Rattle.promises.proofs.Shown.{number-of, SameZones, shown-refusal, 
 
 -- ---- one line
 
-module _ (version : ℕ) (c : Card) (f : CardFits c) (b : Battery) (o : Own version c b) (before : ℕ → Float) (was : SameZones c before b) (l : Line) (call : Call) (laid : Laid version c l call)
+module _ (version : ℕ) (services : List Service) (c : Card) (f : CardFits c) (b : Battery) (o : Own version c b) (before : ℕ → Float) (was : SameZones c before b) (l : Line) (call : Call) (laid : Laid version services c l call)
     (a : agrees sameNumber (shown version c l) (stepOf version b call) ≡ true) where
   abbrev own : Answer
   own = stepOf version b call
@@ -76,20 +77,20 @@ module _ (version : ℕ) (c : Card) (f : CardFits c) (b : Battery) (o : Own vers
   pub directed : Directed version c l before (zonesIn version c l)
   directed =
       record {
-        loss = λ k. warms-none (read-loss version (l .call) call (laid .reads) k);
-        electric = λ k. let e = read-electric version (l .call) call (laid .reads) k in cools-none (e .power) (e .target) (e .is);
+        loss = λ k. warms-none (read-loss version services (l .call) call (laid .reads) k);
+        electric = λ k. let e = read-electric version services (l .call) call (laid .reads) k in cools-none (e .power) (e .target) (e .is);
         refused = λ r. alters-none (refused-keeps-state version b call (λ z. r (shown-refusal version c l own a ∙ z)));
-        trial = λ t. let d = read-trial version (l .call) call (laid .reads) (t .0) (t .1) in alters-none (ap (λ (x : Call). stepOf version b x .battery) (d .1) ∙ trial-keeps-state version b (d .0) (d .2));
+        trial = λ t. let d = read-trial version services (l .call) call (laid .reads) (t .0) (t .1) in alters-none (ap (λ (x : Call). stepOf version b x .battery) (d .1) ∙ trial-keeps-state version b (d .0) (d .2));
       }
 
-all-directed : (version : ℕ) (c : Card) → CardFits c → (ls : List Line) (calls : List Call) (b : Battery) → Own version c b → (before : ℕ → Float) → SameZones c before b → Stepped sameNumber version c b ls calls
+all-directed : (version : ℕ) (services : List Service) (c : Card) → CardFits c → (ls : List Line) (calls : List Call) (b : Battery) → Own version c b → (before : ℕ → Float) → SameZones c before b → Stepped sameNumber version services c b ls calls
     → AllDirected version c before ls
-all-directed version c f [] [] b o before was s = tt
-all-directed version c f [] (call ∷ calls) b o before was s = absurd s
-all-directed version c f (l ∷ ls) [] b o before was s = absurd s
-all-directed version c f (l ∷ ls) (call ∷ calls) b o before was s = (
-  directed version c f b o before was l call (s .0) (s .1),
-  all-directed version c f ls calls (stepOf version b call .battery) (next-own version c b o call) (zonesIn version c l) (shown-zones version c l (stepOf version b call) (s .1)) (s .2),
+all-directed version services c f [] [] b o before was s = tt
+all-directed version services c f [] (call ∷ calls) b o before was s = absurd s
+all-directed version services c f (l ∷ ls) [] b o before was s = absurd s
+all-directed version services c f (l ∷ ls) (call ∷ calls) b o before was s = (
+  directed version services c f b o before was l call (s .0) (s .1),
+  all-directed version services c f ls calls (stepOf version b call .battery) (next-own version c b o call) (zonesIn version c l) (shown-zones version c l (stepOf version b call) (s .1)) (s .2),
 )
 
 -- ---- the zones before the first line
@@ -108,7 +109,7 @@ plain-directions bs n s =
     let v = s .version in
     let c = cardAt v (s .card) in
     let o = fresh-own v (s .card) (s .accepted) in
-    all-directed v c (card-held v (s .card)) (s .lines) (s .calls) (fresh c) o (λ i. c .start) (start-zones v c o) (sheet-stepped plain bs n s)
+    all-directed v (servicesAt v (s .card)) c (card-held v (s .card)) (s .lines) (s .calls) (fresh c) o (λ i. c .start) (start-zones v c o) (sheet-stepped plain bs n s)
 
 pub directions : (rules : Rules) → NoLooser rules → (bs : List ℕ) (n : ℕ) (s : Sheet rules bs n)
     → AllDirected (s .version) (cardAt (s .version) (s .card)) (λ i. cardAt (s .version) (s .card) .start) (s .lines)

@@ -5,12 +5,13 @@ use Rattle.sheet_lines.proofs.Agreement.{same-number-self}
 use Rattle.auditor.specs.Rules.{plain}
 use Rattle.engine.proofs.Times.{hydronic-time, running-stays}
 use Rattle.engine.proofs.Versions.{hydronic-alike, others-equal}
-use Rattle.heat_battery.proofs.OpenCases.{open-1, open-2, open-3, open-4, open-10, open-11}
+use Rattle.heat_battery.proofs.OpenCases.{open-1, open-2, open-3, open-4, open-61, open-10, open-11}
 use Rattle.heat_battery.proofs.CallCases.{call-10, call-11}
 use Rattle.heat_battery.proofs.CallNumbers.{call-20, call-21, call-22, call-23, call-24, call-25}
 use Rattle.heat_battery.proofs.OwnCases.{own-10, own-20, own-21, own-22, own-23, own-24, own-25}
 use Rattle.heat_battery.proofs.AnyVersion as any
 use Rattle.heat_battery.proofs.EqualSteps.{sheet-equal-to-steps}
+use Rattle.entries.specs.Record.{servicesOf, ownAdvanced}
 use Rattle.entries.proofs.OwnRecordLaws.{refused-record-stays, places-above-stay}
 use Rattle.auditor.specs.Audit.{limitedAuditOf}
 use Rattle.auditor.proofs.Exact.{exact}
@@ -19,7 +20,7 @@ use Rattle.auditor.proofs.Words.{verdict-given, plain-given, same-verdict, word
 use Rattle.auditor.proofs.Fields.{fields-accept, fields-refuse, fields-word}
 use Rattle.promises.proofs.Directions.{directions}
 use Rattle.promises.proofs.Charged.{charged-total}
-use Rattle.promises.specs.Promises.{OpeningNumbers, CallNumbers, OwnRecordNumbers, AuditVerdicts, AuditorVerdicts, RefusedOpeningChangesNothing, CallWithoutLineChangesNothing, RefusalLineLeavesTheRecord, RefusedOwnRecordStays, PlacesAboveTheCountStay, EqualToTheSteps, Opening, AcceptsAList, AcceptsAListByRules, ExactlyWhen, ExactlyWhenInC, WordTellsTheVerdict, ExactlyWhenOfAnyLength, FieldsTellTheVerdict, BothAuditsAgree, ZonesMoveTheRightWay, ChargedTotalAddsUp, OpeningRefusals, CallRefusals, OwnRecordRefusals, AuditRefusals, FortyExactlyWhenUnknown, LogarithmsCounted, HydronicTime, RunningTotalsStay, OnlyTheTimeDiffers}
+use Rattle.promises.specs.Promises.{OpeningNumbers, CallNumbers, OwnRecordNumbers, AuditVerdicts, AuditorVerdicts, RefusedOpeningChangesNothing, CallWithoutLineChangesNothing, RefusalLineLeavesTheRecord, RefusedOwnRecordStays, PlacesAboveTheCountStay, ServicesStay, EqualToTheSteps, Opening, AcceptsAList, AcceptsAListByRules, ExactlyWhen, ExactlyWhenInC, WordTellsTheVerdict, ExactlyWhenOfAnyLength, FieldsTellTheVerdict, BothAuditsAgree, ZonesMoveTheRightWay, ChargedTotalAddsUp, OpeningRefusals, CallRefusals, OwnRecordRefusals, AuditRefusals, FortyExactlyWhenUnknown, LogarithmsCounted, HydronicTime, RunningTotalsStay, OnlyTheTimeDiffers}
 use Rattle.promises.proofs.Numbers.{among-call, among-own}
 use Rattle.promises.proofs.AList.{a-list}
 
@@ -30,7 +31,8 @@ pub call-numbers : CallNumbers
 call-numbers version rec call free = among-call _ (any.call-numbers version rec call free)
 
 pub own-record-numbers : OwnRecordNumbers
-own-record-numbers version b call = among-own _ (any.own-numbers version b call)
+unfolding ownAdvanced
+own-record-numbers version own call = among-own _ (any.own-numbers version (servicesOf version own) (own .battery) call)
 
 pub audit-verdicts : AuditVerdicts
 audit-verdicts = plain-given
@@ -52,6 +54,10 @@ refused-own-record-stays = refused-record-stays
 
 pub places-above-the-count-stay : PlacesAboveTheCountStay
 places-above-the-count-stay = places-above-stay
+
+pub services-stay : ServicesStay
+unfolding ownAdvanced
+services-stay version own call = (refl, refl, refl)
 
 pub equal-to-the-steps : EqualToTheSteps
 equal-to-the-steps = sheet-equal-to-steps
@@ -90,11 +96,12 @@ pub charged-total-adds-up : ChargedTotalAddsUp
 charged-total-adds-up = charged-total
 
 pub forty-exactly-when-unknown : FortyExactlyWhenUnknown
-forty-exactly-when-unknown version = (any.open-40 version, any.call-40 version, any.own-40 version)
+unfolding ownAdvanced
+forty-exactly-when-unknown version = (any.open-40 version, any.call-40 version, λ own call. any.own-40 version (servicesOf version own) (own .battery) call)
 
 pub opening-refusals : OpeningRefusals
 opening-refusals version known card rec free =
-    (open-1 version known card rec free, open-2 version known card rec free, open-3 version known card rec free, open-4 version known card rec free, open-10 version known card rec free, open-11 version known card rec free)
+    (open-1 version known card rec free, open-2 version known card rec free, open-3 version known card rec free, open-4 version known card rec free, open-61 version known card rec free, open-10 version known card rec free, open-11 version known card rec free)
 
 pub call-refusals : CallRefusals
 call-refusals version known rec call free = (
@@ -109,7 +116,11 @@ call-refusals version known rec call free = (
 )
 
 pub own-record-refusals : OwnRecordRefusals
-own-record-refusals version known b call = (own-10 version known b call, own-20 version known b call, own-21 version known b call, own-22 version known b call, own-23 version known b call, own-24 version known b call, own-25 version known b call)
+unfolding ownAdvanced
+own-record-refusals version known own call =
+    let s = servicesOf version own in
+    let b = own .battery in
+    (own-10 version known s b call, own-20 version known s b call, own-21 version known s b call, own-22 version known s b call, own-23 version known s b call, own-24 version known s b call, own-25 version known s b call)
 
 pub audit-refusals : AuditRefusals
 audit-refusals rules bs k =

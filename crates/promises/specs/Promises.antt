@@ -1,4 +1,4 @@
--- The promises: what the demands ask, each under its sentence, in the words of the crates below (the entries' openOf, entryOf and advancedOf, the auditor's
+-- The promises: what the demands ask, each under its sentence, in the words of the crates below (the entries' openOf, entryOf and ownAdvanced, the auditor's
 -- auditOf), for every version: what A does takes it, a sheet has its own, and one that isn't known is 40. Each is a theorem of crates/promises/proofs/Promises.antt
 -- under the same name.
 use Prim.Native.Nat.{ℕ, _+_, _*_, _<_, _≤_}
@@ -33,14 +33,15 @@ use Rattle.engine.specs.Steps.{wetOf, stepOf}
 use Rattle.engine.specs.Budget.{hydronicTaskOf, hydronicRunOf}
 use Rattle.engine.specs.Times.{TimeRun, withTime}
 use Rattle.engine.specs.Cases.{Case20, Case21, Case22, Case23, Case24, Case25}
-use Rattle.sheet_records.specs.Cards.{cardAt}
+use Rattle.sheet_records.specs.Cards.{cardAt, servicesAt}
 use Rattle.sheet_records.specs.Records.{recordOf}
 use Rattle.sheet_lines.specs.Answers.{AcceptsItself}
 use Rattle.sheet_lines.specs.Lines.{lineBytes, openingBytes}
 use Rattle.entries.specs.Entry.{unchanged, openOf}
-use Rattle.entries.specs.Record.{advancedOf}
+use Rattle.entries.specs.Record.{servicesOf, ownAdvanced}
+use Rattle.entries.specs.declared.own_record.OwnRecord.{OwnRecord}
 use Rattle.heat_battery.specs.Entries.{entryOf}
-use Rattle.heat_battery.specs.Cases.{OpenCase1, OpenCase2, OpenCase3, OpenCase4, OpenCase10, OpenCase11, Opens, CallCase10, CallCase11, LineCase, OwnCase10, OwnCase}
+use Rattle.heat_battery.specs.Cases.{OpenCase1, OpenCase2, OpenCase3, OpenCase4, OpenCase61, OpenCase10, OpenCase11, Opens, CallCase10, CallCase11, LineCase, OwnCase10, OwnCase}
 use Rattle.heat_battery.specs.Lists.{ListedCall, AllGiven, sheetOf, freeAfterSheet, sparedOf, stepLines, SheetOfSteps}
 use Rattle.auditor.specs.declared.Verdict.the-variants.{Accepted, Refused}
 use Rattle.auditor.specs.Rules.{Rules, plain, NoLooser}
@@ -50,7 +51,7 @@ use Rattle.auditor.specs.Cases.{NoVersion, NoCard, CardNotTaken, BadLine, Disag
 use Rattle.promises.specs.Claims.{AllDirected, AllSummed}
 
 -- ---- 1: 'A caller of any entry, with any numbers and any bytes, gets an answer or a refusal of document 01': the contracts of the five C entries
--- (crates/heat_battery/src/lib.rt) equate what each returns and leaves with openOf, entryOf and advancedOf of the version that it is given, and with limitedAuditOf and auditOf of `plain`; these are their numbers, 0 for an answer
+-- (crates/heat_battery/src/lib.rt) equate what each returns and leaves with openOf, entryOf and ownAdvanced of the version that it is given, and with limitedAuditOf and auditOf of `plain`; these are their numbers, 0 for an answer
 
 abbrev pub OpeningNumbers : Type 0
 OpeningNumbers = (version : ℕ) (card rec free : List ℕ) → OneOf (0 ∷ 10 ∷ 11 ∷ 40 ∷ cardRefusals) (openOf version card rec free .code)
@@ -59,7 +60,7 @@ abbrev pub CallNumbers : Type 0
 CallNumbers = (version : ℕ) (rec call free : List ℕ) → OneOf (0 ∷ 10 ∷ 11 ∷ 20 ∷ 21 ∷ 22 ∷ 23 ∷ 24 ∷ 25 ∷ 40 ∷ []) (entryOf version rec call free .code)
 
 abbrev pub OwnRecordNumbers : Type 0
-OwnRecordNumbers = (version : ℕ) (battery : Battery) (call : List ℕ) → OneOf (0 ∷ 10 ∷ 20 ∷ 21 ∷ 22 ∷ 23 ∷ 24 ∷ 25 ∷ 40 ∷ []) (advancedOf version battery call .shown .refusal)
+OwnRecordNumbers = (version : ℕ) (own : OwnRecord) (call : List ℕ) → OneOf (0 ∷ 10 ∷ 20 ∷ 21 ∷ 22 ∷ 23 ∷ 24 ∷ 25 ∷ 40 ∷ []) (ownAdvanced version own call .shown .refusal)
 
 -- accepted, 40 or 41 at line 0, 42 or 43 at a call line, or 44 at line 0
 abbrev pub AuditVerdicts : Type 0
@@ -90,11 +91,18 @@ RefusalLineLeavesTheRecord =
 
 abbrev pub RefusedOwnRecordStays : Type 0
 RefusedOwnRecordStays =
-    (version : ℕ) (battery : Battery) (call : List ℕ) → (advancedOf version battery call .shown .refusal ≡ 0 → ⊥) → advancedOf version battery call .battery ≡ battery
+    (version : ℕ) (own : OwnRecord) (call : List ℕ) → (ownAdvanced version own call .shown .refusal ≡ 0 → ⊥) → ownAdvanced version own call .own ≡ own
 
 -- 'places above the count .. are never written': whatever the caller's own record holds there stays, answered or refused
 abbrev pub PlacesAboveTheCountStay : Type 0
-PlacesAboveTheCountStay = (version : ℕ) (battery : Battery) (call : List ℕ) → SameAbove (battery .card .layers) (battery .zones) (advancedOf version battery call .battery .zones)
+PlacesAboveTheCountStay =
+    (version : ℕ) (own : OwnRecord) (call : List ℕ) → SameAbove (own .battery .card .layers) (own .battery .zones) (ownAdvanced version own call .own .battery .zones)
+
+-- and so do its services, whatever they hold, read or not
+abbrev pub ServicesStay : Type 0
+ServicesStay =
+    (version : ℕ) (own : OwnRecord) (call : List ℕ)
+    → (ownAdvanced version own call .own .services ≡ own .services) × (ownAdvanced version own call .own .numbers ≡ own .numbers) × (ownAdvanced version own call .own .classes ≡ own .classes)
 
 -- ---- 2: 'engine, sheet writer and sheet reader are proved against 01's steps'
 
@@ -116,7 +124,9 @@ pub record AList (rules : Rules) (version : ℕ) (card rec free : List ℕ) (cal
   -- as many lines as calls that got one
   pub verdict : auditOf rules (sheetOf version card rec free calls) ≡ Accepted (length (sparedOf version card rec free calls))
   -- the version, line 0 and, for each such call in order, a line with the call's own bytes and the steps' answer
-  pub bytes : sheetOf version card rec free calls ≡ openingBytes version card ++ stepLines version (fresh (cardAt version card)) (sparedOf version card rec free calls)
+  pub bytes :
+      sheetOf version card rec free calls
+      ≡ openingBytes version card ++ stepLines version (servicesAt version card) (fresh (cardAt version card)) (sparedOf version card rec free calls)
   -- within the buffer
   pub fits : length (sheetOf version card rec free calls) ≤ length free
   -- the bytes after it are as before
@@ -184,13 +194,14 @@ FortyExactlyWhenUnknown =
     (version : ℕ)
     → ((card rec free : List ℕ) → (openOf version card rec free .code ≡ 40) ↔ (knownVersion version ≡ false))
     × ((rec call free : List ℕ) → (entryOf version rec call free .code ≡ 40) ↔ (knownVersion version ≡ false))
-    × ((battery : Battery) (call : List ℕ) → (advancedOf version battery call .shown .refusal ≡ 40) ↔ (knownVersion version ≡ false))
+    × ((own : OwnRecord) (call : List ℕ) → (ownAdvanced version own call .shown .refusal ≡ 40) ↔ (knownVersion version ≡ false))
 
 abbrev pub OpeningRefusals : Type 0
 OpeningRefusals =
     (version : ℕ) → knownVersion version ≡ true → (card rec free : List ℕ)
     → ((openOf version card rec free .code ≡ 1) ↔ OpenCase1 version card) × ((openOf version card rec free .code ≡ 2) ↔ OpenCase2 version card)
     × ((openOf version card rec free .code ≡ 3) ↔ OpenCase3 version card) × ((openOf version card rec free .code ≡ 4) ↔ OpenCase4 version card)
+    × ((openOf version card rec free .code ≡ 61) ↔ OpenCase61 version card)
     × ((openOf version card rec free .code ≡ 10) ↔ OpenCase10 version card rec) × ((openOf version card rec free .code ≡ 11) ↔ OpenCase11 version card rec free)
 
 abbrev pub CallRefusals : Type 0
@@ -203,11 +214,14 @@ CallRefusals =
 
 abbrev pub OwnRecordRefusals : Type 0
 OwnRecordRefusals =
-    (version : ℕ) → knownVersion version ≡ true → (battery : Battery) (call : List ℕ)
-    → ((advancedOf version battery call .shown .refusal ≡ 10) ↔ OwnCase10 version battery call)
-    × ((advancedOf version battery call .shown .refusal ≡ 20) ↔ OwnCase Case20 version battery call) × ((advancedOf version battery call .shown .refusal ≡ 21) ↔ OwnCase Case21 version battery call)
-    × ((advancedOf version battery call .shown .refusal ≡ 22) ↔ OwnCase Case22 version battery call) × ((advancedOf version battery call .shown .refusal ≡ 23) ↔ OwnCase (Case23 version) version battery call)
-    × ((advancedOf version battery call .shown .refusal ≡ 24) ↔ OwnCase Case24 version battery call) × ((advancedOf version battery call .shown .refusal ≡ 25) ↔ OwnCase Case25 version battery call)
+    (version : ℕ) → knownVersion version ≡ true → (own : OwnRecord) (call : List ℕ)
+    → ((ownAdvanced version own call .shown .refusal ≡ 10) ↔ OwnCase10 version (servicesOf version own) (own .battery) call)
+    × ((ownAdvanced version own call .shown .refusal ≡ 20) ↔ OwnCase Case20 version (servicesOf version own) (own .battery) call)
+    × ((ownAdvanced version own call .shown .refusal ≡ 21) ↔ OwnCase Case21 version (servicesOf version own) (own .battery) call)
+    × ((ownAdvanced version own call .shown .refusal ≡ 22) ↔ OwnCase Case22 version (servicesOf version own) (own .battery) call)
+    × ((ownAdvanced version own call .shown .refusal ≡ 23) ↔ OwnCase (Case23 version) version (servicesOf version own) (own .battery) call)
+    × ((ownAdvanced version own call .shown .refusal ≡ 24) ↔ OwnCase Case24 version (servicesOf version own) (own .battery) call)
+    × ((ownAdvanced version own call .shown .refusal ≡ 25) ↔ OwnCase Case25 version (servicesOf version own) (own .battery) call)
 
 -- 70 is given by no audit that takes every card, as document 01's (AuditorVerdicts)
 abbrev pub AuditRefusals : Type 0
