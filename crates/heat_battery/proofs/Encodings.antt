@@ -7,10 +7,12 @@ use Prim.Native.Nat.{ℕ, _+_, _≤_, _<_}
 use native.Mathlib.Decide.{ℕ-discrete}
 use native.Mathlib.Omega.{arith}
 use borrow.Author.Tests.{eq-eqb, ne-eqb}
-use lib.ListN.{length, take, drop, getD}
+use lib.ListN.{length, take, drop, getD, length-append}
 use lib.Seq.{take-at}
 use Rattle.codec.specs.Bytes.{over}
+use Rattle.card.specs.Card.{cardRefusal}
 use Rattle.card.specs.Version.{knownVersion}
+use Rattle.card.proofs.Listed.{accepted-full}
 use Rattle.card.specs.Services.{Service}
 use Rattle.card.specs.declared.Card.{Card}
 use Rattle.battery.specs.declared.Battery.{Battery}
@@ -18,23 +20,30 @@ use Rattle.battery.specs.declared.Call.{Call}
 use Rattle.battery.specs.declared.Answer.{Answer}
 use Rattle.battery.specs.Call.{callInRange}
 use Rattle.engine.specs.Steps.{stepOf}
-use Rattle.sheet_records.specs.Cards.{cardLength, cardAt, servicesAt}
-use Rattle.sheet_records.specs.Records.{recordOf, stateBytes, recordBytes}
+use Rattle.sheet_records.specs.Cards.{cardLength, cardAt, servicesAt, refusalAt}
+use Rattle.sheet_records.specs.Records.{stateLength, recordLength, recordOf, stateBytes, recordBytes}
 use Rattle.sheet_calls.specs.Calls.{callOf}
 use Rattle.sheet_lines.specs.Lines.{lineLength, lineSize, lineBytes}
 use Rattle.sheet_calls.specs.declared.ReadCall.the-variants.{Good}
 use Rattle.sheet_lines.proofs.Lengths.{length-lineBytes}
+use Rattle.sheet_records.proofs.Lengths.{length-stateBytes}
+use Rattle.battery.specs.Battery.{batteryAccepted}
+use Rattle.battery.proofs.Accepted.{accepted-battery}
 use Rattle.battery.proofs.GoodParts.{good-layers}
 use Rattle.sheet_lines.proofs.AnswerBack.{record-back}
 use Rattle.sheet_records.proofs.CardLaws.{card-length-front, services-front}
-use Rattle.sheet_lines.proofs.CardFront.{card-at-front}
-use Rattle.sheet_calls.proofs.CallLaws.{call-length}
+use Rattle.sheet_lines.proofs.CardFront.{card-at-front, refusal-at-front}
+use Rattle.sheet_calls.proofs.CallLaws.{same-call, call-length}
+use Rattle.sheet_calls.proofs.CallExact.{call-laid}
 use Rattle.sheet_calls.proofs.Places.{call-short}
 use Rattle.sheet_lines.proofs.LineLaws.{line-fits, line-says, line-following}
 use Rattle.entries.specs.Entry.{After, unchanged, renewed, entered}
+use Rattle.entries.proofs.Entering.{LaidRecord}
 use Rattle.heat_battery.specs.Entries.{entryOf}
 use Rattle.heat_battery.specs.Lists.{noLine, lineTaken, freeRest, answerRead, answerTo, Encoded}
-use Rattle.heat_battery.proofs.CallCases.{CallWay, ten, eleven, line, call-way}
+use Rattle.heat_battery.proofs.CallCases.{CallWay, ten, eleven, line, call-way, call-10}
+use Rattle.heat_battery.proofs.Finite.{accepted-good}
+use Rattle.heat_battery.specs.Cases.{CallCase10, bad-record, bad-call}
 use Rattle.engine.proofs.StepKeeps.{step-refusals, step-keeps-card, refused-keeps-state, step-keeps-good}
 
 -- the entry's line for an answer, with the record as the answer's encoding
@@ -68,6 +77,36 @@ module _ (version : ℕ) (card : List ℕ) (b : Battery) (rec : List ℕ) (e : E
   services-are : servicesAt version rec ≡ servicesAt version card
   unfolding recordBytes
   services-are = ap (servicesAt version) (e .bytes) ∙ services-front version card (stateBytes version b) whole
+
+  -- an encoding is laid out
+  refusal-is : refusalAt version rec ≡ 0
+  unfolding recordBytes
+  refusal-is =
+      ap (refusalAt version) (e .bytes) ∙ refusal-at-front version card (stateBytes version b) whole
+      ∙ (unfold refusalAt in accepted-full version (cardAt version card) (servicesAt version card) (ap (cardRefusal version) (e .card-read) ∙ accepted-battery version b (e .good .accepted) .card) (e .listed))
+
+  long-is : length rec ≡ cardLength version card + stateLength version (b .card)
+  unfolding recordBytes
+  long-is = ap length (e .bytes) ∙ length-append card (stateBytes version b) ∙ (let l = e .long in let n = length-stateBytes version b in omega arith)
+
+  encoded-laid : LaidRecord version rec
+  unfolding recordLength
+  encoded-laid =
+      let n = ap (stateLength version) card-is in
+      record { card-there = omega (arith, card-size, long-is); card-accepted = refusal-is; long = omega (arith, card-size, long-is, n) }
+
+  -- a call that can be read, in its ranges, isn't refused with 10
+  pub read-not-ten : knownVersion version ≡ true → (call free : List ℕ) (c : Call) → callOf version (servicesAt version card) call ≡ Good c → callInRange version (b .card) c ≡ true
+      → entryOf version rec call free .code ≡ 10 → ⊥
+  read-not-ten known call free c k i h = on (call-10 version known rec call free .0 h)
+    where
+      there : callOf version (servicesAt version rec) call ≡ Good c
+      there = ap (λ (y : List Service). callOf version y call) services-are ∙ k
+
+      on : CallCase10 version rec call → ⊥
+      on (bad-record n) = n (accepted-good version rec encoded-laid (ap (batteryAccepted version) read-back ∙ e .good .accepted))
+      on (bad-call n) =
+          n (record { laid = call-laid version (servicesAt version rec) call c there; in-range = λ d l. rw (same-call (callOf version (servicesAt version rec) call) there l, card-is) i })
 
   renewed-is : (c : Call) → renewed version rec (stepOf version b c) ≡ recordBytes version card (stepOf version b c .battery)
   renewed-is c = on (ℕ-discrete (stepOf version b c .refusal) 0)

@@ -1,4 +1,5 @@
 pub mod Spared
+pub mod Widened
 pub mod Lined
 pub mod AList
 pub mod Numbers
