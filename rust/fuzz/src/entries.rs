@@ -6,12 +6,10 @@ use crate::input::{filled, Input};
 use crate::tested;
 use oracle::compare::{check_advance, check_call, check_open, Report};
 use oracle::generate::points_card;
-use oracle::model::{lists_services, Battery, State, Totals};
-use oracle::own::{Record, MOST_LAYERS};
-use oracle::plain::MOST_SERVICES;
+use oracle::own::Record;
 use oracle::random::Random;
 use oracle::raw::{Calling, Known, Opening};
-use oracle::{reading, sheet};
+use oracle::sheet;
 
 pub fn check(bytes: &[u8], report: &mut Report) {
     let input = Input::read(bytes);
@@ -39,43 +37,9 @@ pub fn check(bytes: &[u8], report: &mut Report) {
     }
 }
 
-/// The caller's own record of a record's bytes; what they lack is 0. Places above the counts have
-/// NaNs and numbers of their own, and so have the services before version 3; all these must stay.
+/// The caller's own record of a record's bytes, with a count where it isn't 0.
 fn own(version: u8, bytes: &[u8], count: u8) -> Record {
-    let mut whole = bytes.to_vec();
-    whole.resize(bytes.len().max(sheet::card_length(version, 0)), 0);
-    let front = sheet::card_in_front(version, &whole).map_or(whole.len(), <[u8]>::len);
-    whole.resize(whole.len().max(sheet::card_length(version, u8::MAX)), 0);
-    let card = sheet::card_in_front(version, &whole).and_then(|card| reading::card(version, card));
-    let card = card.expect("a card's length");
-    let mut numbers = whole[front..]
-        .chunks_exact(8)
-        .map(|eight| f64::from_bits(u64::from_be_bytes(eight.try_into().expect("eight bytes"))));
-    let layers = usize::from(card.layers).min(MOST_LAYERS);
-    let zones = numbers.by_ref().take(layers).collect();
-    let mut total = || numbers.next().unwrap_or(0.0);
-    let totals = Totals {
-        running_hours: total(),
-        pump_hours: total(),
-        direct_hours: total(),
-        charged: total(),
-        charged_electric: total(),
-    };
-    let mut record = Record::from(&Battery { card, state: State { zones, totals } });
-    for (at, place) in record.zones.iter_mut().enumerate().skip(layers) {
-        *place = f64::from_bits(0x7ff8_0000_0000_0000 | at as u64);
-    }
-    let listed = match lists_services(version) {
-        true => usize::from(record.services).min(MOST_SERVICES),
-        false => 0,
-    };
-    if !lists_services(version) {
-        record.services = 0xe7;
-    }
-    for at in listed..MOST_SERVICES {
-        record.numbers[at] = at as u16;
-        record.classes[at] = 0xff - at as u8;
-    }
+    let mut record = Record::of_bytes(version, bytes);
     if count != 0 {
         record.count = count;
     }

@@ -7,6 +7,7 @@ use crate::model::{
     is_known, lists_services, shows_hydronic_time, Answer, Battery, Call, Card, Demand, Service,
     Services, VERSIONS,
 };
+use crate::own::{self, Record, Shown};
 use crate::plain::{self, HydronicEnd};
 use crate::reading;
 use crate::sheet;
@@ -53,6 +54,12 @@ pub enum Fault {
     UnlistedServed,
     /// A trial of a type that isn't listed refused with 21.
     UnlistedTrial,
+    /// The own record's services read in every version.
+    OwnServicesEarly,
+    /// More services than 32 in the own record taken for 32.
+    OwnServices33,
+    /// The own record's services stored to.
+    OwnServicesStored,
     /// Every sheet accepted.
     PassesAll,
     /// No sheet accepted.
@@ -115,6 +122,13 @@ pub const IN_AUDIT: [(&str, Fault); 17] = [
     ("type-exchanged", Fault::TypeExchanged),
     ("unlisted-served", Fault::UnlistedServed),
     ("unlisted-trial", Fault::UnlistedTrial),
+];
+
+/// Faults of the entry on the caller's own record.
+pub const IN_OWN: [(&str, Fault); 3] = [
+    ("own-services-early", Fault::OwnServicesEarly),
+    ("own-services-33", Fault::OwnServices33),
+    ("own-services-stored", Fault::OwnServicesStored),
 ];
 
 /// Faults that end the program, as a page that can't be read is read.
@@ -185,7 +199,7 @@ fn unlisted_trial(version: u8, battery: &Battery, call: &Call) -> (Answer, Batte
 impl Faulty {
     /// The fault of that name; none for another name.
     pub fn named(name: &str) -> Self {
-        let all = IN_ENTRIES.iter().chain(&IN_AUDIT).chain(&ENDING);
+        let all = IN_ENTRIES.iter().chain(&IN_AUDIT).chain(&IN_OWN).chain(&ENDING);
         let found = all.into_iter().find(|(known, _)| *known == name);
         Faulty { fault: found.map_or(Fault::None, |(_, fault)| *fault) }
     }
@@ -216,6 +230,30 @@ impl Faulty {
         };
         // SAFETY: none, which is the fault.
         unsafe { byte.read_volatile() };
+    }
+
+    /// The entry on the caller's own record.
+    pub fn advance(&self, version: u8, record: &mut Record, call: &[u8]) -> Shown {
+        let mut taken = *record;
+        let most = plain::MOST_SERVICES as u8;
+        match self.fault {
+            // 10 in every version, as for another count of zones.
+            Fault::OwnServicesEarly
+                if taken.listed().is_none_or(|s| plain::services_refusal(&s)) =>
+            {
+                taken.count = 0;
+            }
+            Fault::OwnServices33 => taken.services = taken.services.min(most),
+            _ => {}
+        }
+        let shown = own::advance(self.step(), version, &mut taken, call);
+        if shown.refusal == 0 {
+            (record.zones, record.totals) = (taken.zones, taken.totals);
+            if self.fault == Fault::OwnServicesStored {
+                record.services = 0;
+            }
+        }
+        shown
     }
 
     /// The call as a faulty reader takes it.

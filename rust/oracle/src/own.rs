@@ -2,12 +2,14 @@
 //! written from documents 01 and 02 alone.
 
 use crate::entries::Step;
+use crate::fields;
 use crate::model::{
     is_known, lists_services, Answer, Battery, Card, Service, Services, State, Totals,
 };
 use crate::plain::{self, MOST_SERVICES};
 use crate::ranges;
 use crate::reading;
+use crate::sheet;
 
 pub const MOST_LAYERS: usize = 64;
 
@@ -82,6 +84,36 @@ impl From<&Battery> for Record {
 }
 
 impl Record {
+    /// The record of a byte record, whether that is one or not; what its bytes lack is 0. Places above
+    /// the counts have NaNs and numbers of their own, and so have the services where the version
+    /// doesn't read them.
+    pub fn of_bytes(version: u8, bytes: &[u8]) -> Self {
+        let mut whole = bytes.to_vec();
+        whole.resize(bytes.len().max(sheet::card_length(version, 0)), 0);
+        let front = sheet::card_in_front(version, &whole).map_or(whole.len(), <[u8]>::len);
+        whole.resize(whole.len().max(sheet::card_length(version, u8::MAX)), 0);
+        let card = sheet::card_in_front(version, &whole);
+        let card = card.and_then(|card| reading::card(version, card)).expect("a card's length");
+        let mut numbers = whole[front..].chunks_exact(8).map(|eight| fields::number_at(eight, 0));
+        let layers = usize::from(card.layers).min(MOST_LAYERS);
+        let zones = numbers.by_ref().take(layers).collect();
+        let mut record =
+            Record::from(&Battery { card, state: State { zones, ..State::default() } });
+        record.totals.fill_with(|| numbers.next().unwrap_or(0.0));
+        for (at, place) in record.zones.iter_mut().enumerate().skip(layers) {
+            *place = f64::from_bits(0x7ff8_0000_0000_0000 | at as u64);
+        }
+        let mut listed = usize::from(record.services).min(MOST_SERVICES);
+        if !lists_services(version) {
+            (listed, record.services) = (0, 0xe7);
+        }
+        for at in listed..MOST_SERVICES {
+            record.numbers[at] = at as u16;
+            record.classes[at] = 0xff - at as u8;
+        }
+        record
+    }
+
     /// Zones and totals; the places above the zones stay.
     fn put(&mut self, state: &State) {
         for (place, zone) in self.zones.iter_mut().zip(&state.zones) {
@@ -91,7 +123,7 @@ impl Record {
     }
 
     /// The list of services; None for more than there are places.
-    fn listed(&self) -> Option<Services> {
+    pub fn listed(&self) -> Option<Services> {
         let places = self.numbers.iter().zip(&self.classes);
         let all: Vec<Service> = places.map(|(&number, &class)| Service { number, class }).collect();
         Some(Services::new(all.get(..usize::from(self.services))?))

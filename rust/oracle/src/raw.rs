@@ -109,6 +109,18 @@ fn badly_listed(random: &mut Random) -> Card {
     Card { services: generate::refused_services(random), ..generate::card(random) }
 }
 
+/// A card whose services 61 refuses too, after 2, 3 or 4 for a relation of its fields.
+fn twice_refused(random: &mut Random) -> Card {
+    let mut card = badly_listed(random);
+    match random.below(4) {
+        0 => card.lower = card.upper.next_up(),
+        1 => card.max = random.pick(&[20.0, 19.0]),
+        2 => card.reference = card.max,
+        _ => card.reference = card.max.next_up(),
+    }
+    card
+}
+
 /// Another count than the list's, which then is of another length.
 fn put_count(random: &mut Random, bytes: &mut [u8]) {
     let count = bytes[CARD_BYTES];
@@ -145,16 +157,21 @@ fn raw_card(random: &mut Random, version: u8) -> (Vec<u8>, Option<u8>) {
         8..=10 if lists_services(version) => {
             (sheet::card_bytes(version, &badly_listed(random)), Some(61))
         }
+        11 if lists_services(version) => {
+            let refused = twice_refused(random);
+            (sheet::card_bytes(version, &refused), Some(plain::card_refusal(&refused)))
+        }
         _ => (bytes, Some(0)),
     }
 }
 
 /// The version, or in one of twelve cases an unknown one, and what is known then: 40, whatever else
-/// is wrong.
+/// is wrong. Seldom it is any known one.
 fn raw_version(random: &mut Random, version: u8, known: Known) -> (u8, Known) {
-    match random.one_in(12) {
-        true => (generate::unknown_version(random), Known::Refusal(40)),
-        false => (version, known),
+    match random.below(24) {
+        0 | 1 => (generate::unknown_version(random), Known::Refusal(40)),
+        2 => (generate::version(random), Known::Nothing),
+        _ => (version, known),
     }
 }
 
@@ -245,6 +262,14 @@ fn damaged_call(random: &mut Random, version: u8, call: &[u8], timestep: f64) ->
         3 => {
             let length = random.below(100) as usize;
             (garbage(random, length), false)
+        }
+        4 if call[0] == 1 => {
+            // A demand with a type of the other width.
+            match lists_services(version) {
+                true => drop(damaged.remove(1)),
+                false => damaged.insert(1, 0),
+            }
+            (damaged, true)
         }
         _ => {
             fields::break_call(random, version, &mut damaged, timestep);

@@ -48,7 +48,7 @@ fn replay() -> (PathBuf, PathBuf) {
         .status();
     assert!(made.expect("cc runs").success());
     let oracle = env!("CARGO_BIN_EXE_oracle");
-    let drawn = Command::new(oracle).arg("cases").arg(&cases).args(["--count", "2000"]).output();
+    let drawn = Command::new(oracle).arg("cases").arg(&cases).args(["--count", "10000"]).output();
     assert!(drawn.expect("it runs").status.success());
     (program, cases)
 }
@@ -88,6 +88,9 @@ fn the_driver_links_agrees_and_finds_faults() {
         "time-always",
         "any-class",
         "unlisted-served",
+        "own-services-early",
+        "own-services-33",
+        "own-services-stored",
         "reads-behind",
         "reads-before",
     ] {

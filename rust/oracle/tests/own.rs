@@ -1,10 +1,12 @@
 //! The independent entry on the caller's own record.
 
 use oracle::compare::{check_advance, Report};
+use oracle::faults::{Faulty, IN_OWN};
 use oracle::generate::{self, points_card};
 use oracle::model::{lists_services, Battery, VERSIONS};
 use oracle::own::{self, Record, Shown};
 use oracle::random::Random;
+use oracle::raw::{self, Calling};
 use oracle::{entries, plain, reading, sheet};
 
 const CLOSE: [u8; 1] = [5];
@@ -13,22 +15,6 @@ type Advance = fn(u8, &mut Record, &[u8]) -> Shown;
 
 fn advance(version: u8, record: &mut Record, call: &[u8]) -> Shown {
     own::advance(plain::step, version, record, call)
-}
-
-/// The record of a battery. Before version 3 its services hold anything, and so do the places above
-/// those that are listed.
-fn own_record(version: u8, battery: &Battery) -> Record {
-    let mut record = Record::from(battery);
-    let listed = match lists_services(version) {
-        true => usize::from(record.services),
-        false => 0,
-    };
-    if !lists_services(version) {
-        record.services = 0xee;
-    }
-    record.numbers[listed..].fill(4);
-    record.classes[listed..].fill(0xee);
-    record
 }
 
 #[test]
@@ -42,15 +28,15 @@ fn as_the_entry_on_bytes() {
         let call = sheet::call_bytes(version, &next);
         let mut bytes = sheet::battery_bytes(version, &battery);
         let mut line = vec![0; sheet::line_length(&call, card.layers)];
+        let before = bytes.clone();
         let refusal = entries::call(version, &mut bytes, &call, &mut line);
         let answer = reading::answer(card.layers, &line[2 + call.len()..]).expect("a line");
-        let mut record = own_record(version, &battery);
+        let mut record = Record::of_bytes(version, &before);
         let shown = advance(version, &mut record, &call);
         assert_eq!((shown.refusal, shown.substeps), (refusal, answer.substeps));
         assert_eq!((shown.energy, shown.time), (answer.energy, answer.time));
         assert_eq!((shown.mark == 1).then_some(shown.outlet), answer.outlet);
-        let after = reading::battery(version, &bytes).expect("an entry leaves a good battery");
-        assert_eq!(record.words(), own_record(version, &after).words());
+        assert_eq!(record.words(), Record::of_bytes(version, &bytes).words());
     }
 }
 
@@ -122,6 +108,33 @@ fn services_are_read_from_version_3_on() {
             assert_eq!(advance(version, &mut record, &CLOSE).refusal, due);
             assert_eq!(record.words(), before.words());
         }
+    }
+}
+
+/// On records and calls as the entries on bytes get them, damaged ones among them.
+fn compared(faulty: &Faulty) -> Report {
+    let (mut random, mut report) = (Random::new(23), Report::default());
+    let advance = |version, record: &mut Record, call: &[u8]| faulty.advance(version, record, call);
+    while report.inputs < 3000 {
+        let version = generate::version(&mut random);
+        let card = generate::card_of(&mut random, version);
+        let battery = generate::battery(&mut random, &card);
+        let Calling { version, record, call, .. } = raw::calling(&mut random, version, &battery);
+        let record = Record::of_bytes(version, &record);
+        check_advance(advance, plain::step, version, &record, &call, &mut report);
+    }
+    report
+}
+
+#[test]
+fn a_comparison_finds_every_fault() {
+    let report = compared(&Faulty::named(""));
+    assert!(report.is_clean(), "{report}");
+    for refusal in [0, 10, 20, 21, 22, 25, 40] {
+        assert!(report.count("advance", refusal) > 0, "{refusal}");
+    }
+    for (name, fault) in IN_OWN {
+        assert!(compared(&Faulty { fault }).disagreements > 0, "{name}");
     }
 }
 

@@ -1,13 +1,11 @@
 //! Vector files, stored and, with the published file, new ones, hold what the plain implementation
 //! answers too, and an altered one differs in one word.
 
-use oracle::model::{
-    Answer, Battery, Call, Card, Demand, Derived, Hydronic, State, Totals, VERSIONS,
-};
+use oracle::model::{Answer, Battery, Call, Card, Demand, Derived, Hydronic, State, Totals};
 use oracle::plain::{self, Charging, Exchanger, Mode, Salt, Substeps};
 use oracle::record::{read_all, Record};
 #[cfg(published)]
-use oracle::vectors;
+use oracle::{model::VERSIONS, vectors};
 use std::collections::{BTreeMap, BTreeSet};
 use std::fs;
 use std::path::{Path, PathBuf};

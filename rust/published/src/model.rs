@@ -176,7 +176,7 @@ impl Totals {
     }
 }
 
-#[derive(Clone, Debug)]
+#[derive(Clone, Debug, Default)]
 pub struct State {
     pub zones: Vec<f64>,
     pub totals: Totals,
