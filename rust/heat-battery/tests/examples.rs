@@ -116,8 +116,10 @@ fn hex_column(line: &str) -> Option<String> {
 #[test]
 fn the_format_page_is_right_about_lengths_and_damage() {
     use heat_battery::Kind;
-    let fields = Kind::ALL.map(|kind| kind.bytes() - 1);
-    assert_eq!(fields, [28, 16, 72, 0, 0, 0, 17]);
+    let fields = |version| Kind::ALL.map(|kind| kind.bytes(version) - 1);
+    assert_eq!(fields(Version::One), [28, 16, 72, 0, 0, 0, 17]);
+    assert_eq!(fields(Version::Two), fields(Version::One));
+    assert_eq!(fields(Version::Three), [29, 16, 72, 0, 0, 0, 17]);
     let mut bytes = fs::read(example("two-lines.sheet")).unwrap();
     let zone = bytes.len() - 41;
     assert_eq!(bytes[zone], 0x72);

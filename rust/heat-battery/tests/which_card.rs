@@ -5,7 +5,7 @@ mod common {
 }
 
 use common::command::{example, examples, run, run_with, Folder};
-use heat_battery::Card;
+use heat_battery::{Card, Service, ServiceClass, Version};
 use std::fs;
 
 const DAY: &str = "winter-day.sheet";
@@ -41,11 +41,14 @@ fn the_pages_have_the_fingerprint() {
 #[test]
 fn another_card_has_another_fingerprint() {
     let card = Card::example();
-    let bytes = card.to_bytes();
+    let services = vec![Service::new(12, ServiceClass::Space)];
+    let card = Card { services, ..card };
+    let version = Version::NEWEST;
+    let bytes = card.to_bytes(version).unwrap();
     for bit in 0..8 * bytes.len() {
-        let mut other = bytes;
+        let mut other = bytes.clone();
         other[bit / 8] ^= 1 << (bit % 8);
-        let Ok(other) = Card::from_bytes(&other) else { continue };
+        let Ok(other) = Card::from_bytes(version, &other) else { continue };
         assert_ne!(other.fingerprint(), card.fingerprint(), "bit {bit}");
     }
 }
@@ -61,7 +64,7 @@ fn audit_compares_with_the_card_expected() {
     // No answer depends on the budget here, so a sheet with another one is accepted.
     let other = Card { budget: 1001, ..Card::example() };
     let mut bytes = fs::read(&day).unwrap();
-    bytes[3..161].copy_from_slice(&other.to_bytes());
+    bytes[3..161].copy_from_slice(&other.to_bytes(Version::One).unwrap());
     let sheet = folder.write("sheet", &bytes);
     run(&["audit", &sheet]).assert_fine("an altered card");
     let ended = run(&["audit", &sheet, "--card", &card]);
