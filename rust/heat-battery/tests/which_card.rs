@@ -9,9 +9,14 @@ use heat_battery::{Card, Service, ServiceClass, Version};
 use std::fs;
 
 const DAY: &str = "winter-day.sheet";
-/// CRC-32 of bytes 3 to 160 of the example sheets, by another program (zlib).
-const FINGERPRINTS: [(&str, &str); 3] =
-    [(DAY, "3ce57cdf"), ("two-lines.sheet", "49f80dbf"), ("charging-loop.sheet", "2ef770a9")];
+/// CRC-32 of bytes 3 to 160 of the example sheets, that of services 3 to 170, by another program
+/// (zlib).
+const FINGERPRINTS: [(&str, &str); 4] = [
+    (DAY, "3ce57cdf"),
+    ("two-lines.sheet", "49f80dbf"),
+    ("charging-loop.sheet", "2ef770a9"),
+    ("services.sheet", "421f0a52"),
+];
 
 #[test]
 fn the_fingerprint_stands_beside_the_verdict() {
@@ -24,15 +29,17 @@ fn the_fingerprint_stands_beside_the_verdict() {
         let json = run(&["show", "--json", &example(sheet)]).out;
         assert!(json.contains(&format!("\n\"fingerprint\":\"{fingerprint}\",\n")));
     }
-    let checked = run(&["card", "check", &example("two-lines.card")]).out;
-    assert!(checked.contains("\ncard 49f80dbf\n"), "{checked}");
+    for (card, fingerprint) in [("two-lines.card", "49f80dbf"), ("services.card", "421f0a52")] {
+        let checked = run(&["card", "check", &example(card)]).out;
+        assert!(checked.contains(&format!("\ncard {fingerprint}\n")), "{checked}");
+    }
     assert_eq!(run_with(&["audit", "-"], &[1]).out, "refused 41 line 0\n", "no card to be read");
 }
 
 #[test]
 fn the_pages_have_the_fingerprint() {
     let page = fs::read_to_string(examples().join("../docs/FORMAT.md")).unwrap();
-    assert!(page.contains("`49f80dbf`") && page.contains("CRC-32"));
+    assert!(page.contains("`49f80dbf`") && page.contains("`421f0a52`") && page.contains("CRC-32"));
     let page = include_str!("../README.md");
     assert!(page.contains("card 3ce57cdf") && page.contains("CRC-32"));
 }

@@ -67,16 +67,17 @@ fn service_object(service: &Service) -> String {
     object([("number", number.to_string()), ("class", string(class.name()))])
 }
 
-/// The call's fields; behind those of a demand the class that its service has on the card.
+/// The call's fields; behind a demand's service the class that it has on the card.
 fn call_object(card: &Card, call: &Call) -> String {
-    let class = match call {
-        Call::Demand { service, .. } => Some(card.class(*service)),
-        _ => None,
-    };
-    let class = class.map(|class| class.map_or("null".into(), |class| string(class.name())));
     let fields = call.fields();
-    let members = fields.iter().map(|(field, one)| (field.name, value(one)));
-    object(members.chain(class.map(|class| ("service_class", class))))
+    object(fields.iter().flat_map(|(field, one)| {
+        let class = match one {
+            Value::Service(service) => Some(card.class(*service)),
+            _ => None,
+        };
+        let class = class.map(|class| class.map_or("null".into(), |class| string(class.name())));
+        [(field.name, value(one))].into_iter().chain(class.map(|class| ("service_class", class)))
+    }))
 }
 
 fn totals_object(totals: &Totals) -> String {

@@ -54,14 +54,18 @@ fn test_version(
         let words = format!("a sheet of version {version} has none, they are {later}");
         return Err(files::refused(card_path, format!("lists services ({services}); {words}")));
     }
-    match calls.iter().find(|listed| !listed.call.stands_in(version)) {
-        Some(ListedCall { line, call }) => {
-            let words = "has no service number above 3, they are";
-            let words = format!("a sheet of version {version} {words} {later}");
-            Err(files::refused(calls_path, format!("line {line} is '{call}'; {words}")))
+    for ListedCall { line, call } in calls {
+        match call {
+            Call::Demand { service, .. } if !call.stands_in(version) => {
+                let words =
+                    format!("a sheet of version {version} has none above 3, they are {later}");
+                let start = format!("line {line} is for service {service}");
+                return Err(files::refused(calls_path, format!("{start}; {words}")));
+            }
+            _ => {}
         }
-        None => Ok(()),
     }
+    Ok(())
 }
 
 fn test_paths(card: &OsStr, calls: &OsStr, out: &OsStr) -> Result<(), Failure> {
