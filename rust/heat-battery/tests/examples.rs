@@ -165,6 +165,7 @@ fn the_format_page_is_right_about_lengths_and_damage() {
     let with = |at: usize, byte: u8| [&bytes[..at], &[byte], &bytes[at + 1..]].concat();
     for (at, byte, verdict) in [
         (164, 0x03, "refused 43 line 1"),
+        (164, 0x01, "accepted 6"),
         (163, 0x03, "refused 41 line 0"),
         (161, 0x02, "refused 41 line 0"),
         (175, 0x0d, "refused 43 line 1"),
