@@ -122,7 +122,7 @@ fn one_line_is_a_line() {
     let folder = Folder::new("one");
     let calls = folder.write("calls", b"standing_loss\n");
     let ended = run(&["run", &salt(), &calls, "-o", &folder.path("sheet")]);
-    assert!(ended.err.starts_with("1 call, 0 refused: 1 line, 298 bytes, "), "{}", ended.err);
+    assert!(ended.err.starts_with("1 call, 0 refused: 1 line, 299 bytes, "), "{}", ended.err);
 }
 
 #[test]
