@@ -17,10 +17,43 @@ fn the_versions_are_the_oracles() {
     assert_eq!(Version::ALL.map(|version| version.number()), model::VERSIONS);
 }
 
+/// Demands for numbers above 3: answered ones by their class, refused ones and trials of a number
+/// that isn't listed.
+#[derive(Debug, Default)]
+struct Numbered {
+    listed: [u64; 3],
+    refused: u64,
+    tried: u64,
+}
+
+impl Numbered {
+    fn add(&mut self, card: &Card, call: &Call, answer: &Answer) {
+        let Call::Demand { service, commit, .. } = *call else { return };
+        if !service.is_numbered() {
+            return;
+        }
+        match (card.class(service), answer.refusal) {
+            (Some(class), None) => self.listed[usize::from(class.number()) - 1] += 1,
+            (None, Some(Refusal::NoService)) => self.refused += 1,
+            (None, None) if !commit && answer.substeps > 0 => self.tried += 1,
+            _ => {}
+        }
+        assert_eq!(card.unlisted(call).is_some(), card.class(service).is_none());
+    }
+
+    /// Each of them occurred, if there were many lists.
+    fn end(&self) {
+        let [regular, space, direct] = self.listed;
+        let least = [regular, space, direct, self.refused, self.tried].into_iter().min();
+        assert!(least > Some(lists() / 200), "{self:?}");
+    }
+}
+
 /// Lists from fresh batteries and from ones handed in: every answer, zone and total.
 #[test]
 fn answers_are_the_oracles() {
     let mut random = Random::new(1);
+    let mut numbered = Numbered::default();
     for _ in 0..lists() {
         let version = version(&mut random);
         let drawn = generate::card_of(&mut random, version.number());
@@ -29,12 +62,15 @@ fn answers_are_the_oracles() {
         for _ in 0..generate::list_length(&mut random) {
             let next = generate::next_call(&mut random, version.number(), &theirs);
             let (answer, after) = plain::step(version.number(), &theirs, &next);
-            let given = ours.answer(&call(version, &next)).expect("a call in range has a line");
+            let call = call(version, &next);
+            let given = ours.answer(&call).expect("a call in range has a line");
             assert_same(&given, &answer, &next);
             assert_eq!(ours.as_bytes(), sheet::battery_bytes(version.number(), &after));
+            numbered.add(ours.card(), &call, &given);
             theirs = after;
         }
     }
+    numbered.end();
 }
 
 /// Lists from fresh batteries on sheets: every byte, and the audit of what is written.

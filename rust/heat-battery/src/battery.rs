@@ -240,8 +240,11 @@ impl Battery {
     /// is in the answer.
     pub(crate) fn answer_on(&mut self, call: &Call, sheet: &mut [u8]) -> Result<Answer, Refusal> {
         let (version, record) = (self.version, self.record.as_mut());
-        let result =
-            call.with_bytes(version, |bytes| ffi::call(version.number(), record, bytes, sheet))?;
+        let result = call.with_bytes(
+            version,
+            |bytes| ffi::call(version.number(), record, bytes, sheet),
+            || Refusal::BadCall.number(),
+        );
         match Refusal::from_number(result) {
             Some(refusal) if !refusal.is_line() => Err(refusal),
             _ => self.read_answer(call, sheet).ok_or(Refusal::BadCall),

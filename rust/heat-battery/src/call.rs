@@ -317,20 +317,21 @@ impl Call {
     }
 
     /// Hands on the kind and the call fields as on a sheet of a version, where they were gathered:
-    /// a copy of them would cost more than they do. Refusal 10 where they can't stand there.
+    /// a copy of them would cost more than they do. The other where they can't stand there.
     #[inline]
     pub(crate) fn with_bytes<T>(
         &self,
         version: Version,
         take: impl FnOnce(&[u8]) -> T,
-    ) -> Result<T, Refusal> {
+        otherwise: impl FnOnce() -> T,
+    ) -> T {
         if !self.stands_in(version) {
-            return Err(Refusal::BadCall);
+            return otherwise();
         }
         let mut bytes = Buffer::<MOST_BYTES>::new();
         bytes.put([self.kind().number()]);
         self.each(|value| value.write(version, &mut bytes));
-        Ok(take(&bytes))
+        take(&bytes)
     }
 
     /// The kind and the call fields as on a sheet of a version. Refusal 10 for a service above 3
@@ -347,7 +348,7 @@ impl Call {
     /// # Ok::<(), Refusal>(())
     /// ```
     pub fn to_bytes(&self, version: Version) -> Result<Vec<u8>, Refusal> {
-        self.with_bytes(version, <[u8]>::to_vec)
+        self.with_bytes(version, |bytes| Ok(bytes.to_vec()), || Err(Refusal::BadCall))
     }
 
     /// A call of any numbers, as sheets of a version have it. Refusal 10 for an unknown kind,

@@ -35,6 +35,10 @@ pub struct Record {
     battery: ffi::Battery,
 }
 
+/// What is shown of a call that can't be made in the record's version.
+const BAD_CALL: ffi::Shown =
+    ffi::Shown { refusal: 10, mark: 0, substeps: 0, energy: 0.0, outlet: 0.0, time: 0.0 };
+
 impl Clone for Record {
     fn clone(&self) -> Record {
         let Record { version, battery } = *self;
@@ -152,7 +156,7 @@ impl Record {
     /// ```
     #[inline]
     pub fn advance(&mut self, call: &Call) -> Result<Answer, Refusal> {
-        let shown = self.entry(call)?;
+        let shown = self.entry(call);
         match Refusal::from_number(shown.refusal) {
             Some(refusal) => Err(refusal),
             None => Ok(self.shown(call, None, &shown)),
@@ -163,7 +167,7 @@ impl Record {
     /// an answer with its refusal, only 10 is an error.
     #[inline]
     pub fn answer(&mut self, call: &Call) -> Result<Answer, Refusal> {
-        let shown = self.entry(call)?;
+        let shown = self.entry(call);
         match Refusal::from_number(shown.refusal) {
             Some(refusal) if !refusal.is_line() => Err(refusal),
             refusal => Ok(self.shown(call, refusal, &shown)),
@@ -171,9 +175,13 @@ impl Record {
     }
 
     #[inline]
-    fn entry(&mut self, call: &Call) -> Result<ffi::Shown, Refusal> {
+    fn entry(&mut self, call: &Call) -> ffi::Shown {
         let Record { version, battery } = self;
-        call.with_bytes(*version, |bytes| ffi::advance(version.number(), battery, bytes))
+        call.with_bytes(
+            *version,
+            |bytes| ffi::advance(version.number(), battery, bytes),
+            || BAD_CALL,
+        )
     }
 
     /// The line's answer, with the battery as it is now.
