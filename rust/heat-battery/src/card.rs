@@ -210,19 +210,12 @@ impl Card {
     }
 
     /// Refusal 61: too many services, a number under 4, numbers that don't rise.
-    fn faults_of_services(&self) -> Vec<Fault> {
-        let fault = |service, words| Fault {
+    fn faults_of_services(&self) -> impl Iterator<Item = Fault> {
+        let faults = Service::faults(&self.services, self.services.len()).into_iter();
+        faults.map(|(service, words)| Fault {
             service,
             ..Fault::new("services", Refusal::BadServices, words)
-        };
-        let mut before = None;
-        let too_many = Service::too_many(self.services.len()).map(|words| fault(None, words));
-        let mut faults: Vec<Fault> = too_many.into_iter().collect();
-        for (at, service) in self.services.iter().enumerate() {
-            faults.extend(service.fault(before).map(|words| fault(Some(at), words)));
-            before = Some(service);
-        }
-        faults
+        })
     }
 
     /// The class of a service on this card: its own for regular, space and direct, the listed one

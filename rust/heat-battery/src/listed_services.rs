@@ -1,6 +1,6 @@
 //! The services of a card's text: a line `service 12 = space` for each.
 
-use crate::nearest::hint;
+use crate::nearest::{hint, nearest};
 use crate::parse::{cut, is_digits, quoted};
 use crate::refusal::Refusal;
 use crate::service::{Service, ServiceClass};
@@ -24,6 +24,14 @@ pub(crate) fn number_text(name: &str) -> Option<&str> {
     (rest.is_empty() || rest.starts_with(char::is_whitespace)).then(|| rest.trim())
 }
 
+/// The end of a message on a name that is no field, where a service was meant; empty elsewhere.
+pub(crate) fn meant_service(name: &str) -> &'static str {
+    match name.split_whitespace().next().and_then(|word| nearest(word, [WORD])) {
+        Some(_) => "; a service is listed as 'service 12 = space'",
+        None => "",
+    }
+}
+
 impl ListedServices {
     /// Takes a service from a line of the text; what is wrong with its number or its class.
     pub fn add(&mut self, line: usize, number: &str, class: &str) -> Vec<Slip> {
@@ -44,16 +52,12 @@ impl ListedServices {
 
     /// What is wrong with those that were taken and with how many were named, beside the slips of
     /// their own lines.
-    pub fn faults(&self) -> Vec<Slip> {
-        let too_many = Service::too_many(self.named).map(refused);
-        let mut slips: Vec<Slip> = too_many.into_iter().collect();
-        let mut before = None;
-        for (service, line) in self.services.iter().zip(&self.lines) {
-            let fault = service.fault(before).map(refused);
-            slips.extend(fault.map(|slip| Slip { line: Some(*line), ..slip }));
-            before = Some(service);
-        }
-        slips
+    pub fn faults(&self) -> impl Iterator<Item = Slip> + '_ {
+        let faults = Service::faults(&self.services, self.named).into_iter();
+        faults.map(|(at, words)| {
+            let line = at.and_then(|at| self.lines.get(at)).copied();
+            Slip { line, ..refused(words) }
+        })
     }
 }
 

@@ -153,10 +153,23 @@ impl Service {
         Service { number, class }
     }
 
-    /// Why it can't follow the one before it on a list, in words; None where it can.
-    pub(crate) fn fault(&self, before: Option<&Service>) -> Option<String> {
+    /// Why a list of services is refused, in words, each with the place of the service where it is
+    /// one's own; `count` is how many are listed.
+    pub(crate) fn faults(services: &[Service], count: usize) -> Vec<(Option<usize>, String)> {
+        let most = Service::MOST;
+        let too_many = format!("{count} services are listed, at most {most} may be");
+        let mut faults: Vec<_> = (count > most).then_some((None, too_many)).into_iter().collect();
+        let mut before = 0;
+        for (at, service) in services.iter().enumerate() {
+            faults.extend(service.fault_behind(before).map(|words| (Some(at), words)));
+            before = service.number;
+        }
+        faults
+    }
+
+    /// Why it can't stand behind another number on a list, in words; None where it can.
+    fn fault_behind(&self, before: u16) -> Option<String> {
         let number = self.number;
-        let before = before.map_or(0, |before| before.number);
         match number {
             ..Service::LEAST => {
                 let name = ServiceType::from_number(number);
@@ -168,12 +181,6 @@ impl Service {
             }
             _ => None,
         }
-    }
-
-    /// More services than a card may list, in words; None where there aren't more.
-    pub(crate) fn too_many(count: usize) -> Option<String> {
-        let most = Service::MOST;
-        (count > most).then(|| format!("{count} services are listed, at most {most} may be"))
     }
 }
 

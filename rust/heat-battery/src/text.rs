@@ -24,7 +24,7 @@
 use crate::call::{Call, Kind};
 use crate::card::Card;
 use crate::form::Form;
-use crate::listed_services::{number_text, ListedServices, WORD};
+use crate::listed_services::{meant_service, number_text, ListedServices, WORD};
 pub use crate::nearest::{hint, nearest};
 use crate::parse::quoted;
 use crate::refusal::Refusal;
@@ -92,7 +92,10 @@ pub fn card(text: &str) -> Result<ListedCard, Slips> {
             Some(service) => {
                 services.add(number, service, value).into_iter().for_each(|slip| slips.add(slip));
             }
-            None => form.fill(number, name, value).unwrap_or_else(|slip| slips.add(slip)),
+            None => form.fill(number, name, value).unwrap_or_else(|mut slip| {
+                slip.words.push_str(meant_service(name));
+                slips.add(slip);
+            }),
         }
     }
     if let Some(words) = form.missing() {
@@ -104,7 +107,7 @@ pub fn card(text: &str) -> Result<ListedCard, Slips> {
                 slips.add(Slip { line: Some(line), words, refusal: Some(Refusal::CardOutOfRange) });
             }
         }
-        services.faults().into_iter().for_each(|slip| slips.add(slip));
+        services.faults().for_each(|slip| slips.add(slip));
         return Err(slips);
     }
     let lines = form.filled().map(|(_, _, line)| line).collect();

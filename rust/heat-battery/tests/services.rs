@@ -545,6 +545,9 @@ fn faults_of_services_are_named_with_their_lines() {
     of("service x = space", "1: service 'x' is no whole number from 4 to 65535", None);
     of("service -4 = space", "1: service '-4' is no whole number from 4 to 65535", None);
     of("service 12 space", "1: 'service 12 space' is no 'name = value'", None);
+    let words = "is no field; a service is listed as 'service 12 = space'";
+    of("services 12 = space", &format!("1: 'services 12' {words}"), None);
+    of("Service 12 = space", &format!("1: 'Service 12' {words}"), None);
     // All of them at once.
     let all = "service 12 = space\nservice 3 = bath\nservice 12 = direct\nservice 70000 = space";
     let words = "\
