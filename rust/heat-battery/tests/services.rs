@@ -164,6 +164,25 @@ fn the_record_has_the_services() {
     assert_eq!(Battery::from_bytes(Version::Three, &bytes), Err(Refusal::BadBattery));
 }
 
+/// The longest card and the longest record.
+#[test]
+fn all_services_and_all_layers_have_room() {
+    let all: Vec<(u16, ServiceClass)> =
+        (0..32u16).map(|at| (4 + 2113 * at, ServiceClass::ALL[usize::from(at) % 3])).collect();
+    let card = Card { layers: 64, ..card(&all) };
+    let battery = Battery::open(&card).unwrap();
+    assert_eq!((card.bytes(Version::Three), battery.as_bytes().len()), (255, 255 + 512 + 40));
+    assert_eq!(Battery::from_bytes(Version::Three, battery.as_bytes()).as_ref(), Ok(&battery));
+    for (number, class) in &all {
+        let given = answer(&card, &demand(ServiceType::Numbered(*number), true));
+        let class = ServiceType::from_number(class.number().into());
+        assert_eq!(given, answer(&card, &demand(class, true)), "{number}");
+    }
+    let next = ServiceType::Numbered(all[31].0 + 1);
+    assert_eq!(answer(&card, &demand(next, true)).refusal, Some(Refusal::NoService));
+    assert_eq!(card.to_string().parse(), Ok(card));
+}
+
 #[test]
 fn a_sheet_has_the_services() {
     let card = card(&[(12, Space), (700, Direct)]);
