@@ -36,30 +36,43 @@ extern "C" {
 
    1 document 01's; an answered hydronic charge shows time 0
    2 it shows how long the pump of the charging loop ran, in seconds
+   3 as 2; a card lists services with numbers of their own, and the type of a
+     demand has two bytes
 
    Versions 1 and 2 share all lengths and records, so no entry can tell a call
-   that is given the wrong one of the two. */
+   that is given the wrong one of the two. No card or record of theirs has a
+   length that version 3 takes, and the other way round. */
 #define HEAT_BATTERY_OLDEST_VERSION 1
 #define HEAT_BATTERY_NEWEST_VERSION 3
 
 /* A card: layers (u8, 1..64), units (u16), simultaneous (u8), budget (u16),
    then 19 f64: substep s, timestep h, initial inlet, estimated outlet, max,
    ref, lower, upper, totals below, during, above, velocity, diameter, a, b,
-   flow, losses, start temperature, power. */
+   flow, losses, start temperature, power. In versions 1 and 2 that is all. */
 #define HEAT_BATTERY_CARD_LENGTH 158
+
+/* In version 3 the card's services follow: a count (u8), then for each a number
+   (u16) and its class (u8: 1 regular, 2 space, 3 direct). At most 32 are
+   accepted, with numbers from 4 up, each above the last. The length is that of
+   the count, whatever it is. By this much a card, a record and an opening of
+   version 3 are longer than HEAT_BATTERY_CARD_LENGTH, RECORD_LENGTH and
+   OPENING_LENGTH, which are those of versions 1 and 2. */
+#define HEAT_BATTERY_SERVICES_LENGTH(count) (1 + 3 * (size_t)(count))
 
 #define HEAT_BATTERY_MOST_LAYERS 64
 #define HEAT_BATTERY_MOST_SERVICES 32
 
 /* A battery record: the bytes of its card, then an f64 for each zone, then five
    f64: total, pump and direct running hours, charged total, charged electric.
-   The layers are the card's first byte. */
+   The layers are the card's first byte. In version 3 the services are part of
+   the card. */
 #define HEAT_BATTERY_RECORD_LENGTH(layers) (198 + 8 * (size_t)(layers))
 
 /* A call: its kind (u8), then its fields. Kinds and their lengths, the kind's
    byte included; the fields in order:
-   1 demand             type, commit, control on (u8 each), required kWh,
-                        start h, return mark (u8) and temperature
+   1 demand             type (u8, in version 3 u16), commit, control on (u8
+                        each), required kWh, start h, return mark (u8) and
+                        temperature
    2 electric charge    power kW, target 0..1
    3 hydronic charge    inlet, hours, flow, target, limit kWh, hex a, hex b,
                         velocity, diameter m
@@ -68,8 +81,13 @@ extern "C" {
    6 state of charge    none
    7 charge energy      mark (u8) and flow maximum, target
      demand
-   A mark is 0 with eight zero bytes after it, or 1 with an f64. */
+   A mark is 0 with eight zero bytes after it, or 1 with an f64.
+
+   Types: 0 combi, 1 regular, 2 space, 3 direct. In version 3 every number is in
+   range: above 3 it has the class that the card lists for it, and where it is
+   not listed it is taken as type 0. */
 #define HEAT_BATTERY_DEMAND_LENGTH 29
+#define HEAT_BATTERY_DEMAND_LENGTH_FROM_3 30 /* from version 3 on */
 #define HEAT_BATTERY_ELECTRIC_LENGTH 17
 #define HEAT_BATTERY_HYDRONIC_LENGTH 73
 #define HEAT_BATTERY_BARE_LENGTH 1 /* kinds 4, 5 and 6 */
@@ -77,7 +95,7 @@ extern "C" {
 #define HEAT_BATTERY_MOST_CALL_LENGTH 73
 
 /* What opening writes at the front of the free part: the version byte and line
-   0, which is the length 158 (u16) and the card. */
+   0, which is the card's length (u16) and the card. */
 #define HEAT_BATTERY_OPENING_LENGTH 161
 
 /* A call line: the length of what follows it (u16), the call's own bytes,
@@ -93,12 +111,13 @@ extern "C" {
 #define HEAT_BATTERY_LOWER_ABOVE_UPPER 2
 #define HEAT_BATTERY_MAX_TOO_LOW 3         /* max at most 20 */
 #define HEAT_BATTERY_NOTHING_TO_STORE 4    /* max below ref, or nearly equal */
-#define HEAT_BATTERY_BAD_SERVICES 61       /* of a card, after 4: more than 32 listed, numbers under 4 or
-                                              not rising, a class other than 1 to 3 */
+#define HEAT_BATTERY_BAD_SERVICES 61       /* of a card of version 3, after 4: more than 32 listed,
+                                              numbers under 4 or not rising, a class other than 1 to 3 */
 #define HEAT_BATTERY_BAD_CALL 10           /* or a bad record */
 #define HEAT_BATTERY_NO_ROOM 11
 #define HEAT_BATTERY_NO_RETURN 20          /* required above 1e-10, no return temperature */
-#define HEAT_BATTERY_NO_SERVICE 21         /* the same, committed, of type 0 */
+#define HEAT_BATTERY_NO_SERVICE 21         /* committed, required above 1e-10, of type 0, or of a number
+                                              that is not listed */
 #define HEAT_BATTERY_OVER_BUDGET 22        /* a substep after the card's budget */
 #define HEAT_BATTERY_NOT_FINITE 23         /* a zone, number or total is not finite */
 #define HEAT_BATTERY_NO_LOGARITHM 24       /* its argument is not positive, normal and finite */
@@ -110,9 +129,10 @@ extern "C" {
 /* Opens a sheet: writes the version and line 0 to the front of `sheet`, and a
    fresh battery to `record`. The bytes of `sheet` after them stay.
 
-   Refused with 40 for an unknown version; then with 1 to 4 for the card, in
-   this order; then with 10 if record_len is not the card's record length; then
-   with 11 if sheet_len is below 161. A refused opening writes nothing. */
+   Refused with 40 for an unknown version; then with 1 to 4 and 61 for the card,
+   in this order; then with 10 if record_len is not the card's record length;
+   then with 11 if sheet_len is below the opening's length, which is card_len
+   and 3. A refused opening writes nothing. */
 uint8_t heat_battery_open(uint8_t version,
                           const uint8_t *card, size_t card_len,
                           uint8_t *record, size_t record_len,
@@ -124,10 +144,10 @@ uint8_t heat_battery_open(uint8_t version,
    part after it, which starts at HEAT_BATTERY_LINE_LENGTH.
 
    Refused with 40 for an unknown version. Then with 10 if the record is not
-   one: shorter than a card, with a card that 1 to 4 refuse, of another length
-   than its card's, or with a zone or total that is not finite; or if the call
-   is not one: of an unknown kind, of another length than its kind's, with a
-   flag or mark other than 0 or 1, nonzero bytes under an absent mark, or a
+   one: shorter than a card, with a card that 1 to 4 or 61 refuse, of another
+   length than its card's, or with a zone or total that is not finite; or if the
+   call is not one: of an unknown kind, of another length than its kind's, with
+   a flag or mark other than 0 or 1, nonzero bytes under an absent mark, or a
    field not finite or out of range. Then with 11 if the line does not fit.
    These three write nothing.
 
@@ -179,9 +199,10 @@ struct heat_battery {
     /* the card's layers, or 10 */
     uint8_t count;
     double total, pump, direct, charged, electric;
-    /* read from version 3 on, never written; before, they may hold anything */
+    /* the card's services, how many; above 32 is 10. These three are read from
+       version 3 on and before may hold anything; they are never written */
     uint8_t services;
-    /* the first `services` of them; the places above may hold anything */
+    /* of the first `services`; the places above may hold anything */
     uint16_t numbers[HEAT_BATTERY_MOST_SERVICES];
     uint8_t classes[HEAT_BATTERY_MOST_SERVICES];
 };

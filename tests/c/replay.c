@@ -17,6 +17,7 @@ static FILE *file;
 static int at_start; /* the side of that page: 0 the end of what is lent, 1 its start */
 static uint8_t *rooms[3]; /* for the slices of a case */
 static unsigned long own_calls; /* on the caller's own record */
+static unsigned long listing_calls; /* of these, with a version from 3 on, in which it lists services */
 static uint8_t *page; /* for that record */
 
 static void read_bytes(void *to, size_t length) {
@@ -75,9 +76,35 @@ static double number_at(const uint8_t *bytes) {
     return number;
 }
 
-static void battery_from(struct heat_battery *b, const uint8_t *record) {
+/* The length of the card at the front of a record; 0 where it has none. */
+static size_t card_length(uint8_t version, const uint8_t *record, size_t length) {
+    if (version < 3)
+        return length < HEAT_BATTERY_CARD_LENGTH ? 0 : HEAT_BATTERY_CARD_LENGTH;
+    if (length <= HEAT_BATTERY_CARD_LENGTH)
+        return 0;
+    return HEAT_BATTERY_CARD_LENGTH + HEAT_BATTERY_SERVICES_LENGTH(record[HEAT_BATTERY_CARD_LENGTH]);
+}
+
+/* The list of a card of version 3, as far as there are places for it; what isn't read holds anything. */
+static void services_from(struct heat_battery *b, uint8_t version, const uint8_t *record) {
+    const uint8_t *entry = record + HEAT_BATTERY_CARD_LENGTH + 1;
+    memset(&b->services, 0xe7, 1);
+    memset(b->numbers, 0xe7, sizeof b->numbers);
+    memset(b->classes, 0xe7, sizeof b->classes);
+    if (version < 3)
+        return;
+    b->services = record[HEAT_BATTERY_CARD_LENGTH];
+    for (int i = 0; i < b->services && i < HEAT_BATTERY_MOST_SERVICES; i++, entry += 3) {
+        b->numbers[i] = (uint16_t)(entry[0] << 8 | entry[1]);
+        b->classes[i] = entry[2];
+    }
+}
+
+static void battery_from(struct heat_battery *b, uint8_t version, const uint8_t *record, size_t length) {
     double *card = &b->card.substep, *totals = &b->total;
+    const uint8_t *state = record + card_length(version, record, length);
     memset(b, 0, sizeof *b);
+    services_from(b, version, record);
     b->card.layers = record[0];
     b->card.units = (uint16_t)(record[1] << 8 | record[2]);
     b->card.simultaneous = record[3];
@@ -86,9 +113,9 @@ static void battery_from(struct heat_battery *b, const uint8_t *record) {
     for (int i = 0; i < 19; i++)
         card[i] = number_at(record + 6 + 8 * i);
     for (int i = 0; i < b->count; i++)
-        b->zones[i] = number_at(record + HEAT_BATTERY_CARD_LENGTH + 8 * i);
+        b->zones[i] = number_at(state + 8 * i);
     for (int i = 0; i < 5; i++)
-        totals[i] = number_at(record + HEAT_BATTERY_CARD_LENGTH + 8 * b->count + 8 * i);
+        totals[i] = number_at(state + 8 * b->count + 8 * i);
 }
 
 /* Places above the count may hold anything: NaNs with a payload, an infinity, -0. */
@@ -103,9 +130,9 @@ static void allow(int access) {
         ended("no such access to a page");
 }
 
-static int is_record(const uint8_t *record, size_t length) {
-    return length >= HEAT_BATTERY_CARD_LENGTH && record[0] <= 64
-        && length == HEAT_BATTERY_RECORD_LENGTH((size_t)record[0]);
+static int is_record(uint8_t version, const uint8_t *record, size_t length) {
+    size_t card = card_length(version, record, length);
+    return card > 0 && record[0] <= HEAT_BATTERY_MOST_LAYERS && length == card + 8 * (size_t)record[0] + 40;
 }
 
 static int same_battery(const struct heat_battery *x, const struct heat_battery *y) {
@@ -113,7 +140,8 @@ static int same_battery(const struct heat_battery *x, const struct heat_battery 
         && x->card.layers == y->card.layers && x->card.units == y->card.units
         && x->card.simultaneous == y->card.simultaneous && x->card.budget == y->card.budget
         && x->count == y->count && memcmp(x->zones, y->zones, sizeof x->zones) == 0
-        && memcmp(&x->total, &y->total, 5 * sizeof(double)) == 0;
+        && memcmp(&x->total, &y->total, 5 * sizeof(double)) == 0 && x->services == y->services
+        && memcmp(x->numbers, y->numbers, sizeof x->numbers) == 0 && memcmp(x->classes, y->classes, sizeof x->classes) == 0;
 }
 
 /* Whether an answer is the one on a line, whose refusal is at `line`; with 10 and 40 there is no line. */
@@ -132,13 +160,14 @@ static int same_answer(struct heat_battery_shown shown, uint8_t result, const ui
 static int own_record_agrees(uint8_t version, const uint8_t *before, size_t length, struct slice call, uint8_t result,
                              struct slice after, struct slice sheet) {
     struct heat_battery b, expected;
-    if (result == HEAT_BATTERY_NO_ROOM || !is_record(before, length))
+    if (result == HEAT_BATTERY_NO_ROOM || !is_record(version, before, length))
         return 1;
-    battery_from(&b, before);
-    battery_from(&expected, after.bytes);
+    battery_from(&b, version, before, length);
+    battery_from(&expected, version, after.bytes, length);
     fill_above(&b);
     fill_above(&expected);
     own_calls++;
+    listing_calls += version >= 3;
     struct heat_battery *own = (struct heat_battery *)(at_start ? page : page + PAGE - sizeof b);
     *own = b;
     allow(result == 0 ? PROT_READ | PROT_WRITE : PROT_READ); /* a refused call that stores anything ends the program */
@@ -204,7 +233,7 @@ static int replay(int entry) {
 
 static unsigned long replay_file(void) {
     unsigned long cases = 0, wrong = 0;
-    own_calls = 0;
+    own_calls = listing_calls = 0;
     rewind(file);
     for (int entry = getc(file); entry != EOF; entry = getc(file)) {
         int same = replay(entry);
@@ -212,8 +241,8 @@ static unsigned long replay_file(void) {
         if (!same && wrong++ < 20)
             printf("case %lu disagrees (entry %d)\n", cases, entry);
     }
-    printf("unreadable %s: %lu cases, %lu calls on the own record too, %lu disagree\n", at_start ? "before" : "behind", cases,
-           own_calls, wrong);
+    printf("unreadable %s: %lu cases, %lu calls on the own record too (%lu with services), %lu disagree\n",
+           at_start ? "before" : "behind", cases, own_calls, listing_calls, wrong);
     return wrong;
 }
 

@@ -75,14 +75,17 @@ static void stored(const char *name, struct room room) {
 /* A sheet of a version: a loss, a closing and a state of charge in turn, LINES in all. A call is lent what lies behind the
  * last line, or where its start is to lie against a page, room for its own line. */
 static void long_sheet(uint8_t version, const uint8_t *own_card) {
-    size_t line = HEAT_BATTERY_LINE_LENGTH(own_card[0], HEAT_BATTERY_BARE_LENGTH), size = HEAT_BATTERY_RECORD_LENGTH(own_card[0]);
-    size_t length = HEAT_BATTERY_OPENING_LENGTH + LINES * line;
+    static const uint8_t services[HEAT_BATTERY_SERVICES_LENGTH(2)] = {2, 0, 4, 1, 1, 0, 3}; /* 4 regular, 256 direct */
+    size_t listed = version < 3 ? 0 : sizeof services, card_size = HEAT_BATTERY_CARD_LENGTH + listed;
+    size_t size = HEAT_BATTERY_RECORD_LENGTH(own_card[0]) + listed, opening = HEAT_BATTERY_OPENING_LENGTH + listed;
+    size_t line = HEAT_BATTERY_LINE_LENGTH(own_card[0], HEAT_BATTERY_BARE_LENGTH), length = opening + LINES * line;
     struct room room = room_for(length), front = room_for(line);
-    uint8_t *sheet = lent(room, length), *end = sheet + length, *at = sheet + HEAT_BATTERY_OPENING_LENGTH;
-    uint8_t *card = lent(room_for(HEAT_BATTERY_CARD_LENGTH), HEAT_BATTERY_CARD_LENGTH), *record = lent(room_for(size), size);
+    uint8_t *sheet = lent(room, length), *end = sheet + length, *at = sheet + opening;
+    uint8_t *card = lent(room_for(card_size), card_size), *record = lent(room_for(size), size);
     uint8_t *kind = lent(room_for(1), 1);
     memcpy(card, own_card, HEAT_BATTERY_CARD_LENGTH);
-    if (heat_battery_open(version, card, HEAT_BATTERY_CARD_LENGTH, record, size, sheet, length) != HEAT_BATTERY_ANSWERED)
+    memcpy(card + HEAT_BATTERY_CARD_LENGTH, services, listed);
+    if (heat_battery_open(version, card, card_size, record, size, sheet, length) != HEAT_BATTERY_ANSWERED)
         ended("the card is refused");
     for (int i = 0; i < LINES; i++, at += line) {
         *kind = (uint8_t)(4 + i % 3);
@@ -113,7 +116,8 @@ int main(int argc, char **argv) {
             if (i == 1)
                 memcpy(card, kept + 3, sizeof card);
         }
-        long_sheet(at_start ? HEAT_BATTERY_NEWEST_VERSION : HEAT_BATTERY_OLDEST_VERSION, card);
+        for (int version = HEAT_BATTERY_OLDEST_VERSION; version <= HEAT_BATTERY_NEWEST_VERSION; version++)
+            long_sheet((uint8_t)version, card);
     }
     printf("%lu audits, %lu wrong\n", audits, wrong);
     return wrong != 0;

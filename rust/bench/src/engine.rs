@@ -3,16 +3,28 @@
 use heat_battery::{ffi, Record, Version};
 use oracle::model::{Battery, Call, Card};
 use oracle::sheet;
+use std::sync::OnceLock;
 
-/// The version that the rows run in: the first one, whose answers are the published Rust's alone.
-pub const VERSION: Version = Version::One;
+/// The version that the rows run in: the first one, whose answers are the published Rust's alone, or
+/// the one that the variable BENCH_VERSION names.
+pub fn version() -> Version {
+    static ASKED: OnceLock<Version> = OnceLock::new();
+    *ASKED.get_or_init(|| match std::env::var("BENCH_VERSION") {
+        Ok(number) => {
+            let known = number.parse().ok().and_then(Version::from_number);
+            known.unwrap_or_else(|| panic!("BENCH_VERSION is one of {}", Version::known()))
+        }
+        Err(_) => Version::One,
+    })
+}
 
 fn calls_bytes(calls: &[Call]) -> Vec<Vec<u8>> {
-    calls.iter().map(sheet::call_bytes).collect()
+    calls.iter().map(|call| sheet::call_bytes(version().number(), call)).collect()
 }
 
 /// A battery and a list of calls, on the caller's own record, by heat_battery_advance.
 pub struct Engine {
+    version: u8,
     battery: ffi::Battery,
     zones: Vec<f64>,
     totals: [f64; 5],
@@ -35,8 +47,12 @@ impl Engine {
             zones: [0.0; heat_battery::MOST_LAYERS],
             count: card.layers,
             totals,
+            services: 0,
+            numbers: [0; ffi::MOST_SERVICES],
+            classes: [0; ffi::MOST_SERVICES],
         };
-        Engine { battery, zones, totals, calls: calls_bytes(calls) }
+        let version = version().number();
+        Engine { version, battery, zones, totals, calls: calls_bytes(calls) }
     }
 
     /// The list, the state written back first: the sum of energies, refusals and the first zone, and the substeps.
@@ -45,7 +61,7 @@ impl Engine {
         self.battery.zones[..self.zones.len()].copy_from_slice(&self.zones);
         self.battery.totals = self.totals;
         for call in &self.calls {
-            let shown = ffi::advance(VERSION.number(), &mut self.battery, call);
+            let shown = ffi::advance(self.version, &mut self.battery, call);
             sum = sum + shown.energy + f64::from(shown.refusal);
             substeps += u64::from(shown.substeps);
         }
@@ -62,9 +78,10 @@ pub struct Crate {
 
 impl Crate {
     pub fn new(battery: &Battery, calls: &[Call]) -> Self {
-        let bytes = sheet::battery_bytes(battery);
-        let start = heat_battery::Battery::from_bytes(VERSION, &bytes).expect("a good battery");
-        let read = |call: &Vec<u8>| heat_battery::Call::from_bytes(call).expect("a call");
+        let version = version();
+        let bytes = sheet::battery_bytes(version.number(), battery);
+        let start = heat_battery::Battery::from_bytes(version, &bytes).expect("a good battery");
+        let read = |call: &Vec<u8>| heat_battery::Call::from_bytes(version, call).expect("a call");
         let start = Record::from(&start);
         let calls = calls_bytes(calls).iter().map(read).collect();
         Crate { record: start.clone(), start, calls }
@@ -86,6 +103,7 @@ impl Crate {
 
 /// A list of calls from a fresh battery, on bytes, with its sheet.
 pub struct Day {
+    version: u8,
     card: Vec<u8>,
     calls: Vec<Vec<u8>>,
     record: Vec<u8>,
@@ -94,15 +112,12 @@ pub struct Day {
 
 impl Day {
     pub fn new(card: &Card, calls: &[Call]) -> Self {
-        let calls = calls_bytes(calls);
-        let lines: usize =
-            calls.iter().map(|call| 2 + call.len() + sheet::answer_length(card.layers)).sum();
-        Day {
-            card: sheet::card_bytes(card),
-            calls,
-            record: vec![0; sheet::record_length(card.layers)],
-            sheet: vec![0; sheet::OPENING_BYTES + lines],
-        }
+        let (version, calls) = (version().number(), calls_bytes(calls));
+        let lines: usize = calls.iter().map(|call| sheet::line_length(call, card.layers)).sum();
+        let card = sheet::card_bytes(version, card);
+        let record = vec![0; sheet::record_length(&card)];
+        let sheet = vec![0; sheet::opening_length(&card) + lines];
+        Day { version, card, calls, record, sheet }
     }
 
     pub fn lines(&self) -> usize {
@@ -111,12 +126,12 @@ impl Day {
 
     /// Opens the sheet and writes every line: the last result.
     pub fn write(&mut self) -> u8 {
-        let Day { card, calls, record, sheet } = self;
+        let Day { version, card, calls, record, sheet } = self;
         let answer = record.len() - card.len() + sheet::ANSWER_HEAD_BYTES;
-        let mut result = ffi::open(VERSION.number(), card, record, sheet);
-        let mut free = &mut sheet[sheet::OPENING_BYTES..];
+        let mut result = ffi::open(*version, card, record, sheet);
+        let mut free = &mut sheet[sheet::opening_length(card)..];
         for call in calls.iter() {
-            result = ffi::call(VERSION.number(), record, call, free);
+            result = ffi::call(*version, record, call, free);
             free = &mut free[2 + call.len() + answer..];
         }
         result

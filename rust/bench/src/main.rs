@@ -3,12 +3,14 @@
 //!
 //!   bench                       every row: substeps per second and ratios; then the audit
 //!   bench ROW CONTENDER ROUNDS  that many rounds of one row, for callgrind
+//!
+//! All in version 1, or in the one that the variable BENCH_VERSION names.
 
 mod engine;
 mod plain_c;
 mod rows;
 
-use engine::{Crate, Day, Engine, VERSION};
+use engine::{version, Crate, Day, Engine};
 use oracle::entries::{self, BEST};
 use oracle::model::{Battery, Call, Card, Demand, Hydronic, State, Totals};
 use plain_c::PlainC;
@@ -48,7 +50,7 @@ fn oracle_call(call: &[f64; 10]) -> Call {
     let [kind, p, q, r, s, t, u, v, w, x] = *call;
     match kind as u8 {
         1 => Call::Demand(Demand {
-            service_type: p as u8,
+            service_type: p as u16,
             commit: q as u8,
             control_on: r as u8,
             required: s,
@@ -79,7 +81,7 @@ fn oracle_list(step: entries::Step, start: &Battery, calls: &[Call]) -> (f64, u6
     let (mut sum, mut substeps) = (0.0, 0);
     let mut battery = start.clone();
     for call in calls {
-        let (answer, after) = step(VERSION.number(), &battery, call);
+        let (answer, after) = step(version().number(), &battery, call);
         sum = sum + answer.energy + f64::from(answer.refusal);
         substeps += u64::from(answer.substeps);
         battery = after;
@@ -206,10 +208,10 @@ fn day(row: &Row) -> Day {
     let mut day = Day::new(&card, &calls);
     day.write();
     let mut battery = Battery::fresh(&card);
-    let mut sheet = oracle::sheet::opening(VERSION.number(), &card);
+    let mut sheet = oracle::sheet::opening(version().number(), &card);
     for call in &calls {
-        let (answer, after) = BEST(VERSION.number(), &battery, call);
-        sheet.extend(oracle::sheet::call_line(call, &answer));
+        let (answer, after) = BEST(version().number(), &battery, call);
+        sheet.extend(oracle::sheet::call_line(version().number(), call, &answer));
         battery = after;
     }
     assert!(day.sheet == sheet, "{}: the sheet is not the judge's", row.name);

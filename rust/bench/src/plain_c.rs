@@ -39,7 +39,7 @@ impl Drop for PlainC {
 #[cfg(test)]
 mod tests {
     use super::PlainC;
-    use crate::engine::VERSION;
+    use crate::engine::version;
     use crate::{oracle_battery, oracle_call, oracle_list};
     use oracle::entries::BEST;
     use oracle::generate;
@@ -61,7 +61,8 @@ mod tests {
     fn numbers(call: &Call) -> Option<[f64; 10]> {
         let numbers = match call {
             Call::Demand(d) => {
-                let flags = [1, d.service_type, d.commit, d.control_on].map(f64::from);
+                let flags =
+                    [1, d.service_type, d.commit.into(), d.control_on.into()].map(f64::from);
                 let Demand { required, start, return_temperature, .. } = *d;
                 let mark = f64::from(u8::from(return_temperature.is_some()));
                 [&flags[..], &[required, start, mark, return_temperature.unwrap_or(0.0)]].concat()
@@ -83,9 +84,12 @@ mod tests {
         let mut battery = from.clone();
         let (mut calls, mut rows) = (vec![], vec![]);
         for _ in 0..generate::list_length(random) {
-            let Some(row) = numbers(&generate::next_call(random, &battery)) else { continue };
+            let Some(row) = numbers(&generate::next_call(random, version().number(), &battery))
+            else {
+                continue;
+            };
             let call = oracle_call(&row);
-            let (answer, after) = BEST(VERSION.number(), &battery, &call);
+            let (answer, after) = BEST(version().number(), &battery, &call);
             if answer.refusal != 0 {
                 break;
             }

@@ -9,27 +9,29 @@ pub fn version(random: &mut Random) -> Version {
     Version::from_number(generate::version(random)).expect("a known version")
 }
 
-pub fn card(card: &model::Card) -> Card {
-    let bytes = sheet::card_bytes(card);
-    let read = Card::from_bytes(&bytes).expect("an accepted card");
-    assert_eq!(read.to_bytes().as_slice(), bytes);
+pub fn card(version: Version, card: &model::Card) -> Card {
+    let bytes = sheet::card_bytes(version.number(), card);
+    let read = Card::from_bytes(version, &bytes).expect("an accepted card");
+    assert_eq!(read.to_bytes(version).expect("a card of the version"), bytes);
+    assert_eq!(read.bytes(version), bytes.len());
     read
 }
 
-pub fn call(call: &model::Call) -> Call {
-    let bytes = sheet::call_bytes(call);
-    let read = Call::from_bytes(&bytes).expect("a call in range");
-    assert_eq!(read.to_bytes(), bytes);
+pub fn call(version: Version, call: &model::Call) -> Call {
+    let bytes = sheet::call_bytes(version.number(), call);
+    let read = Call::from_bytes(version, &bytes).expect("a call in range");
+    assert_eq!(read.to_bytes(version).expect("a call of the version"), bytes);
+    assert_eq!(read.kind().bytes(version), bytes.len());
     read
 }
 
 /// The battery by its state and by its bytes, which are the same.
 pub fn battery(version: Version, battery: &model::Battery) -> Battery {
     let totals = Totals::from_numbers(battery.state.totals.numbers());
-    let card = card(&battery.card);
+    let card = card(version, &battery.card);
     let read = Battery::with_state(version, &card, &battery.state.zones, &totals);
     let read = read.expect("a good battery");
-    let bytes = sheet::battery_bytes(battery);
+    let bytes = sheet::battery_bytes(version.number(), battery);
     assert_eq!(read.as_bytes(), bytes);
     let again = Battery::from_bytes(version, &bytes).expect("a good battery");
     assert_eq!(again.as_bytes(), bytes);

@@ -60,7 +60,7 @@ fn random_sheets_are_drawn() {
     let mut random = Random::new(22);
     for _ in 0..60 {
         let version = generate::version(&mut random);
-        let card = generate::card(&mut random);
+        let card = generate::card_of(&mut random, version);
         let sheet = damage::write(&mut random, version, &card, 20, 60_000).bytes;
         assert_ends(&folder, &sheet, true);
     }

@@ -63,13 +63,17 @@ fn short_at(bytes: &[u8], at: usize) -> u16 {
 const ABOVE: [u64; 4] =
     [0x7ff0_0000_0000_0001, 0xfff8_dead_0000_beef, 0x7ff0_0000_0000_0000, 0x8000_0000_0000_0000];
 
-/// The record of any bytes that are as long as a record of their first byte, up to 64 layers.
-fn own(bytes: &[u8]) -> Option<ffi::Battery> {
+/// The record of any bytes that are as long as a record of their first byte, up to 64 layers, and of
+/// their count of services.
+fn own(version: u8, bytes: &[u8]) -> Option<ffi::Battery> {
     let layers = *bytes.first().filter(|layers| **layers <= 64)?;
-    if bytes.len() != sheet::record_length(layers) {
+    let front = sheet::card_in_front(version, bytes)?;
+    if bytes.len() != sheet::record_length(front) {
         return None;
     }
-    let mut numbers = bytes[6..].chunks_exact(8).map(number_at);
+    let (services, listed, classes) = own_services(&front[sheet::CARD_BYTES..]);
+    let numbers = [&bytes[6..sheet::CARD_BYTES], &bytes[front.len()..]].concat();
+    let mut numbers = numbers.chunks_exact(8).map(number_at);
     let mut next = || numbers.next().expect("a number");
     let card = ffi::Card {
         layers,
@@ -80,7 +84,23 @@ fn own(bytes: &[u8]) -> Option<ffi::Battery> {
     };
     let above = |k: usize| f64::from_bits(ABOVE[k % ABOVE.len()]);
     let zones = std::array::from_fn(|k| if k < usize::from(layers) { next() } else { above(k) });
-    Some(ffi::Battery { card, zones, count: layers, totals: std::array::from_fn(|_| next()) })
+    let totals = std::array::from_fn(|_| next());
+    Some(ffi::Battery { card, zones, count: layers, totals, services, numbers: listed, classes })
+}
+
+type OwnServices = (u8, [u16; ffi::MOST_SERVICES], [u8; ffi::MOST_SERVICES]);
+
+/// A count and its services, as far as there are places; what no version reads may be anything.
+fn own_services(bytes: &[u8]) -> OwnServices {
+    let above = |k: usize| [0, 3, 4, 40_000, 65_535][k % 5];
+    let mut numbers = std::array::from_fn(above);
+    let mut classes = std::array::from_fn(|k| above(k) as u8);
+    let Some((count, entries)) = bytes.split_first() else { return (77, numbers, classes) };
+    let places = numbers.iter_mut().zip(&mut classes);
+    for ((number, class), entry) in places.zip(entries.chunks_exact(sheet::SERVICE_BYTES)) {
+        (*number, *class) = (short_at(entry, 0), entry[2]);
+    }
+    (*count, numbers, classes)
 }
 
 /// Every bit of a record.
@@ -88,7 +108,11 @@ fn record_bits(battery: &ffi::Battery) -> Vec<u64> {
     let ffi::Card { layers, units, simultaneous, budget, numbers } = battery.card;
     let counts = [layers.into(), units.into(), simultaneous.into(), budget.into()];
     let floats = numbers.iter().chain(&battery.zones).chain(&battery.totals).map(|x| x.to_bits());
-    counts.into_iter().chain([u64::from(battery.count)]).chain(floats).collect()
+    let ffi::Battery { count, services, numbers, classes, .. } = battery;
+    let listed = numbers.iter().map(|number| u64::from(*number));
+    let classes = classes.iter().map(|class| u64::from(*class));
+    let counts = counts.into_iter().chain([count, services].map(|count| u64::from(*count)));
+    counts.chain(floats).chain(listed).chain(classes).collect()
 }
 
 /// Refusal, energy, outlet's mark, outlet, time and substeps of a line, as on the sheet.
@@ -106,7 +130,7 @@ fn shown_bytes(shown: &ffi::Shown) -> Vec<u8> {
 /// The two entries on one record and call: their refusal, and the record that they left. None
 /// where the bytes are of no record's length.
 fn compare(version: u8, record: &[u8], call: &[u8]) -> Option<(u8, Vec<u8>)> {
-    let mut ours = own(record)?;
+    let mut ours = own(version, record)?;
     let mut record = record.to_vec();
     let mut line = vec![0; 2 + call.len() + sheet::answer_length(ours.count)];
     let result = ffi::call(version, &mut record, call, &mut line);
@@ -116,7 +140,7 @@ fn compare(version: u8, record: &[u8], call: &[u8]) -> Option<(u8, Vec<u8>)> {
         _ => line[2 + call.len()..][..sheet::ANSWER_HEAD_BYTES].to_vec(),
     };
     assert_eq!(shown_bytes(&shown), head, "{version} {record:?} {call:?}");
-    let after = own(&record).expect("a record of the same length");
+    let after = own(version, &record).expect("a record of the same length");
     assert_eq!(record_bits(&ours), record_bits(&after), "{version} {record:?} {call:?}");
     Some((result, record))
 }
@@ -133,15 +157,16 @@ fn the_two_entries_agree_on_any_bytes() {
     let mut counts = Counts::default();
     while counts.all() < calls() {
         let version = generate::version(&mut random);
-        let card = generate::card(&mut random);
+        let card = generate::card_of(&mut random, version);
         let mut theirs = generate::battery(&mut random, &card);
         for _ in 0..generate::list_length(&mut random) {
-            let raw::Calling { version, record, call, .. } =
-                raw::calling(&mut random, version, &theirs);
-            let Some((refusal, after)) = compare(version, &record, &call) else { continue };
+            let drawn = raw::calling(&mut random, version, &theirs);
+            let Some((refusal, after)) = compare(drawn.version, &drawn.record, &drawn.call) else {
+                continue;
+            };
             counts.add(refusal);
             // A list goes on from its last good battery.
-            theirs = reading::battery(&after).unwrap_or(theirs);
+            theirs = reading::battery(version, &after).unwrap_or(theirs);
         }
     }
     counts.end("the C entries", &[&REFUSALS[..], &[40]].concat());
@@ -151,13 +176,15 @@ fn the_two_entries_agree_on_any_bytes() {
 #[test]
 fn another_count_is_refused() {
     let card = generate::points_card();
-    let bytes = sheet::battery_bytes(&oracle::model::Battery::fresh(&card));
-    for count in (0..=255).filter(|count| *count != card.layers) {
-        let mut battery = own(&bytes).expect("a record");
-        battery.count = count;
-        let before = record_bits(&battery);
-        assert_eq!(ffi::advance(Version::NEWEST.number(), &mut battery, &[4]), refused(10));
-        assert_eq!(record_bits(&battery), before);
+    for version in Version::ALL.map(|version| version.number()) {
+        let bytes = sheet::battery_bytes(version, &oracle::model::Battery::fresh(&card));
+        for count in (0..=255).filter(|count| *count != card.layers) {
+            let mut battery = own(version, &bytes).expect("a record");
+            battery.count = count;
+            let before = record_bits(&battery);
+            assert_eq!(ffi::advance(version, &mut battery, &[4]), refused(10));
+            assert_eq!(record_bits(&battery), before);
+        }
     }
 }
 
@@ -191,28 +218,30 @@ fn a_record_answers_as_a_battery() {
     let mut counts = Counts::default();
     while counts.all() < calls() {
         let version = version(&mut random);
-        let card = generate::card(&mut random);
+        let card = generate::card_of(&mut random, version.number());
         let theirs = generate::battery(&mut random, &card);
         let mut ours = battery(version, &theirs);
         let mut record = Record::from(&ours);
-        assert_eq!(record.card().to_bytes(), ours.card().to_bytes());
+        assert_eq!(record.card().to_bytes(version), ours.card().to_bytes(version));
         for _ in 0..generate::list_length(&mut random) {
-            let now = reading::battery(ours.as_bytes()).expect("a good battery");
+            let now = reading::battery(version.number(), ours.as_bytes());
+            let now = now.expect("a good battery");
             let drawn = raw::calling(&mut random, version.number(), &now).call;
-            let Ok(call) = Call::from_bytes(&drawn) else { continue };
+            let Ok(call) = Call::from_bytes(version, &drawn) else { continue };
             counts.add(call_both(&mut record, &mut ours, &call));
         }
     }
     counts.end("Record and Battery", &REFUSALS);
 }
 
-/// `clone_from` leaves what `clone` gives, in all 64 places, whatever the layers of either record.
+/// `clone_from` leaves what `clone` gives, in all 64 places and all 32 of the services, whatever the
+/// layers and services of either record.
 #[test]
 fn a_record_goes_back() {
     let mut random = random();
     let mut draw = || {
         let version = version(&mut random);
-        let card = generate::card(&mut random);
+        let card = generate::card_of(&mut random, version.number());
         Record::from(&battery(version, &generate::battery(&mut random, &card)))
     };
     let mut record = draw();
@@ -223,14 +252,15 @@ fn a_record_goes_back() {
     }
 }
 
-/// Refusals 1 to 4 as for a battery, and the fresh one.
+/// Refusals 1 to 4 and 61 as for a battery, and the fresh one.
 #[test]
 fn a_record_opens_as_a_battery() {
     let mut random = random();
     for _ in 0..calls() {
-        let drawn = sheet::card_bytes(&generate::any_card(&mut random));
-        let Ok(card) = heat_battery::Card::from_bytes(&drawn) else { continue };
         let version = version(&mut random);
+        let drawn = generate::any_card_of(&mut random, version.number());
+        let drawn = sheet::card_bytes(version.number(), &drawn);
+        let Ok(card) = heat_battery::Card::from_bytes(version, &drawn) else { continue };
         let opened = Record::open_as(version, &card).map(|record| Battery::from(&record));
         let expected: Result<Battery, Refusal> = Battery::open_as(version, &card);
         let bytes = |battery: Result<Battery, Refusal>| {

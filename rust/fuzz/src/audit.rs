@@ -10,7 +10,7 @@ use oracle::entries;
 use oracle::generate;
 use oracle::model::{is_known, VERSIONS};
 use oracle::random::Random;
-use oracle::sheet::{self, OPENING_BYTES};
+use oracle::sheet;
 
 pub fn check(bytes: &[u8], report: &mut Report) {
     let input = apart(bytes);
@@ -24,11 +24,12 @@ pub fn check(bytes: &[u8], report: &mut Report) {
 /// Version, card and calls of a sheet, as far as its lines have a kind and a length.
 fn apart(sheet: &[u8]) -> Input {
     let version = sheet.first().copied().unwrap_or(0);
-    let (opening, mut lines) = sheet.split_at(sheet.len().min(OPENING_BYTES));
-    let card = opening.get(3..).unwrap_or_default().to_vec();
+    let rest = sheet.get(3..).unwrap_or_default();
+    let (card, mut lines) =
+        rest.split_at(sheet::card_in_front(version, rest).map_or(rest.len(), <[u8]>::len));
     let layers = card.first().copied().unwrap_or(1);
-    let mut input = Input { version, card, record: 0, room: 0, calls: Vec::new() };
-    while let Some(length) = lines.get(2).and_then(|kind| sheet::call_length(*kind)) {
+    let mut input = Input { version, card: card.to_vec(), record: 0, room: 0, calls: Vec::new() };
+    while let Some(length) = lines.get(2).and_then(|kind| sheet::call_length(version, *kind)) {
         let Some(call) = lines.get(2..2 + length) else { break };
         input.calls.push(change::called(call.to_vec(), layers));
         lines = lines.get(2 + length + sheet::answer_length(layers)..).unwrap_or_default();
@@ -40,12 +41,12 @@ fn apart(sheet: &[u8]) -> Input {
 /// with 10 have no line.
 fn written(input: &Input) -> Vec<u8> {
     let version = if is_known(input.version) { input.version } else { VERSIONS[0] };
-    let battery = change::battery(&input.card);
-    let mut record = sheet::battery_bytes(&battery);
+    let battery = change::battery(version, &input.card);
+    let mut record = sheet::battery_bytes(version, &battery);
     let mut bytes = sheet::opening(version, &battery.card);
     for called in input.calls.iter().take(change::affordable(input)) {
         let used = bytes.len();
-        bytes.resize(used + change::line_length(&called.call, battery.card.layers), 0);
+        bytes.resize(used + sheet::line_length(&called.call, battery.card.layers), 0);
         let result = entries::call(version, &mut record, &called.call, &mut bytes[used..]);
         if result == 10 || result == 11 {
             bytes.truncate(used);
@@ -62,8 +63,8 @@ pub fn mutate(random: &mut Random, bytes: &[u8], most: usize) -> Vec<u8> {
     }
     let mut input = apart(bytes);
     match way {
-        2 => change::card(random, &mut input.card),
-        3 => input.version = generate::version(random),
+        2 => change::card(random, input.version, &mut input.card),
+        3 => change::turn(&mut input, generate::version(random)),
         _ => change::one_call(random, &mut input),
     }
     let sheet = written(&input);

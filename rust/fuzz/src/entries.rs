@@ -6,12 +6,10 @@ use crate::input::{filled, Input};
 use crate::tested;
 use oracle::compare::{check_advance, check_call, check_open, Report};
 use oracle::generate::points_card;
-use oracle::model::{Battery, State, Totals};
-use oracle::own::{Record, MOST_LAYERS};
+use oracle::own::Record;
 use oracle::random::Random;
 use oracle::raw::{Calling, Known, Opening};
-use oracle::reading;
-use oracle::sheet::{self, CARD_BYTES};
+use oracle::sheet;
 
 pub fn check(bytes: &[u8], report: &mut Report) {
     let input = Input::read(bytes);
@@ -24,13 +22,14 @@ pub fn check(bytes: &[u8], report: &mut Report) {
         known: Known::Nothing,
     };
     check_open(&library, &opening, report);
-    let mut battery = change::battery(&input.card);
+    let mut battery = change::battery(version, &input.card);
     let calls = change::affordable(&input);
     for called in input.calls.into_iter().take(calls) {
         let handed_in = !called.record.is_empty();
-        let record = if handed_in { called.record } else { sheet::battery_bytes(&battery) };
+        let left = || sheet::battery_bytes(version, &battery);
+        let record = if handed_in { called.record } else { left() };
         let count = u8::try_from(called.count).unwrap_or(u8::MAX);
-        let own = own(&record, count);
+        let own = own(version, &record, count);
         check_advance(tested::advance, step, version, &own, &called.call, report);
         let sheet = filled(called.room);
         let calling = Calling { version, record, call: called.call, sheet, known: Known::Nothing };
@@ -38,29 +37,9 @@ pub fn check(bytes: &[u8], report: &mut Report) {
     }
 }
 
-/// The caller's own record of a record's bytes; what they lack is 0. Places above the count have
-/// NaNs of their own, which must stay.
-fn own(bytes: &[u8], count: u8) -> Record {
-    let mut whole = bytes.to_vec();
-    whole.resize(bytes.len().max(CARD_BYTES), 0);
-    let card = reading::card(&whole[..CARD_BYTES]).expect("a card's length");
-    let mut numbers = whole[CARD_BYTES..]
-        .chunks_exact(8)
-        .map(|eight| f64::from_bits(u64::from_be_bytes(eight.try_into().expect("eight bytes"))));
-    let layers = usize::from(card.layers).min(MOST_LAYERS);
-    let zones = numbers.by_ref().take(layers).collect();
-    let mut total = || numbers.next().unwrap_or(0.0);
-    let totals = Totals {
-        running_hours: total(),
-        pump_hours: total(),
-        direct_hours: total(),
-        charged: total(),
-        charged_electric: total(),
-    };
-    let mut record = Record::from(&Battery { card, state: State { zones, totals } });
-    for (at, place) in record.zones.iter_mut().enumerate().skip(layers) {
-        *place = f64::from_bits(0x7ff8_0000_0000_0000 | at as u64);
-    }
+/// The caller's own record of a record's bytes, with a count where it isn't 0.
+fn own(version: u8, bytes: &[u8], count: u8) -> Record {
+    let mut record = Record::of_bytes(version, bytes);
     if count != 0 {
         record.count = count;
     }
@@ -74,7 +53,7 @@ pub fn mutate(random: &mut Random, bytes: &[u8], most: usize) -> Vec<u8> {
     }
     let mut input = Input::read(bytes);
     if input.card.is_empty() {
-        input.card = sheet::card_bytes(&points_card());
+        input.card = sheet::card_bytes(input.version, &points_card());
     }
     for _ in 0..1 + random.below(3) {
         change::input(random, &mut input);

@@ -7,7 +7,7 @@
 //! early stand for zeros and for slices that are cut; what stands after 24 calls is left out.
 
 /// The most bytes of a record or sheet that are lent.
-const MOST_LENT: u16 = 1024;
+const MOST_LENT: u16 = 2048;
 /// The most calls of a list.
 pub const MOST_CALLS: usize = 24;
 

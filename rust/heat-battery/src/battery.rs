@@ -12,10 +12,16 @@ use crate::refusal::Refusal;
 use crate::version::Version;
 use std::fmt;
 
-/// Version, length of line 0, line 0.
-pub(crate) const OPENING_BYTES: usize = 1 + 2 + Card::BYTES;
-const MOST_RECORD: usize = Card::BYTES + state_bytes(MOST_LAYERS as u8);
+/// Version and length of line 0.
+const FRONT_BYTES: usize = 1 + 2;
+const MOST_OPENING: usize = FRONT_BYTES + Card::MOST_BYTES;
+const MOST_RECORD: usize = Card::MOST_BYTES + state_bytes(MOST_LAYERS as u8);
 const MOST_LINE: usize = 2 + MOST_BYTES + HEAD_BYTES + state_bytes(MOST_LAYERS as u8);
+
+/// Bytes of version and line 0.
+pub(crate) fn opening_bytes(version: Version, card: &Card) -> usize {
+    FRONT_BYTES + card.bytes(version)
+}
 
 /// Bytes of the line of a call of so many bytes, with its length.
 pub(crate) fn line_bytes(call: usize, layers: u8) -> usize {
@@ -60,12 +66,13 @@ pub struct Battery {
 
 impl Battery {
     /// A fresh battery of the newest version: all zones at the card's start, totals 0. Refusals 1
-    /// to 4.
+    /// to 4 and 61.
     pub fn open(card: &Card) -> Result<Battery, Refusal> {
         Battery::open_as(Version::NEWEST, card)
     }
 
-    /// A fresh battery of a version. Refusals 1 to 4.
+    /// A fresh battery of a version. Refusals 1 to 4 and 61, the latter also for a card that lists
+    /// services in version 1 or 2.
     ///
     /// ```
     /// use heat_battery::{Battery, Call, Card, Refusal, Version};
@@ -83,26 +90,30 @@ impl Battery {
     /// # Ok::<(), Refusal>(())
     /// ```
     pub fn open_as(version: Version, card: &Card) -> Result<Battery, Refusal> {
-        Battery::open_on(version, card, &mut [0; OPENING_BYTES])
+        Battery::open_on(version, card, &mut [0; MOST_OPENING])
     }
 
-    /// A fresh battery, with version and line 0 at the front of a sheet. Refusals 1 to 4, 11.
+    /// A fresh battery, with version and line 0 at the front of a sheet. Refusals 1 to 4, 61, 11.
     pub(crate) fn open_on(
         version: Version,
         card: &Card,
         sheet: &mut [u8],
     ) -> Result<Battery, Refusal> {
-        let length = Card::BYTES + state_bytes(card.layers);
-        let mut record = Buffer::zeros(length);
-        let refusal = ffi::open(version.number(), &card.to_bytes(), record.as_mut(), sheet);
+        if !card.services.is_empty() && !version.has_services() {
+            // The fields are tested before the services.
+            let fields = Card { services: Vec::new(), ..card.clone() };
+            return Err(fields.check().err().unwrap_or(Refusal::VersionWithoutServices));
+        }
+        let mut record = Buffer::zeros(card.bytes(version) + state_bytes(card.layers));
+        let refusal = ffi::open(version.number(), &card.line(version), record.as_mut(), sheet);
         match Refusal::from_number(refusal) {
             Some(refusal) => Err(refusal),
-            None => Ok(Battery { version, card: *card, record }),
+            None => Ok(Battery { version, card: card.clone(), record }),
         }
     }
 
     /// A battery of a version with zones and totals of the caller's. The card's own refusals are 1
-    /// to 4; 10 where there aren't as many zones as layers or a number isn't finite.
+    /// to 4 and 61; 10 where there aren't as many zones as layers or a number isn't finite.
     ///
     /// ```
     /// use heat_battery::{Battery, Card, Refusal, Totals, Version};
@@ -120,7 +131,7 @@ impl Battery {
         zones: &[f64],
         totals: &Totals,
     ) -> Result<Battery, Refusal> {
-        card.check()?;
+        Battery::open_as(version, card)?;
         if zones.len() != usize::from(card.layers) {
             return Err(Refusal::BadBattery);
         }
@@ -130,17 +141,19 @@ impl Battery {
     /// The bytes of a card, as many zones as its layers, and totals.
     pub(crate) fn of(version: Version, card: &Card, zones: &[f64], totals: &Totals) -> Battery {
         let mut record = Buffer::new();
-        record.push(&card.to_bytes());
+        record.push(&card.line(version));
         write_state(&mut record, zones, totals);
-        Battery { version, card: *card, record }
+        Battery { version, card: card.clone(), record }
     }
 
     /// A battery from the bytes of its card, zones and totals: 10 where it isn't good. They don't
     /// say their version, and versions 1 and 2 share them, so it is asked for.
     pub fn from_bytes(version: Version, bytes: &[u8]) -> Result<Battery, Refusal> {
-        let card = bytes.get(..Card::BYTES).and_then(|card| Card::from_bytes(card).ok());
-        let card = card.filter(|card| card.check().is_ok()).ok_or(Refusal::BadBattery)?;
-        if bytes.len() != Card::BYTES + state_bytes(card.layers) {
+        let front = Card::length(version, bytes).and_then(|length| bytes.get(..length));
+        let card = front.and_then(|front| Card::from_bytes(version, front).ok());
+        let card = card.filter(|card| Battery::open_as(version, card).is_ok());
+        let card = card.ok_or(Refusal::BadBattery)?;
+        if bytes.len() != card.bytes(version) + state_bytes(card.layers) {
             return Err(Refusal::BadBattery);
         }
         let mut record = Buffer::new();
@@ -172,7 +185,7 @@ impl Battery {
     }
 
     fn state(&self) -> Option<(Zones, Totals)> {
-        let mut cursor = Cursor(self.record.get(Card::BYTES..)?);
+        let mut cursor = Cursor(self.record.get(self.card.bytes(self.version)..)?);
         Some((read_zones(self.card.layers, &mut cursor)?, read_totals(&mut cursor)?))
     }
 
@@ -226,9 +239,12 @@ impl Battery {
     /// Makes a call with its line at the front of a sheet. Refusals 10 and 11; one of 20 to 25
     /// is in the answer.
     pub(crate) fn answer_on(&mut self, call: &Call, sheet: &mut [u8]) -> Result<Answer, Refusal> {
-        let version = self.version.number();
-        let result =
-            call.with_bytes(|bytes| ffi::call(version, self.record.as_mut(), bytes, sheet));
+        let (version, record) = (self.version, self.record.as_mut());
+        let result = call.with_bytes(
+            version,
+            |bytes| ffi::call(version.number(), record, bytes, sheet),
+            || Refusal::BadCall.number(),
+        );
         match Refusal::from_number(result) {
             Some(refusal) if !refusal.is_line() => Err(refusal),
             _ => self.read_answer(call, sheet).ok_or(Refusal::BadCall),
@@ -237,7 +253,7 @@ impl Battery {
 
     /// The answer on the line of a call at the front of a sheet.
     fn read_answer(&self, call: &Call, sheet: &[u8]) -> Option<Answer> {
-        let (length, layers) = (call.kind().bytes(), self.card.layers);
+        let (length, layers) = (call.kind().bytes(self.version), self.card.layers);
         let answer = sheet.get(2 + length..line_bytes(length, layers))?;
         Answer::read(call, layers, &mut Cursor(answer)).ok()
     }

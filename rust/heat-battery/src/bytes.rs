@@ -77,11 +77,6 @@ impl<const N: usize> Buffer<N> {
         self.put(x.to_bits().to_be_bytes());
     }
 
-    /// All N bytes, zeros where none were added.
-    pub fn whole(&self) -> [u8; N] {
-        self.bytes
-    }
-
     pub fn as_mut(&mut self) -> &mut [u8] {
         self.bytes.get_mut(..self.used).unwrap_or_default()
     }

@@ -2,9 +2,11 @@
 
 use crate::bytes::{Buffer, Cursor};
 use crate::card::Card;
-use crate::field::{Fault, Field, ServiceType, Shape, Value};
-use crate::ranges::{DAY, EXCHANGER, FLOW, LEVEL, POWER, TEMPERATURE, VELOCITY};
+use crate::field::{Fault, Field, Shape, Value};
+use crate::ranges::{DAY, EXCHANGER, FLOW, LEVEL, POWER, SERVICE, TEMPERATURE, VELOCITY};
 use crate::refusal::Refusal;
+use crate::service::ServiceType;
+use crate::version::Version;
 
 /// One call on a battery. [`Kind::fields`] has each field's unit and range.
 ///
@@ -104,7 +106,7 @@ pub enum Kind {
 const TARGET: Field = Field::number("target", "", LEVEL, "level to charge to");
 
 const DEMAND: [Field; 6] = [
-    Field::new("service", "", Shape::Service, (0.0, 3.0), "which service"),
+    Field::new("service", "", Shape::Service, SERVICE, "which service"),
     Field::flag("commit", "no: a trial"),
     Field::flag("control_on", "the charger's control"),
     Field::number("required", "kWh", (-1e6, 1e6), "energy wanted"),
@@ -175,9 +177,9 @@ impl Kind {
         }
     }
 
-    /// Bytes of the kind and its call fields.
-    pub fn bytes(&self) -> usize {
-        1 + self.fields().iter().map(Field::bytes).sum::<usize>()
+    /// Bytes of the kind and its call fields on a sheet of a version.
+    pub fn bytes(&self, version: Version) -> usize {
+        1 + self.fields().iter().map(|field| field.bytes(version)).sum::<usize>()
     }
 }
 
@@ -291,37 +293,70 @@ impl Call {
         }
     }
 
-    /// Every reason for which refusal 10 applies to the call with this card; none where it
-    /// doesn't.
-    pub fn faults(&self, card: &Card) -> Vec<Fault> {
+    /// Every reason for which refusal 10 applies to the call in a version with this card; none
+    /// where it doesn't.
+    pub fn faults(&self, version: Version, card: &Card) -> Vec<Fault> {
         let fault = |(field, value): &(&'static Field, Value)| {
-            let words = on_card(field, card).fault(value)?;
-            Some(Fault { field: field.name, refusal: Refusal::BadCall, words })
+            let words = match value {
+                Value::Service(service) => unknown_before_three(version, *service),
+                _ => on_card(field, card).fault(value),
+            };
+            Some(Fault::new(field.name, Refusal::BadCall, words?))
         };
         self.fields().iter().filter_map(fault).collect()
     }
 
-    /// Hands on the kind and the call fields as on the sheet, where they were gathered: a copy
-    /// of them would cost more than they do.
+    /// Whether a sheet of a version can have the call: services above 3 stand on no sheet before
+    /// version 3.
     #[inline]
-    pub(crate) fn with_bytes<T>(&self, take: impl FnOnce(&[u8]) -> T) -> T {
+    pub fn stands_in(&self, version: Version) -> bool {
+        match self {
+            Call::Demand { service, .. } => version.has_services() || !service.is_numbered(),
+            _ => true,
+        }
+    }
+
+    /// Hands on the kind and the call fields as on a sheet of a version, where they were gathered:
+    /// a copy of them would cost more than they do. The other where they can't stand there.
+    #[inline]
+    pub(crate) fn with_bytes<T>(
+        &self,
+        version: Version,
+        take: impl FnOnce(&[u8]) -> T,
+        otherwise: impl FnOnce() -> T,
+    ) -> T {
+        if !self.stands_in(version) {
+            return otherwise();
+        }
         let mut bytes = Buffer::<MOST_BYTES>::new();
         bytes.put([self.kind().number()]);
-        self.each(|value| value.write(&mut bytes));
+        self.each(|value| value.write(version, &mut bytes));
         take(&bytes)
     }
 
-    /// The kind and the call fields as on the sheet.
-    pub fn to_bytes(&self) -> Vec<u8> {
-        self.with_bytes(<[u8]>::to_vec)
+    /// The kind and the call fields as on a sheet of a version. Refusal 10 for a service above 3
+    /// before version 3.
+    ///
+    /// ```
+    /// use heat_battery::{Call, Refusal, Version};
+    ///
+    /// let text = "demand service=12 commit=yes control_on=no required=1 start=0 return_temperature=10";
+    /// let call: Call = text.parse().unwrap();
+    /// let bytes = call.to_bytes(Version::Three)?;
+    /// assert_eq!((bytes.len(), &bytes[..3]), (30, &[1, 0, 12][..]));
+    /// assert_eq!(call.to_bytes(Version::Two), Err(Refusal::BadCall));
+    /// # Ok::<(), Refusal>(())
+    /// ```
+    pub fn to_bytes(&self, version: Version) -> Result<Vec<u8>, Refusal> {
+        self.with_bytes(version, |bytes| Ok(bytes.to_vec()), || Err(Refusal::BadCall))
     }
 
-    /// A call of any numbers. Refusal 10 for an unknown kind, another length, a type or flag
-    /// or mark out of range and nonzero bytes under an absent mark; [`Call::faults`] has the
-    /// rest.
-    pub fn from_bytes(bytes: &[u8]) -> Result<Call, Refusal> {
+    /// A call of any numbers, as sheets of a version have it. Refusal 10 for an unknown kind,
+    /// another length, a type or flag or mark out of range and nonzero bytes under an absent mark;
+    /// [`Call::faults`] has the rest.
+    pub fn from_bytes(version: Version, bytes: &[u8]) -> Result<Call, Refusal> {
         let mut cursor = Cursor(bytes);
-        let call = Call::read(&mut cursor).map_err(|_| Refusal::BadCall)?;
+        let call = Call::read(version, &mut cursor).map_err(|_| Refusal::BadCall)?;
         match cursor.0.is_empty() {
             true => Ok(call),
             false => Err(Refusal::BadCall),
@@ -329,14 +364,14 @@ impl Call {
     }
 
     /// Reads a call from the front of bytes; the error in words.
-    pub(crate) fn read(bytes: &mut Cursor) -> Result<Call, String> {
+    pub(crate) fn read(version: Version, bytes: &mut Cursor) -> Result<Call, String> {
         let number = bytes.byte().ok_or("no kind")?;
         let kind = Kind::from_number(number).ok_or(format!("kind {number}, not 1 to 7"))?;
-        let length = kind.bytes() - 1;
+        let length = kind.bytes(version) - 1;
         let fields = bytes.slice(length).ok_or(format!("cut short in a {}", kind.name()))?;
         let mut cursor = Cursor(fields);
         let values: Result<Vec<Value>, String> =
-            kind.fields().iter().map(|field| field.read(&mut cursor)).collect();
+            kind.fields().iter().map(|field| field.read(version, &mut cursor)).collect();
         Call::from_values(kind, &values?).ok_or_else(|| "no call".into())
     }
 }
@@ -347,4 +382,11 @@ fn on_card(field: &Field, card: &Card) -> Field {
         "start" => Field { high: card.timestep, ..*field },
         _ => *field,
     }
+}
+
+/// Why a service can't stand on a sheet of a version, in words; None where it can.
+fn unknown_before_three(version: Version, service: ServiceType) -> Option<String> {
+    let is_unknown = service.is_numbered() && !version.has_services();
+    let words = "numbers above 3 are known from version 3 on, and this is version";
+    is_unknown.then(|| format!("service is {service}: {words} {version}"))
 }

@@ -2,11 +2,15 @@
 
 use crate::battery::Battery;
 use crate::bytes::{Buffer, Cursor};
+use crate::call::Call;
 use crate::field::{Fault, Field, Shape, Value};
 use crate::ranges::{CAPACITY, EXCHANGER, FLOW, POWER, TEMPERATURE, VELOCITY};
 use crate::refusal::Refusal;
+use crate::service::{Service, ServiceClass, ServiceType};
+use crate::version::Version;
 
-/// A battery as its maker describes it. [`Card::FIELDS`] has each field's unit and range.
+/// A battery as its maker describes it. [`Card::FIELDS`] has each field's unit and range; behind
+/// them a card lists services, which sheets have from version 3 on.
 ///
 /// ```
 /// use heat_battery::{Card, Refusal};
@@ -17,7 +21,30 @@ use crate::refusal::Refusal;
 /// assert_eq!(card.check(), Err(Refusal::LowerAboveUpper));
 /// assert_eq!(card.faults()[0].to_string(), "lower is 60.0, above upper, which is 59.0");
 /// ```
-#[derive(Clone, Copy, Debug, PartialEq)]
+///
+/// A card that lists services, and a demand for one of them:
+///
+/// ```
+/// use heat_battery::{Battery, Call, Card, Refusal, Service, ServiceClass, ServiceType};
+///
+/// let services = vec![
+///     Service::new(12, ServiceClass::Space),
+///     Service::new(700, ServiceClass::Direct),
+/// ];
+/// let mut battery = Battery::open(&Card { services, ..Card::example() })?;
+/// let demand = |number| Call::Demand {
+///     service: ServiceType::Numbered(number),
+///     commit: true,
+///     control_on: false,
+///     required: 0.5,
+///     start: 0.0,
+///     return_temperature: Some(10.0),
+/// };
+/// assert!(battery.call(&demand(700))?.totals.direct_hours > 0.0);
+/// assert_eq!(battery.call(&demand(13)), Err(Refusal::NoService)); // it isn't listed
+/// # Ok::<(), Refusal>(())
+/// ```
+#[derive(Clone, Debug, PartialEq)]
 pub struct Card {
     /// Layers of one unit, each with a zone temperature: 1 to 64.
     pub layers: u8,
@@ -65,15 +92,25 @@ pub struct Card {
     pub start: f64,
     /// Power of the charger during a demand, kW; 0 for none.
     pub power: f64,
+    /// Services with numbers above 3, at most 32, the numbers rising. A card that lists any opens
+    /// no battery of version 1 or 2.
+    pub services: Vec<Service>,
 }
 
 /// Document 01's epsilon of refusal 4.
 const NEARLY: f64 = 1e-10;
 const NUMBERS: usize = 19;
+/// Bytes of a service: its number and its class.
+const SERVICE_BYTES: usize = 3;
+/// The most services that the count byte can say; above 32 they are refused.
+const MOST_COUNTED: usize = u8::MAX as usize;
 
 impl Card {
-    /// Bytes of a card.
+    /// Bytes of a card's fields: of the whole card in versions 1 and 2.
     pub const BYTES: usize = 158;
+
+    /// The most bytes of an accepted card: its fields, a count and 32 services.
+    pub(crate) const MOST_BYTES: usize = Card::BYTES + 1 + SERVICE_BYTES * Service::MOST;
 
     /// The fields in the order of the sheet's line 0.
     pub const FIELDS: [Field; 23] = [
@@ -128,10 +165,12 @@ impl Card {
             losses: 0.1,
             start: 58.0,
             power: 0.0,
+            services: Vec::new(),
         }
     }
 
-    /// Refusal 1 to 4 where the engine opens no battery with this card, in whichever version.
+    /// Refusal 1 to 4 or 61 where the engine opens no battery of the newest version with this
+    /// card. Without services the older versions open the same cards.
     pub fn check(&self) -> Result<(), Refusal> {
         Battery::open(self).map(|_| ())
     }
@@ -141,11 +180,12 @@ impl Card {
     pub fn faults(&self) -> Vec<Fault> {
         let fault = |(field, value): (&Field, Value)| {
             let words = field.fault(&value)?;
-            Some(Fault { field: field.name, refusal: Refusal::CardOutOfRange, words })
+            Some(Fault::new(field.name, Refusal::CardOutOfRange, words))
         };
         let mut faults: Vec<Fault> =
             Card::FIELDS.iter().zip(self.values()).filter_map(fault).collect();
         faults.extend(self.faults_between());
+        faults.extend(self.faults_of_services());
         faults
     }
 
@@ -153,7 +193,7 @@ impl Card {
     fn faults_between(&self) -> Vec<Fault> {
         let Card { lower, upper, max, reference, .. } = *self;
         let mut faults = Vec::new();
-        let mut fault = |field, refusal, words| faults.push(Fault { field, refusal, words });
+        let mut fault = |field, refusal, words| faults.push(Fault::new(field, refusal, words));
         if lower > upper {
             let words = format!("lower is {lower:?}, above upper, which is {upper:?}");
             fault("lower", Refusal::LowerAboveUpper, words);
@@ -167,6 +207,47 @@ impl Card {
             fault("max", Refusal::NothingToStore, words);
         }
         faults
+    }
+
+    /// Refusal 61: too many services, a number under 4, numbers that don't rise.
+    fn faults_of_services(&self) -> impl Iterator<Item = Fault> {
+        let faults = Service::faults(&self.services, self.services.len()).into_iter();
+        faults.map(|(service, words)| Fault {
+            service,
+            ..Fault::new("services", Refusal::BadServices, words)
+        })
+    }
+
+    /// The class of a service on this card: its own for regular, space and direct, the listed one
+    /// for a number above 3. None for combi and for a number that isn't listed, which only trials
+    /// may ask for.
+    ///
+    /// ```
+    /// use heat_battery::{Card, Service, ServiceClass, ServiceType};
+    ///
+    /// let services = vec![Service::new(12, ServiceClass::Space)];
+    /// let card = Card { services, ..Card::example() };
+    /// assert_eq!(card.class(ServiceType::Numbered(12)), Some(ServiceClass::Space));
+    /// assert_eq!(card.class(ServiceType::Numbered(13)), None);
+    /// assert_eq!(card.class(ServiceType::Direct), Some(ServiceClass::Direct));
+    /// assert_eq!(card.class(ServiceType::Combi), None);
+    /// ```
+    pub fn class(&self, service: ServiceType) -> Option<ServiceClass> {
+        let number = service.number();
+        match u8::try_from(number).ok().and_then(ServiceClass::from_number) {
+            Some(class) => Some(class),
+            None => self.services.iter().find(|one| one.number == number).map(|one| one.class),
+        }
+    }
+
+    /// The number of a demand's service, where it is above 3 and not listed on this card.
+    pub fn unlisted(&self, call: &Call) -> Option<u16> {
+        match call {
+            Call::Demand { service, .. } if service.is_numbered() => {
+                self.class(*service).is_none().then(|| service.number())
+            }
+            _ => None,
+        }
     }
 
     /// The 19 f64 in the order of [`Card::FIELDS`].
@@ -234,7 +315,8 @@ impl Card {
         values
     }
 
-    /// The card of values in the order of [`Card::FIELDS`]; None where a shape is another.
+    /// The card of values in the order of [`Card::FIELDS`], without services; None where a shape is
+    /// another.
     pub fn from_values(values: &[Value]) -> Option<Card> {
         let (counts, rest) = values.split_at_checked(4)?;
         let [Value::Byte(layers), Value::Short(units), Value::Flag(simultaneous), Value::Short(budget)] =
@@ -247,7 +329,8 @@ impl Card {
         Some(Card::of(layers, units, simultaneous, budget, numbers))
     }
 
-    /// The card of its four counts and flags and its numbers, in the order of [`Card::FIELDS`].
+    /// The card of its four counts and flags and its numbers, in the order of [`Card::FIELDS`],
+    /// without services.
     pub(crate) fn of(
         layers: u8,
         units: u16,
@@ -260,29 +343,119 @@ impl Card {
         card
     }
 
-    /// The card as in the sheet's line 0.
-    pub fn to_bytes(&self) -> [u8; Card::BYTES] {
-        let mut bytes = Buffer::<{ Card::BYTES }>::new();
-        for value in self.values() {
-            value.write(&mut bytes);
+    /// Its bytes on a sheet of a version.
+    pub fn bytes(&self, version: Version) -> usize {
+        match version.has_services() {
+            true => with_services(self.services.len().min(MOST_COUNTED)),
+            false => Card::BYTES,
         }
-        bytes.whole()
     }
 
-    /// A card of any numbers. Refusal 1 for another length and for a flag other than 0 or 1;
-    /// [`Card::check`] has the rest.
-    pub fn from_bytes(bytes: &[u8]) -> Result<Card, Refusal> {
-        Card::read(bytes).map_err(|_| Refusal::CardOutOfRange)
+    /// The card as line 0 of a version has it, what has no place there left out: services before
+    /// version 3, and those beyond the 255 that a count can say, of which the engine refuses each
+    /// beyond 32.
+    pub(crate) fn line(&self, version: Version) -> Vec<u8> {
+        let mut fields = Buffer::<{ Card::BYTES }>::new();
+        for value in self.values() {
+            value.write(version, &mut fields);
+        }
+        let mut bytes = fields.to_vec();
+        if version.has_services() {
+            let counted = self.services.iter().take(MOST_COUNTED);
+            bytes.push(counted.len() as u8);
+            for Service { number, class } in counted {
+                bytes.extend(number.to_be_bytes());
+                bytes.push(class.number());
+            }
+        }
+        bytes
+    }
+
+    /// The card as in line 0 of a sheet of a version. Refusal 61 for what can't stand there:
+    /// services before version 3, or more than 255 of them; [`Card::check`] has the rest.
+    ///
+    /// ```
+    /// use heat_battery::{Card, Refusal, Service, ServiceClass, Version};
+    ///
+    /// let card = Card::example();
+    /// assert_eq!(card.to_bytes(Version::Two)?.len(), 158);
+    /// assert_eq!(card.to_bytes(Version::Three)?.len(), 159);
+    /// let services = vec![Service::new(12, ServiceClass::Space)];
+    /// let card = Card { services, ..card };
+    /// assert_eq!(card.to_bytes(Version::Three)?[158..], [1, 0, 12, 2]);
+    /// assert_eq!(card.to_bytes(Version::Two), Err(Refusal::VersionWithoutServices));
+    /// # Ok::<(), Refusal>(())
+    /// ```
+    pub fn to_bytes(&self, version: Version) -> Result<Vec<u8>, Refusal> {
+        match self.services.len() {
+            1.. if !version.has_services() => Err(Refusal::VersionWithoutServices),
+            count if count > MOST_COUNTED => Err(Refusal::BadServices),
+            _ => Ok(self.line(version)),
+        }
+    }
+
+    /// A card of any numbers, as line 0 of a version has it. Refusal 1 for another length and for
+    /// a flag other than 0 or 1; 61 for an unknown class, where 1 to 4 don't apply; [`Card::check`]
+    /// has the rest.
+    pub fn from_bytes(version: Version, bytes: &[u8]) -> Result<Card, Refusal> {
+        Card::read(version, bytes).map_err(|fault| fault.refusal)
     }
 
     /// `from_bytes` with its reason in words.
-    pub(crate) fn read(bytes: &[u8]) -> Result<Card, String> {
-        if bytes.len() != Card::BYTES {
-            return Err(format!("a card has {} bytes, not {}", Card::BYTES, bytes.len()));
-        }
+    pub(crate) fn read(version: Version, bytes: &[u8]) -> Result<Card, Fault> {
+        let bad = |words| Fault::new("card", Refusal::CardOutOfRange, words);
+        test_length(version, bytes).map_err(bad)?;
         let mut cursor = Cursor(bytes);
         let values: Result<Vec<Value>, String> =
-            Card::FIELDS.iter().map(|field| field.read(&mut cursor)).collect();
-        Card::from_values(&values?).ok_or_else(|| "no card".into())
+            Card::FIELDS.iter().map(|field| field.read(version, &mut cursor)).collect();
+        let card = Card::from_values(&values.map_err(bad)?);
+        let mut card = card.ok_or_else(|| bad("no card".into()))?;
+        // The count, which the length agrees with.
+        cursor.byte();
+        while let (Some(number), Some(class)) = (cursor.short(), cursor.byte()) {
+            let Some(class) = ServiceClass::from_number(class) else {
+                let words = format!("service {number} has class {class}, not 1, 2 or 3");
+                let unknown = Fault::new("services", Refusal::BadServices, words);
+                return Err(card.faults().into_iter().next().unwrap_or(unknown));
+            };
+            card.services.push(Service { number, class });
+        }
+        Ok(card)
+    }
+
+    /// The length of the card at the front of a record of a version; None where there are too few
+    /// bytes to say.
+    pub(crate) fn length(version: Version, record: &[u8]) -> Option<usize> {
+        match version.has_services() {
+            true => record.get(Card::BYTES).map(|count| with_services(usize::from(*count))),
+            false => Some(Card::BYTES),
+        }
+    }
+
+    /// Whether a card of a version can have so many bytes.
+    pub(crate) fn has_length(version: Version, length: usize) -> bool {
+        match version.has_services() {
+            true => (0..=MOST_COUNTED).any(|count| with_services(count) == length),
+            false => length == Card::BYTES,
+        }
+    }
+}
+
+/// Bytes of a card with so many services, the count among them.
+const fn with_services(count: usize) -> usize {
+    Card::BYTES + 1 + SERVICE_BYTES * count
+}
+
+/// Whether the bytes of a card are as many as its version and its count of services say; if not,
+/// what is wrong, in words.
+fn test_length(version: Version, bytes: &[u8]) -> Result<(), String> {
+    let length = bytes.len();
+    match (Card::length(version, bytes), bytes.get(Card::BYTES)) {
+        (Some(right), _) if right == length => Ok(()),
+        (Some(right), Some(count)) if version.has_services() => {
+            Err(format!("a card with {count} services has {right} bytes, not {length}"))
+        }
+        (Some(right), _) => Err(format!("a card has {right} bytes, not {length}")),
+        (None, _) => Err(format!("a card has at least {} bytes, not {length}", with_services(0))),
     }
 }

@@ -4,41 +4,9 @@
 use crate::bytes::{Buffer, Cursor};
 use crate::ranges::{Range, FLAG};
 use crate::refusal::Refusal;
+use crate::service::ServiceType;
+use crate::version::Version;
 use std::fmt;
-
-/// Which service a demand is for.
-#[derive(Clone, Copy, Debug, PartialEq, Eq, Hash)]
-pub enum ServiceType {
-    /// 0; only in trials.
-    Combi,
-    /// 1: hot water through a cylinder.
-    Regular,
-    /// 2: space heating.
-    Space,
-    /// 3: hot water straight from the battery.
-    Direct,
-}
-
-impl ServiceType {
-    /// All four, each at its number.
-    pub const ALL: [ServiceType; 4] =
-        [ServiceType::Combi, ServiceType::Regular, ServiceType::Space, ServiceType::Direct];
-
-    /// Document 01's number.
-    pub fn number(&self) -> u8 {
-        *self as u8
-    }
-
-    /// The name in text and JSON.
-    pub fn name(&self) -> &'static str {
-        match self {
-            ServiceType::Combi => "combi",
-            ServiceType::Regular => "regular",
-            ServiceType::Space => "space",
-            ServiceType::Direct => "direct",
-        }
-    }
-}
 
 /// How a field stands in bytes and text.
 #[derive(Clone, Copy, Debug, PartialEq, Eq)]
@@ -49,7 +17,7 @@ pub enum Shape {
     Short,
     /// A u8, 0 or 1.
     Flag,
-    /// A u8, 0 to 3.
+    /// A u8, 0 to 3; from version 3 on a u16.
     Service,
     /// An f64 by its bits.
     Number,
@@ -94,12 +62,20 @@ pub struct Field {
 /// One reason why a card or a call is refused.
 #[derive(Clone, Debug, PartialEq, Eq)]
 pub struct Fault {
-    /// The field, of two the first that is named.
+    /// The field, of two the first that is named; `services` for the list of services.
     pub field: &'static str,
-    /// 1 to 4 for a card, 10 for a call.
+    /// Which of the services, from 0, where it is one of theirs.
+    pub service: Option<usize>,
+    /// 1 to 4 and 61 for a card, 10 for a call.
     pub refusal: Refusal,
     /// The field, what it is and its range.
     pub words: String,
+}
+
+impl Fault {
+    pub(crate) fn new(field: &'static str, refusal: Refusal, words: String) -> Fault {
+        Fault { field, service: None, refusal, words }
+    }
 }
 
 impl fmt::Display for Fault {
@@ -109,13 +85,21 @@ impl fmt::Display for Fault {
 }
 
 impl Value {
+    /// Adds the value as sheets of a version have it; of a service's number only the last byte
+    /// before version 3.
     #[inline]
-    pub(crate) fn write<const N: usize>(&self, bytes: &mut Buffer<N>) {
+    pub(crate) fn write<const N: usize>(&self, version: Version, bytes: &mut Buffer<N>) {
         match *self {
             Value::Byte(byte) => bytes.put([byte]),
             Value::Short(short) => bytes.put(short.to_be_bytes()),
             Value::Flag(flag) => bytes.put([u8::from(flag)]),
-            Value::Service(service) => bytes.put([service.number()]),
+            Value::Service(service) => {
+                let [high, low] = service.number().to_be_bytes();
+                if version.has_services() {
+                    bytes.put([high]);
+                }
+                bytes.put([low]);
+            }
             Value::Number(x) => bytes.put_number(x),
             Value::Optional(x) => {
                 bytes.put([u8::from(x.is_some())]);
@@ -152,7 +136,7 @@ impl fmt::Display for Value {
             Value::Short(short) => write!(f, "{short}"),
             Value::Flag(true) => f.write_str("yes"),
             Value::Flag(false) => f.write_str("no"),
-            Value::Service(service) => f.write_str(service.name()),
+            Value::Service(service) => write!(f, "{service}"),
             Value::Number(x) | Value::Optional(Some(x)) => write!(f, "{x:?}"),
             Value::Optional(None) => f.write_str("none"),
         }
@@ -192,9 +176,10 @@ impl Field {
         Field::new(name, "", Shape::Flag, FLAG, about)
     }
 
-    /// Its bytes in a card or a call.
-    pub const fn bytes(&self) -> usize {
+    /// Its bytes in a card or a call of a version.
+    pub const fn bytes(&self, version: Version) -> usize {
         match self.shape {
+            Shape::Service if version.has_services() => 2,
             Shape::Byte | Shape::Flag | Shape::Service => 1,
             Shape::Short => 2,
             Shape::Number => 8,
@@ -206,7 +191,7 @@ impl Field {
     pub fn range(&self) -> String {
         match self.shape {
             Shape::Flag => "yes or no".into(),
-            Shape::Service => "combi, regular, space or direct".into(),
+            Shape::Service => "combi, regular, space, direct or a number up to 65535".into(),
             Shape::Byte | Shape::Short | Shape::Number => self.span(),
             Shape::Optional => format!("{}, or none", self.span()),
         }
@@ -232,12 +217,15 @@ impl Field {
 
     /// Reads the value from bytes; an error in words for another flag, type or mark and for
     /// nonzero bytes under an absent mark.
-    pub(crate) fn read(&self, bytes: &mut Cursor) -> Result<Value, String> {
+    pub(crate) fn read(&self, version: Version, bytes: &mut Cursor) -> Result<Value, String> {
         let value = match self.shape {
             Shape::Byte => bytes.byte().map(Value::Byte).ok_or(0),
             Shape::Short => bytes.short().map(Value::Short).ok_or(0),
             Shape::Flag => bytes.byte().ok_or(0).and_then(flag).map(Value::Flag),
-            Shape::Service => bytes.byte().ok_or(0).and_then(service).map(Value::Service),
+            Shape::Service if version.has_services() => {
+                bytes.short().map(ServiceType::from_number).map(Value::Service).ok_or(0)
+            }
+            Shape::Service => bytes.byte().ok_or(0).and_then(named).map(Value::Service),
             Shape::Number => bytes.number().map(Value::Number).ok_or(0),
             Shape::Optional => return self.read_optional(bytes),
         };
@@ -266,8 +254,8 @@ fn flag(byte: u8) -> Result<bool, u8> {
     }
 }
 
-fn service(byte: u8) -> Result<ServiceType, u8> {
-    ServiceType::ALL.get(usize::from(byte)).copied().ok_or(byte)
+fn named(byte: u8) -> Result<ServiceType, u8> {
+    ServiceType::NAMED.get(usize::from(byte)).copied().ok_or(byte)
 }
 
 /// A mark and its number.

@@ -1,17 +1,19 @@
 //! A card's fingerprint.
 
 use crate::card::Card;
+use crate::version::Version;
 use std::fmt;
 
-/// CRC-32 over the 158 bytes of a card, shown as eight hexadecimal digits: enough to tell cards
-/// apart at a glance, and no seal.
+/// CRC-32 over a card's bytes, shown as eight hexadecimal digits: enough to tell cards apart at a
+/// glance, and no seal. The bytes are the 158 of its fields and, where it lists services, their count
+/// and list behind them: a card without services has one fingerprint in every version.
 ///
 /// ```
 /// use heat_battery::Card;
 ///
 /// let card = Card::example();
 /// assert_eq!(card.fingerprint().to_string(), "3ce57cdf");
-/// assert_ne!(Card { losses: 0.2, ..card }.fingerprint(), card.fingerprint());
+/// assert_ne!(Card { losses: 0.2, ..card.clone() }.fingerprint(), card.fingerprint());
 /// ```
 #[derive(Clone, Copy, Debug, PartialEq, Eq, Hash)]
 pub struct Fingerprint(pub u32);
@@ -25,7 +27,8 @@ impl fmt::Display for Fingerprint {
 impl Card {
     /// The fingerprint of the card's bytes.
     pub fn fingerprint(&self) -> Fingerprint {
-        Fingerprint(crc_32(&self.to_bytes()))
+        let version = if self.services.is_empty() { Version::One } else { Version::Three };
+        Fingerprint(crc_32(&self.line(version)))
     }
 }
 

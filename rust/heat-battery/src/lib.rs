@@ -13,6 +13,8 @@
 //!   sheet, [`explain`] what lies behind it, [`read`] its version, card and lines.
 //! - [`Version`] is a sheet's version: the newest unless another is asked for (`open_as`); a sheet
 //!   that is read keeps its own.
+//! - [`Service`] is one that a card lists by number, from version 3 on, beside the four of
+//!   [`ServiceType`] that have names.
 //! - [`text`] has cards and lists of calls as plain text, [`ffi`] the C entries as they stand.
 //!
 //! # Refusals
@@ -60,6 +62,7 @@ mod charging_loop;
 mod field;
 mod fingerprint;
 mod form;
+mod listed_services;
 mod looks;
 mod nearest;
 mod parse;
@@ -67,6 +70,7 @@ mod ranges;
 mod reading;
 mod record;
 mod refusal;
+mod service;
 mod sheet;
 mod slips;
 pub mod text;
@@ -81,13 +85,14 @@ pub use battery::Battery;
 pub use call::{Call, Kind};
 pub use card::Card;
 pub use charging_loop::ChargingLoop;
-pub use field::{Fault, Field, ServiceType, Shape, Value};
+pub use field::{Fault, Field, Shape, Value};
 pub use fingerprint::Fingerprint;
 pub use heat_battery_sys as ffi;
 pub use looks::{looks, Looks};
 pub use reading::{read, Damage, Lines};
 pub use record::Record;
 pub use refusal::Refusal;
+pub use service::{Service, ServiceClass, ServiceType};
 pub use sheet::Sheet;
 pub use unmet::{shortfall, Unmet, LEAST_SHORTFALL};
 pub use version::Version;

@@ -3,6 +3,7 @@
 use crate::bytes::Cursor;
 use crate::call::Kind;
 use crate::card::Card;
+use crate::listed_services::number_text;
 use crate::text::bare_lines;
 use crate::version::Version;
 use std::fmt;
@@ -42,13 +43,17 @@ impl fmt::Display for Looks {
 pub fn looks(bytes: &[u8]) -> Option<Looks> {
     let mut front = Cursor(bytes);
     let version = front.byte().and_then(Version::from_number);
-    if version.is_some() && front.short() == Some(Card::BYTES as u16) {
-        return Some(Looks::Sheet);
+    if let (Some(version), Some(length)) = (version, front.short()) {
+        if Card::has_length(version, usize::from(length)) {
+            return Some(Looks::Sheet);
+        }
     }
     let text = std::str::from_utf8(bytes).ok()?;
     let (_, line) = bare_lines(text).next()?;
     let is_kind = |word: &str| Kind::ALL.iter().any(|kind| kind.name() == word);
-    let is_field = |word: &str| Card::FIELDS.iter().any(|field| field.name == word);
+    let is_field = |word: &str| {
+        number_text(word).is_some() || Card::FIELDS.iter().any(|field| field.name == word)
+    };
     match line.split_once('=') {
         Some((name, _)) if is_field(name.trim()) => Some(Looks::Card),
         _ if line.split_whitespace().next().is_some_and(is_kind) => Some(Looks::Calls),

@@ -1,6 +1,7 @@
 //! Fields read from text.
 
-use crate::field::{Field, ServiceType, Shape, Value};
+use crate::field::{Field, Shape, Value};
+use crate::service::ServiceType;
 use std::num::ParseIntError;
 use std::str::FromStr;
 
@@ -25,10 +26,7 @@ impl Field {
                 "no" | "0" => Ok(Value::Flag(false)),
                 _ => Err(other()),
             },
-            Shape::Service => {
-                let found = ServiceType::ALL.into_iter().find(|service| service.name() == text);
-                found.map(Value::Service).ok_or_else(other)
-            }
+            Shape::Service => service(text).map(Value::Service).ok_or_else(other),
             Shape::Optional if text == "none" => Ok(Value::Optional(None)),
             Shape::Optional => self.parse_number(text).map(|x| Value::Optional(Some(x))),
             Shape::Number => self.parse_number(text).map(Value::Number),
@@ -38,8 +36,7 @@ impl Field {
     /// A whole number, out of range where it is too large or too small for its bytes.
     fn parse_whole<T: FromStr<Err = ParseIntError>>(&self, text: &str) -> Result<T, Misread> {
         let digits = text.strip_prefix(['-', '+']).unwrap_or(text);
-        let is_whole = !digits.is_empty() && digits.bytes().all(|byte| byte.is_ascii_digit());
-        text.parse().map_err(|_| match is_whole {
+        text.parse().map_err(|_| match is_digits(digits) {
             true => Misread::Range(self.out_of_range(&cut(text))),
             false => Misread::Words(format!("{} is {}, no whole number", self.name, quoted(text))),
         })
@@ -53,12 +50,24 @@ impl Field {
     }
 }
 
+/// A service by its name or its number.
+fn service(text: &str) -> Option<ServiceType> {
+    let named = ServiceType::NAMED.into_iter().find(|service| service.name() == Some(text));
+    let number = text.parse().ok().filter(|_| is_digits(text));
+    named.or(number.map(ServiceType::from_number))
+}
+
+pub(crate) fn is_digits(text: &str) -> bool {
+    !text.is_empty() && text.bytes().all(|byte| byte.is_ascii_digit())
+}
+
 /// Text of a file inside quotation marks, cut and free of control characters.
 pub(crate) fn quoted(text: &str) -> String {
     format!("'{}'", cut(text))
 }
 
-fn cut(text: &str) -> String {
+/// The same without the marks.
+pub(crate) fn cut(text: &str) -> String {
     const MOST: usize = 40;
     let cut: String = text.chars().take(MOST).collect();
     let dots = if text.chars().nth(MOST).is_some() { "..." } else { "" };

@@ -18,5 +18,7 @@ pub(crate) const POWER: Range = (0.0, 1000.0);
 pub(crate) const LEVEL: Range = (0.0, 1.0);
 /// h; a demand's start is held to the card's timestep besides.
 pub(crate) const DAY: Range = (0.0, 24.0);
+/// The number of a service.
+pub(crate) const SERVICE: Range = (0.0, 65535.0);
 /// A flag in bytes.
 pub(crate) const FLAG: Range = (0.0, 1.0);

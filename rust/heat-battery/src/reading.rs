@@ -5,6 +5,7 @@ use crate::answer::{Answer, Line};
 use crate::bytes::Cursor;
 use crate::call::Call;
 use crate::card::Card;
+use crate::field::Fault;
 use crate::refusal::Refusal;
 use crate::version::Version;
 use std::fmt;
@@ -51,8 +52,10 @@ pub fn read(sheet: &[u8]) -> Result<(Version, Card, Lines<'_>), Damage> {
     let mut bytes = Cursor(sheet);
     let version =
         first_byte(&mut bytes).map_err(|words| Damage::new(Refusal::NoVersion, 0, words))?;
-    let card = card_line(&mut bytes).map_err(|words| Damage::new(Refusal::BadCard, 0, words))?;
-    Ok((version, card, Lines { card, bytes: bytes.0, index: 0 }))
+    let card =
+        card_line(version, &mut bytes).map_err(|words| Damage::new(Refusal::BadCard, 0, words))?;
+    let lines = Lines { version, card: card.clone(), bytes: bytes.0, index: 0 };
+    Ok((version, card, lines))
 }
 
 /// The version; the error in words.
@@ -71,10 +74,11 @@ fn content<'a>(bytes: &mut Cursor<'a>) -> Result<&'a [u8], String> {
     bytes.slice(usize::from(length)).ok_or_else(cut)
 }
 
-fn card_line(bytes: &mut Cursor) -> Result<Card, String> {
-    let card = Card::read(content(bytes)?)?;
+fn card_line(version: Version, bytes: &mut Cursor) -> Result<Card, String> {
+    let words = |fault: &Fault| format!("{fault} (the card's refusal {})", fault.refusal.number());
+    let card = Card::read(version, content(bytes)?).map_err(|fault| words(&fault))?;
     match card.faults().first() {
-        Some(fault) => Err(format!("{fault} (the card's refusal {})", fault.refusal.number())),
+        Some(fault) => Err(words(fault)),
         None => Ok(card),
     }
 }
@@ -82,6 +86,7 @@ fn card_line(bytes: &mut Cursor) -> Result<Card, String> {
 /// The call lines of a sheet; ends after the first damage.
 #[derive(Clone, Debug)]
 pub struct Lines<'a> {
+    version: Version,
     card: Card,
     bytes: &'a [u8],
     index: u64,
@@ -90,13 +95,13 @@ pub struct Lines<'a> {
 impl Lines<'_> {
     fn line(&self, content: &[u8]) -> Result<Line, String> {
         let mut bytes = Cursor(content);
-        let call = Call::read(&mut bytes)?;
-        let right = call.kind().bytes() + Answer::bytes(self.card.layers);
+        let call = Call::read(self.version, &mut bytes)?;
+        let right = call.kind().bytes(self.version) + Answer::bytes(self.card.layers);
         if content.len() != right {
             let kind = call.kind().name();
             return Err(format!("a {kind} line has {right} bytes, this one {}", content.len()));
         }
-        if let Some(fault) = call.faults(&self.card).first() {
+        if let Some(fault) = call.faults(self.version, &self.card).first() {
             return Err(fault.words.clone());
         }
         let answer = Answer::read(&call, self.card.layers, &mut bytes)?;

@@ -6,6 +6,7 @@ use crate::call::Call;
 use crate::card::Card;
 use crate::ffi;
 use crate::refusal::Refusal;
+use crate::service::{Service, ServiceClass};
 use crate::version::Version;
 use std::fmt;
 
@@ -34,17 +35,22 @@ pub struct Record {
     battery: ffi::Battery,
 }
 
+/// What is shown of a call that can't be made in the record's version.
+const BAD_CALL: ffi::Shown =
+    ffi::Shown { refusal: 10, mark: 0, substeps: 0, energy: 0.0, outlet: 0.0, time: 0.0 };
+
 impl Clone for Record {
     fn clone(&self) -> Record {
         let Record { version, battery } = *self;
         Record { version, battery }
     }
 
-    /// Copies no more zones than there are, and the card number by number, as the engine reads
-    /// it: the quick way back to a kept state.
+    /// Copies no more zones than there are, services only where there are some, and the card number
+    /// by number, as the engine reads it: the quick way back to a kept state.
     #[inline]
     fn clone_from(&mut self, source: &Record) {
-        let ffi::Battery { card, zones, count, totals } = &source.battery;
+        let ffi::Battery { card, zones, count, totals, services, numbers: listed, classes } =
+            &source.battery;
         let ffi::Card { layers, units, simultaneous, budget, numbers } = *card;
         self.version = source.version;
         let battery = &mut self.battery;
@@ -54,6 +60,12 @@ impl Clone for Record {
         battery.card.budget = budget;
         battery.card.numbers = numbers;
         battery.totals = *totals;
+        // Without services their places are 0.
+        if battery.services > 0 || *services > 0 {
+            battery.services = *services;
+            battery.numbers = *listed;
+            battery.classes = *classes;
+        }
         if battery.count > *count {
             battery.zones = *zones;
         }
@@ -66,7 +78,7 @@ impl Clone for Record {
 
 impl Record {
     /// A fresh battery of the newest version: all zones at the card's start, totals 0. Refusals 1
-    /// to 4.
+    /// to 4 and 61.
     ///
     /// ```
     /// use heat_battery::{Card, Record, Refusal};
@@ -81,7 +93,8 @@ impl Record {
         Record::open_as(Version::NEWEST, card)
     }
 
-    /// A fresh battery of a version. Refusals 1 to 4.
+    /// A fresh battery of a version. Refusals 1 to 4 and 61, the latter also for a card that lists
+    /// services in version 1 or 2.
     pub fn open_as(version: Version, card: &Card) -> Result<Record, Refusal> {
         Battery::open_as(version, card).map(|battery| Record::from(&battery))
     }
@@ -94,7 +107,13 @@ impl Record {
     /// The card.
     pub fn card(&self) -> Card {
         let ffi::Card { layers, units, simultaneous, budget, numbers } = self.battery.card;
-        Card::of(layers, units, simultaneous == 1, budget, numbers)
+        let mut card = Card::of(layers, units, simultaneous == 1, budget, numbers);
+        let listed = self.battery.numbers.iter().zip(&self.battery.classes);
+        for (number, class) in listed.take(usize::from(self.battery.services)) {
+            let class = ServiceClass::from_number(*class);
+            card.services.extend(class.map(|class| Service { number: *number, class }));
+        }
+        card
     }
 
     /// Zone temperatures, °C.
@@ -157,8 +176,12 @@ impl Record {
 
     #[inline]
     fn entry(&mut self, call: &Call) -> ffi::Shown {
-        let version = self.version.number();
-        call.with_bytes(|bytes| ffi::advance(version, &mut self.battery, bytes))
+        let Record { version, battery } = self;
+        call.with_bytes(
+            *version,
+            |bytes| ffi::advance(version.number(), battery, bytes),
+            || BAD_CALL,
+        )
     }
 
     /// The line's answer, with the battery as it is now.
@@ -189,6 +212,14 @@ impl From<&Battery> for Record {
         for (place, zone) in zones.iter_mut().zip(read.iter()) {
             *place = *zone;
         }
+        let mut numbers = [0; Service::MOST];
+        let mut classes = [0; Service::MOST];
+        let places = numbers.iter_mut().zip(&mut classes);
+        for ((number, class), service) in places.zip(&card.services) {
+            *number = service.number;
+            *class = service.class.number();
+        }
+        let services = card.services.len() as u8;
         let card = ffi::Card {
             layers: card.layers,
             units: card.units,
@@ -198,7 +229,8 @@ impl From<&Battery> for Record {
         };
         let (count, totals) = (card.layers, battery.totals().numbers());
         let version = battery.version();
-        Record { version, battery: ffi::Battery { card, zones, count, totals } }
+        let battery = ffi::Battery { card, zones, count, totals, services, numbers, classes };
+        Record { version, battery }
     }
 }
 

@@ -1,4 +1,4 @@
-//! Document 01's refusals, with its numbers and words.
+//! The refusals of documents 01 and 02, with their numbers and words.
 
 use std::fmt;
 
@@ -52,12 +52,16 @@ pub enum Refusal {
     Disagrees,
     /// 44, a sheet.
     TooLong,
-    /// A number that document 01 has no refusal for. Only a damaged sheet shows one.
+    /// 61, a card, after 4.
+    BadServices,
+    /// 61 too: a card that lists services, for a sheet of version 1 or 2.
+    VersionWithoutServices,
+    /// A number that documents 01 and 02 have no refusal for. Only a damaged sheet shows one.
     Other(u8),
 }
 
 /// Each refusal with its number, its name in the C header and in the definitions, and its meaning.
-const REFUSALS: [(Refusal, u8, &str, &str); 18] = [
+const REFUSALS: [(Refusal, u8, &str, &str); 20] = [
     (Refusal::CardOutOfRange, 1, "CARD_OUT_OF_RANGE", "a card field is not finite or out of range"),
     (Refusal::LowerAboveUpper, 2, "LOWER_ABOVE_UPPER", "lower is above upper"),
     (Refusal::MaxTooLow, 3, "MAX_TOO_LOW", "max is at most 20 °C"),
@@ -68,7 +72,9 @@ const REFUSALS: [(Refusal, u8, &str, &str); 18] = [
     ),
     (Refusal::NoRoom, 11, "NO_ROOM", "fewer free sheet bytes than the line needs"),
     (Refusal::NoReturn, 20, "NO_RETURN", "required above 1e-10 without a return temperature"),
-    (Refusal::NoService, 21, "NO_SERVICE", "a committed demand of service type combi"),
+    (Refusal::NoService, 21, "NO_SERVICE",
+        "a committed demand of service type combi, or of a number that the card doesn't list",
+    ),
     (Refusal::OverBudget, 22, "OVER_BUDGET", "a substep is called for after the card's budget of them is done"),
     (Refusal::NotFinite, 23, "NOT_FINITE",
         "a zone, outlet, delivered sum, charged energy or total is not finite",
@@ -82,11 +88,17 @@ const REFUSALS: [(Refusal, u8, &str, &str); 18] = [
     ),
     (Refusal::Disagrees, 43, "DISAGREES", "an answer disagrees with the steps"),
     (Refusal::TooLong, 44, "TOO_LONG", "more than 65,536 bytes"),
+    (Refusal::BadServices, 61, "BAD_SERVICES",
+        "the card lists more than 32 services, a number under 4, numbers that don't rise or an unknown class",
+    ),
+    (Refusal::VersionWithoutServices, 61, "BAD_SERVICES",
+        "the card lists services, which sheets have from version 3 on",
+    ),
 ];
 
 impl Refusal {
     /// The refusal of a number; None for 0, which is no refusal. 10 is read as that of a call,
-    /// though the C entries give it for a bad battery too.
+    /// though the C entries give it for a bad battery too; 61 as that of a list of services.
     pub fn from_number(number: u8) -> Option<Refusal> {
         if number == 0 {
             return None;
@@ -99,7 +111,7 @@ impl Refusal {
         REFUSALS.iter().find(|entry| entry.0 == *self)
     }
 
-    /// Document 01's number.
+    /// Its number.
     pub fn number(&self) -> u8 {
         match self {
             Refusal::Other(number) => *number,
@@ -107,18 +119,17 @@ impl Refusal {
         }
     }
 
-    /// Its name: that of the C header after `HEAT_BATTERY_`. Both refusals with the number 10 have
-    /// one name.
+    /// Its name: that of the C header after `HEAT_BATTERY_`. Refusals of one number have one name.
     pub fn name(&self) -> &'static str {
         self.entry().map_or("OTHER", |entry| entry.2)
     }
 
     /// What it means.
     pub fn words(&self) -> &'static str {
-        self.entry().map_or("no refusal of document 01", |entry| entry.3)
+        self.entry().map_or("no known refusal", |entry| entry.3)
     }
 
-    /// Every refusal of document 01, in the order of their numbers.
+    /// Every refusal, in the order of their numbers.
     pub fn all() -> impl Iterator<Item = Refusal> {
         REFUSALS.iter().map(|entry| entry.0)
     }

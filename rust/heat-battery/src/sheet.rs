@@ -1,7 +1,7 @@
 //! A battery and the sheet of its calls.
 
 use crate::answer::{Answer, Line};
-use crate::battery::{line_bytes, Battery, OPENING_BYTES};
+use crate::battery::{line_bytes, opening_bytes, Battery};
 use crate::call::Call;
 use crate::card::Card;
 use crate::reading::read;
@@ -32,20 +32,21 @@ pub struct Sheet {
 
 impl Sheet {
     /// Opens a battery and a sheet of the newest version that grows with its lines. Refusals 1 to
-    /// 4. The laboratory's audit program takes sheets of at most
+    /// 4 and 61. The laboratory's audit program takes sheets of at most
     /// [`MOST_AUDITED`](crate::MOST_AUDITED) bytes.
     pub fn open(card: &Card) -> Result<Sheet, Refusal> {
         Sheet::open_as(Version::NEWEST, card)
     }
 
-    /// Opens a battery and a sheet of a version, which every call is then given. Refusals 1 to 4.
+    /// Opens a battery and a sheet of a version, which every call is then given. Refusals 1 to 4
+    /// and 61, the latter also for a card that lists services in version 1 or 2.
     pub fn open_as(version: Version, card: &Card) -> Result<Sheet, Refusal> {
         Sheet::open_within(version, card, usize::MAX)
     }
 
     /// Opens a battery and a sheet of at most `most` bytes: 11 where a line has no room.
     pub fn open_within(version: Version, card: &Card, most: usize) -> Result<Sheet, Refusal> {
-        let mut bytes = vec![0; OPENING_BYTES.min(most)];
+        let mut bytes = vec![0; opening_bytes(version, card).min(most)];
         let battery = Battery::open_on(version, card, &mut bytes)?;
         Ok(Sheet { battery, bytes, most, lines: 0 })
     }
@@ -65,7 +66,8 @@ impl Sheet {
     /// refusal, only 10 and 11 are errors.
     pub fn answer(&mut self, call: &Call) -> Result<Answer, Refusal> {
         let used = self.bytes.len();
-        let needed = line_bytes(call.kind().bytes(), self.battery.card().layers);
+        let call_bytes = call.kind().bytes(self.version());
+        let needed = line_bytes(call_bytes, self.battery.card().layers);
         self.bytes.resize(used + needed.min(self.most - used), 0);
         let free = self.bytes.get_mut(used..).unwrap_or_default();
         let answer = self.battery.answer_on(call, free);

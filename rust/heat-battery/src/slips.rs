@@ -38,11 +38,14 @@ pub struct Slips {
     /// How many there are besides.
     pub more: usize,
     unread: usize,
+    /// The refusal of the lowest number, which is the one that is tested first.
+    refusal: Option<Refusal>,
 }
 
 impl Slips {
     pub(crate) fn add(&mut self, slip: Slip) {
         self.unread += usize::from(slip.refusal.is_none());
+        self.refusal = self.refusal.into_iter().chain(slip.refusal).min_by_key(Refusal::number);
         match self.first.len() < MOST_SLIPS {
             true => self.first.push(slip),
             false => self.more += 1,
@@ -53,9 +56,10 @@ impl Slips {
         self.first.is_empty()
     }
 
-    /// Whether the text can be read, and numbers out of range are all that is wrong.
-    pub fn is_refusal(&self) -> bool {
-        self.unread == 0
+    /// The refusal that a card is given where its text can be read and what stands there is refused;
+    /// None where something can't be read.
+    pub fn refusal(&self) -> Option<Refusal> {
+        self.refusal.filter(|_| self.unread == 0)
     }
 }
 

@@ -1,14 +1,18 @@
 //! Cards and calls as plain text.
 //!
-//! A card has one `name = value` on each line. A list of calls has one call on each line: its
-//! kind, then each of its fields as `name=value`, in any order. What follows `#` is a comment.
-//! Numbers are written so that they read back exactly, bit for bit.
+//! A card has one `name = value` on each line, the fields in any order, and a line `service 12 =
+//! space` for each service that it lists, their numbers rising. A list of calls has one call on each
+//! line: its kind, then each of its fields as `name=value`, in any order; a service is a name or a
+//! number. What follows `#` is a comment. Numbers are written so that they read back exactly, bit for
+//! bit.
 //!
 //! ```
-//! use heat_battery::{text, Call, Card};
+//! use heat_battery::{text, Call, Card, Service, ServiceClass};
 //!
 //! let card = Card::example();
-//! assert_eq!(card.to_string().parse(), Ok(card));
+//! assert_eq!(card.to_string().parse(), Ok(card.clone()));
+//! let listed: Card = format!("{card}service 12 = space\n").parse().unwrap();
+//! assert_eq!(listed.services, [Service::new(12, ServiceClass::Space)]);
 //!
 //! let list = "# night\nelectric power=3 target=1\nclose_timestep\n";
 //! let calls = text::calls(list).unwrap();
@@ -20,9 +24,11 @@
 use crate::call::{Call, Kind};
 use crate::card::Card;
 use crate::form::Form;
+use crate::listed_services::{meant_service, number_text, ListedServices, WORD};
 pub use crate::nearest::{hint, nearest};
 use crate::parse::quoted;
 use crate::refusal::Refusal;
+use crate::service::Service;
 pub use crate::slips::{Slip, Slips};
 use std::fmt;
 use std::str::FromStr;
@@ -41,6 +47,8 @@ pub struct ListedCard {
     pub card: Card,
     /// The line of each field, from 1, in the order of [`Card::FIELDS`].
     pub lines: Vec<usize>,
+    /// The line of each service, from 1.
+    pub services: Vec<usize>,
 }
 
 impl ListedCard {
@@ -49,7 +57,8 @@ impl ListedCard {
         let mut slips = Slips::default();
         for fault in self.card.faults() {
             let at = Card::FIELDS.iter().position(|field| field.name == fault.field);
-            let line = at.and_then(|at| self.lines.get(at)).copied();
+            let field = at.and_then(|at| self.lines.get(at));
+            let line = fault.service.and_then(|at| self.services.get(at)).or(field).copied();
             slips.add(Slip { line, words: fault.words, refusal: Some(fault.refusal) });
         }
         slips
@@ -69,14 +78,25 @@ impl ListedCard {
 /// ```
 pub fn card(text: &str) -> Result<ListedCard, Slips> {
     let mut form = Form::new(&Card::FIELDS);
+    let mut services = ListedServices::default();
     let mut slips = Slips::default();
     let unread = |line, words| Slip { line, words, refusal: None };
     for (number, line) in bare_lines(text) {
-        let filled = match line.split_once('=') {
-            Some((name, value)) => form.fill(number, name.trim(), value.trim()),
-            None => Err(unread(Some(number), format!("{} is no 'name = value'", quoted(line)))),
+        let Some((name, value)) =
+            line.split_once('=').map(|(name, value)| (name.trim(), value.trim()))
+        else {
+            slips.add(unread(Some(number), format!("{} is no 'name = value'", quoted(line))));
+            continue;
         };
-        filled.unwrap_or_else(|slip| slips.add(slip));
+        match number_text(name) {
+            Some(service) => {
+                services.add(number, service, value).into_iter().for_each(|slip| slips.add(slip));
+            }
+            None => form.fill(number, name, value).unwrap_or_else(|mut slip| {
+                slip.words.push_str(meant_service(name));
+                slips.add(slip);
+            }),
+        }
     }
     if let Some(words) = form.missing() {
         slips.add(unread(None, words));
@@ -87,11 +107,13 @@ pub fn card(text: &str) -> Result<ListedCard, Slips> {
                 slips.add(Slip { line: Some(line), words, refusal: Some(Refusal::CardOutOfRange) });
             }
         }
+        services.faults().for_each(|slip| slips.add(slip));
         return Err(slips);
     }
     let lines = form.filled().map(|(_, _, line)| line).collect();
-    let card = Card::from_values(&form.values());
-    card.map(|card| ListedCard { card, lines }).ok_or(slips)
+    let ListedServices { services, lines: service_lines, .. } = services;
+    let card = Card::from_values(&form.values()).map(|card| Card { services, ..card });
+    card.map(|card| ListedCard { card, lines, services: service_lines }).ok_or(slips)
 }
 
 impl FromStr for Card {
@@ -111,6 +133,15 @@ impl fmt::Display for Card {
         for (field, value) in Card::FIELDS.iter().zip(self.values()) {
             let setting = format!("{} = {value}", field.name);
             writeln!(f, "{setting:<27} # {}: {}", field.about, field.range())?;
+        }
+        writeln!(
+            f,
+            "# Services by number, from version 3 on: at most 32, numbers rising from 4 to 65535,"
+        )?;
+        writeln!(f, "# each of them regular, space or direct, such as")?;
+        writeln!(f, "#   {WORD} 12 = space")?;
+        for Service { number, class } in &self.services {
+            writeln!(f, "{WORD} {number} = {class}")?;
         }
         Ok(())
     }

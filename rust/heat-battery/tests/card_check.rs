@@ -35,14 +35,14 @@ fn what_a_card_holds_is_what_the_engine_charges() {
     let folder = Folder::new("holds");
     let salt = Card::example();
     for card in [
-        salt,
-        Card { reference: 58.0, ..salt },
-        Card { reference: 70.0, ..salt },
-        Card { max: 58.5, start: 45.0, ..salt },
-        Card { max: 50.0, start: 45.0, ..salt },
-        Card { lower: 57.0, upper: 57.0, ..salt },
-        Card { lower: 20.0, upper: 30.0, ..salt },
-        Card { lower: 90.0, upper: 95.0, ..salt },
+        salt.clone(),
+        Card { reference: 58.0, ..salt.clone() },
+        Card { reference: 70.0, ..salt.clone() },
+        Card { max: 58.5, start: 45.0, ..salt.clone() },
+        Card { max: 50.0, start: 45.0, ..salt.clone() },
+        Card { lower: 57.0, upper: 57.0, ..salt.clone() },
+        Card { lower: 20.0, upper: 30.0, ..salt.clone() },
+        Card { lower: 90.0, upper: 95.0, ..salt.clone() },
     ] {
         let (zones, totals) = ([card.reference; 8], Totals::default());
         let empty = Battery::with_state(Version::NEWEST, &card, &zones, &totals).unwrap();
@@ -63,14 +63,16 @@ fn card_check_warns_of_odd_values() {
         assert_eq!(ended.err, format!("warning: {words}\n"));
         assert!(ended.out.starts_with("accepted: "));
     };
-    odd(Card { start: 85.0, ..salt }, "start is 85 °C, above max, which is 80 °C");
-    odd(Card { start: 15.0, ..salt }, "start is 15 °C, below reference, which is 40 °C");
+    odd(Card { start: 85.0, ..salt.clone() }, "start is 85 °C, above max, which is 80 °C");
+    odd(Card { start: 15.0, ..salt.clone() }, "start is 15 °C, below reference, which is 40 °C");
     let words = "losses of 0.5 kW take 12.00 kWh a day, and a unit holds 10.51 kWh";
-    odd(Card { losses: 0.5, ..salt }, words);
+    odd(Card { losses: 0.5, ..salt.clone() }, words);
     let far = "far from below and above, which are 305.2 and 381.5 kJ/K";
-    odd(Card { during: 380.0, losses: 0.0, ..salt }, &format!("during is 380 kJ/K, {far}"));
-    odd(Card { during: 1e6, ..salt }, &format!("during is 1000000 kJ/K, {far}"));
-    for card in [salt, Card { start: 80.0, ..salt }, Card { start: 40.0, ..salt }] {
+    odd(Card { during: 380.0, losses: 0.0, ..salt.clone() }, &format!("during is 380 kJ/K, {far}"));
+    odd(Card { during: 1e6, ..salt.clone() }, &format!("during is 1000000 kJ/K, {far}"));
+    for card in
+        [salt.clone(), Card { start: 80.0, ..salt.clone() }, Card { start: 40.0, ..salt.clone() }]
+    {
         assert_eq!(check(&folder, &card).err, "");
     }
 }

@@ -149,8 +149,8 @@ fn refused_calls_are_reported_and_the_list_goes_on() {
         "line 4, call 3 (demand): refused 20: required above 1e-10 without a return temperature; \
          line 2 of the sheet",
         "  start is 0.7, out of its range 0 to 0.5 h\n",
-        "line 6, call 5 (demand): refused 21: a committed demand of service type combi; \
-         line 3 of the sheet",
+        "line 6, call 5 (demand): refused 21: a committed demand of service type combi, or of a \
+         number that the card doesn't list; line 3 of the sheet",
         "6 calls, 4 refused: 4 lines, ",
     ] {
         assert!(ended.err.contains(words), "{} has no {words}", ended.err);

@@ -5,7 +5,7 @@ mod common {
 }
 
 use common::command::{example, examples, path_text, Folder};
-use heat_battery::{audit, read, text, Card, Sheet, Verdict, Version};
+use heat_battery::{audit, read, text, Card, Refusal, Sheet, Verdict, Version};
 use std::fs;
 use std::process::Command;
 
@@ -15,7 +15,7 @@ fn sheet(version: Version, card: &str, calls: &str) -> Vec<u8> {
     let calls = text::calls(&fs::read_to_string(example(calls)).unwrap()).unwrap();
     let mut sheet = Sheet::open_as(version, &card).unwrap();
     for listed in calls {
-        sheet.call(&listed.call).unwrap();
+        sheet.answer(&listed.call).unwrap();
     }
     sheet.into_bytes()
 }
@@ -26,6 +26,10 @@ fn two_lines() -> Vec<u8> {
 
 fn charging_loop() -> Vec<u8> {
     sheet(Version::Two, "charging-loop.card", "charging-loop.calls")
+}
+
+fn services() -> Vec<u8> {
+    sheet(Version::Three, "services.card", "services.calls")
 }
 
 #[test]
@@ -45,6 +49,21 @@ fn the_charging_loops_sheet_is_stored() {
     let shown: Vec<(u32, f64)> =
         lines.map(|line| line.unwrap().answer).map(|one| (one.substeps, one.time)).collect();
     assert_eq!(shown, [(2, 0.2634034416826004), (1, 20.0), (2, 40.0), (0, 0.0)]);
+}
+
+/// A demand for each service of the card, a trial and a demand for one that it doesn't list.
+#[test]
+fn the_sheet_of_services_is_stored() {
+    let bytes = services();
+    assert!(bytes == fs::read(example("services.sheet")).unwrap());
+    assert_eq!((bytes.len(), audit(&bytes)), (802, Verdict::Accepted(6)));
+    let (_, card, lines) = read(&bytes).unwrap();
+    let shown: Vec<(Option<Refusal>, bool)> = lines
+        .map(|line| line.unwrap())
+        .map(|line| (line.answer.refusal, card.unlisted(&line.call).is_some()))
+        .collect();
+    let (listed, refused) = ((None, false), (Some(Refusal::NoService), true));
+    assert_eq!(shown, [listed, listed, listed, (None, true), refused, listed]);
 }
 
 #[test]
@@ -105,6 +124,14 @@ fn the_format_page_shows_a_hydronic_line_of_version_2() {
     assert_eq!(annotated("A hydronic line of version 2"), hex(&bytes[..1]) + &hex(&bytes[line]));
 }
 
+/// The front of line 0, the card's services and line 1.
+#[test]
+fn the_format_page_shows_a_demand_line_of_version_3() {
+    let bytes = services();
+    let shown = hex(&bytes[..9]) + &hex(&bytes[161..171 + 2 + 108]);
+    assert_eq!(annotated("Services and a demand line of version 3"), shown);
+}
+
 /// The hex digits at the front of an indented line, without blanks.
 fn hex_column(line: &str) -> Option<String> {
     let line = line.strip_prefix("    ")?;
@@ -116,8 +143,10 @@ fn hex_column(line: &str) -> Option<String> {
 #[test]
 fn the_format_page_is_right_about_lengths_and_damage() {
     use heat_battery::Kind;
-    let fields = Kind::ALL.map(|kind| kind.bytes() - 1);
-    assert_eq!(fields, [28, 16, 72, 0, 0, 0, 17]);
+    let fields = |version| Kind::ALL.map(|kind| kind.bytes(version) - 1);
+    assert_eq!(fields(Version::One), [28, 16, 72, 0, 0, 0, 17]);
+    assert_eq!(fields(Version::Two), fields(Version::One));
+    assert_eq!(fields(Version::Three), [29, 16, 72, 0, 0, 0, 17]);
     let mut bytes = fs::read(example("two-lines.sheet")).unwrap();
     let zone = bytes.len() - 41;
     assert_eq!(bytes[zone], 0x72);
@@ -131,4 +160,16 @@ fn the_format_page_is_right_about_lengths_and_damage() {
     let time = 161 + 2 + 73 + 1 + 8 + 9;
     let without = [&bytes[..time], &[0; 8], &bytes[time + 8..]].concat();
     assert_eq!(audit(&without).to_string(), "refused 43 line 1");
+
+    let bytes = services();
+    let with = |at: usize, byte: u8| [&bytes[..at], &[byte], &bytes[at + 1..]].concat();
+    for (at, byte, verdict) in [
+        (164, 0x03, "refused 43 line 1"),
+        (164, 0x01, "accepted 6"),
+        (163, 0x03, "refused 41 line 0"),
+        (161, 0x02, "refused 41 line 0"),
+        (175, 0x0d, "refused 43 line 1"),
+    ] {
+        assert_eq!(audit(&with(at, byte)).to_string(), verdict, "byte {at}");
+    }
 }

@@ -30,7 +30,7 @@ fn words(line: &str) -> Vec<&str> {
 fn of_header(line: &str) -> Option<(String, String)> {
     let [define, name, number, ..] = words(line)[..] else { return None };
     let name = name.strip_prefix("HEAT_BATTERY_").filter(|_| define == "#define")?;
-    let others = ["OLDEST_VERSION", "NEWEST_VERSION", "MOST_LAYERS", "ANSWERED"];
+    let others = ["OLDEST_VERSION", "NEWEST_VERSION", "MOST_LAYERS", "MOST_SERVICES", "ANSWERED"];
     let other = name.contains("_LENGTH") || others.contains(&name);
     (!other).then(|| (name.to_string(), number.to_string()))
 }

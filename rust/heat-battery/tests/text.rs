@@ -24,7 +24,7 @@ fn slips_in_calls_are_named() {
     of("standing_loss now=1", "none is expected");
     of("electric power = 1 target=1", "'power' is no name=value (without blanks)");
     of("electric power=1 target=", "'target=' is no name=value");
-    of("demand service=bath", "service is 'bath', not combi, regular, space or direct");
+    of("demand service=bath", "service is 'bath', not combi, regular, space, direct or a number");
     of("demand commit=2", "commit is '2', not yes or no");
     of("\0\x1b[31m\r\n", "line 1: '\\0\\u{1b}[31m' is no call");
 }

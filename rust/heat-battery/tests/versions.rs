@@ -1,4 +1,4 @@
-//! Versions 1 and 2: the figures of document 02's request Three, and the version in the crate.
+//! Versions: the figures of document 02's request Three, and the version in the crate.
 
 mod common {
     pub mod figures;
@@ -24,12 +24,13 @@ fn answer(battery: &Battery, call: &Call) -> Answer {
     answer
 }
 
-/// The answers in both versions, which only differ in the time: none in version 1. Running totals
+/// The answers in all versions, which only differ in the time: none in version 1. Running totals
 /// stay.
-fn in_both(of: impl Fn(Version) -> Battery, call: &Call) -> Answer {
-    let [one, two] = Version::ALL.map(|version| answer(&of(version), call));
+fn in_all(of: impl Fn(Version) -> Battery, call: &Call) -> Answer {
+    let [one, two, later @ ..] = Version::ALL.map(|version| answer(&of(version), call));
     assert_eq!(one.time.to_bits(), 0);
     assert_eq!(Answer { time: 0.0, ..two }, one);
+    assert!(later.iter().all(|later| *later == two));
     let Totals { running_hours, pump_hours, direct_hours, .. } = two.totals;
     let before = of(Version::Two).totals();
     assert_eq!([running_hours, pump_hours, direct_hours], before.numbers()[..3]);
@@ -40,7 +41,7 @@ fn in_both(of: impl Fn(Version) -> Battery, call: &Call) -> Answer {
 fn a_hydronic_charge_shows_how_long_its_pump_ran() {
     for figure in figures() {
         let fresh = |version| Battery::open_as(version, &figure.card()).unwrap();
-        let answer = in_both(fresh, &figure.wet.call());
+        let answer = in_all(fresh, &figure.wet.call());
         let (substeps, time) = (answer.substeps, answer.time.to_bits());
         assert_eq!((substeps, time), (figure.substeps, figure.time.to_bits()), "{answer:?}");
     }
@@ -71,7 +72,7 @@ fn without_a_replay_the_last_substep_counts_whole() {
         (outlet_ends, 0.0, (1, 20.0)),
         (outlet_ends, 1e6, (1, 20.0)),
     ] {
-        let answer = in_both(of, &Wet { hex_b, limit, ..WET }.call());
+        let answer = in_all(of, &Wet { hex_b, limit, ..WET }.call());
         assert_eq!((answer.substeps, answer.time), ran, "hex b {hex_b}, limit {limit}");
         assert_eq!(answer.energy, 0.0);
     }
@@ -81,7 +82,7 @@ fn without_a_replay_the_last_substep_counts_whole() {
 fn a_refused_charge_shows_no_time() {
     let card = Card { start: 40.0, budget: 2, ..POINTS };
     let of = |version| Battery::open_as(version, &card).unwrap();
-    let answer = in_both(of, &WET.call());
+    let answer = in_all(of, &WET.call());
     assert_eq!((answer.refusal, answer.time.to_bits()), (Some(Refusal::OverBudget), 0));
 }
 
@@ -94,7 +95,7 @@ fn the_rules_have_the_figures() {
     }
 }
 
-// ---- Sheets of both versions
+// ---- Sheets of all versions
 
 /// A sheet of a version: a charge of 60 s, which the running hours don't have, and a demand.
 fn sheet(version: Version) -> Vec<u8> {
@@ -106,11 +107,20 @@ fn sheet(version: Version) -> Vec<u8> {
 
 const DEMAND: &str =
     "demand service=space commit=yes control_on=no required=0.01 start=0 return_temperature=10";
-/// Of the first line's time: behind the opening, its length, its call, refusal, energy and outlet.
-const TIME: usize = 161 + 2 + 73 + 1 + 8 + 9;
+
+/// Bytes of version and line 0 of a card without services.
+fn opening(version: u8) -> usize {
+    if version < 3 {
+        161
+    } else {
+        162
+    }
+}
 
 fn with_time(mut sheet: Vec<u8>, time: f64) -> Vec<u8> {
-    sheet[TIME..][..8].copy_from_slice(&time.to_be_bytes());
+    // Behind the opening, the first line's length, its call, refusal, energy and outlet.
+    let at = opening(sheet[0]) + 2 + 73 + 1 + 8 + 9;
+    sheet[at..][..8].copy_from_slice(&time.to_be_bytes());
     sheet
 }
 
@@ -125,13 +135,20 @@ fn first_line(sheet: &[u8]) -> Vec<[String; 3]> {
 }
 
 #[test]
-fn versions_differ_in_the_first_byte_and_the_time() {
-    let [one, two] = Version::ALL.map(sheet);
+fn versions_differ_in_the_first_byte_the_time_and_the_services() {
+    let [one, two, three] = Version::ALL.map(sheet);
     assert_eq!(with_time(one.clone(), 0.0), one);
     let mut other = with_time(one.clone(), 60.0);
     other[0] = 2;
     assert_eq!(other, two);
-    for (version, sheet) in Version::ALL.into_iter().zip([one, two]) {
+    // The card's length, its count of services, the second line's length and a byte of its type.
+    let line_2 = 161 + 2 + 71 + 8 + 72;
+    assert_eq!((&two[1..3], &two[line_2..line_2 + 4]), (&[0, 158][..], &[0, 107, 1, 2][..]));
+    let [card, line_1] = [&two[3..161], &two[161..line_2]];
+    let rest = &two[line_2 + 4..];
+    let other = [&[3, 0, 159], card, &[0], line_1, &[0, 108, 1, 0, 2], rest].concat();
+    assert_eq!(other, three);
+    for (version, sheet) in Version::ALL.into_iter().zip([one, two, three]) {
         assert_eq!(audit(&sheet), Verdict::Accepted(2));
         assert_eq!(explain(&sheet), Explanation::Agreement);
         assert_eq!(read(&sheet).unwrap().0, version);
@@ -140,13 +157,14 @@ fn versions_differ_in_the_first_byte_and_the_time() {
 
 #[test]
 fn a_wrong_time_is_refused_and_named() {
-    let [one, two] = Version::ALL.map(sheet);
+    let [one, two, three] = Version::ALL.map(sheet);
     let named = |shown: &str, given: &str| {
         [["time of the charging loop, s (0 in version 1)", shown, given].map(String::from)]
     };
     assert_eq!(first_line(&with_time(one.clone(), 60.0)), named("60.0", "0.0"));
     assert_eq!(first_line(&with_time(two.clone(), 0.0)), named("0.0", "60.0"));
     assert_eq!(first_line(&with_time(two.clone(), 40.0)), named("40.0", "60.0"));
+    assert_eq!(first_line(&with_time(three, 0.0)), named("0.0", "60.0"));
     // The other version's first byte.
     assert_eq!(first_line(&[&[2], &one[1..]].concat()), named("0.0", "60.0"));
     assert_eq!(first_line(&[&[1], &two[1..]].concat()), named("60.0", "0.0"));
@@ -155,7 +173,7 @@ fn a_wrong_time_is_refused_and_named() {
 #[test]
 fn the_charging_loop_is_summed_apart() {
     let lines = |sheet: &[u8]| -> Vec<_> { read(sheet).unwrap().2.map(Result::unwrap).collect() };
-    let [one, two] = Version::ALL.map(sheet);
+    let [one, two] = [Version::One, Version::Two].map(sheet);
     assert_eq!(ChargingLoop::of(Version::One, &lines(&one)), None);
     let lines = lines(&two);
     let pump = ChargingLoop::of(Version::Two, &lines).unwrap();
@@ -175,8 +193,8 @@ fn the_charging_loop_is_summed_apart() {
 #[test]
 fn the_newest_is_the_default() {
     let card = Card::example();
-    assert_eq!(Version::default(), Version::Two);
-    assert_eq!(Sheet::open(&card).unwrap().as_bytes()[0], 2);
+    assert_eq!(Version::default(), Version::Three);
+    assert_eq!(Sheet::open(&card).unwrap().as_bytes()[0], 3);
     assert_eq!(Sheet::open(&card).unwrap().version(), Version::NEWEST);
     assert_eq!(Battery::open(&card).unwrap().version(), Version::NEWEST);
     assert_eq!(Record::open(&card).unwrap().version(), Version::NEWEST);
@@ -199,15 +217,18 @@ fn a_version_is_kept() {
 
 #[test]
 fn batteries_of_two_versions_are_not_equal() {
-    let [one, two] = Version::ALL.map(|version| {
+    let [one, two, three] = Version::ALL.map(|version| {
         let battery = Battery::open_as(version, &Card::example()).unwrap();
         (Record::from(&battery), battery)
     });
     assert_eq!(one.1.as_bytes(), two.1.as_bytes());
-    assert!(one.1 != two.1 && one.0 != two.0);
-    let mut record = one.0.clone();
-    record.clone_from(&two.0);
-    assert!(record == two.0);
+    assert_ne!(two.1.as_bytes(), three.1.as_bytes());
+    for (one, other) in [(&one, &two), (&one, &three), (&two, &three)] {
+        assert!(one.1 != other.1 && one.0 != other.0);
+        let mut record = one.0.clone();
+        record.clone_from(&other.0);
+        assert!(record == other.0);
+    }
 }
 
 #[test]
@@ -225,16 +246,16 @@ fn unknown_versions_are_40() {
         }
     }
     assert_eq!(audit(&[]), refused);
-    assert_eq!(Version::known(), "1, 2");
+    assert_eq!(Version::known(), "1, 2, 3");
 }
 
 /// 40 goes before all else, and nothing is changed.
 #[test]
 fn the_entries_refuse_unknown_versions() {
-    let card = Card::example().to_bytes();
-    let call = Call::StandingLoss.to_bytes();
+    let card = Card::example().to_bytes(Version::NEWEST).unwrap();
+    let call = Call::StandingLoss.to_bytes(Version::NEWEST).unwrap();
     for version in [0, Version::NEWEST.number() + 1, 255] {
-        for (card, record, sheet) in [(&card[..], 262, 161), (&card[..9], 262, 161), (&[], 0, 0)] {
+        for (card, record, sheet) in [(&card[..], 263, 162), (&card[..9], 263, 162), (&[], 0, 0)] {
             let (mut record, mut sheet) = (vec![7; record], vec![7; sheet]);
             assert_eq!(ffi::open(version, card, &mut record, &mut sheet), 40);
             assert!(record.iter().chain(&sheet).all(|byte| *byte == 7));
@@ -257,7 +278,8 @@ fn the_entries_refuse_unknown_versions() {
 
 /// The caller's own record, of the points' card, with any count.
 fn own(count: u8) -> ffi::Battery {
-    let numbers = Battery::open(&POINTS).unwrap().as_bytes()[6..].to_vec();
+    let battery = Battery::open_as(Version::One, &POINTS).unwrap();
+    let numbers = battery.as_bytes()[6..].to_vec();
     let mut numbers = numbers
         .chunks_exact(8)
         .map(|bytes| f64::from_bits(u64::from_be_bytes(bytes.try_into().unwrap())));
@@ -266,7 +288,8 @@ fn own(count: u8) -> ffi::Battery {
     let card = ffi::Card { layers: 1, units: 1, simultaneous: 0, budget: 1000, numbers };
     let mut zones = [0.0; heat_battery::MOST_LAYERS];
     zones[0] = next();
-    ffi::Battery { card, zones, count, totals: [0.0; 5] }
+    let (totals, services, numbers, classes) = ([0.0; 5], 0, [0; 32], [0; 32]);
+    ffi::Battery { card, zones, count, totals, services, numbers, classes }
 }
 
 #[test]

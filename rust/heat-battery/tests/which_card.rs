@@ -5,13 +5,18 @@ mod common {
 }
 
 use common::command::{example, examples, run, run_with, Folder};
-use heat_battery::Card;
+use heat_battery::{Card, Service, ServiceClass, Version};
 use std::fs;
 
 const DAY: &str = "winter-day.sheet";
-/// CRC-32 of bytes 3 to 160 of the example sheets, by another program (zlib).
-const FINGERPRINTS: [(&str, &str); 3] =
-    [(DAY, "3ce57cdf"), ("two-lines.sheet", "49f80dbf"), ("charging-loop.sheet", "2ef770a9")];
+/// CRC-32 of bytes 3 to 160 of the example sheets, that of services 3 to 170, by another program
+/// (zlib).
+const FINGERPRINTS: [(&str, &str); 4] = [
+    (DAY, "3ce57cdf"),
+    ("two-lines.sheet", "49f80dbf"),
+    ("charging-loop.sheet", "2ef770a9"),
+    ("services.sheet", "421f0a52"),
+];
 
 #[test]
 fn the_fingerprint_stands_beside_the_verdict() {
@@ -24,15 +29,17 @@ fn the_fingerprint_stands_beside_the_verdict() {
         let json = run(&["show", "--json", &example(sheet)]).out;
         assert!(json.contains(&format!("\n\"fingerprint\":\"{fingerprint}\",\n")));
     }
-    let checked = run(&["card", "check", &example("two-lines.card")]).out;
-    assert!(checked.contains("\ncard 49f80dbf\n"), "{checked}");
+    for (card, fingerprint) in [("two-lines.card", "49f80dbf"), ("services.card", "421f0a52")] {
+        let checked = run(&["card", "check", &example(card)]).out;
+        assert!(checked.contains(&format!("\ncard {fingerprint}\n")), "{checked}");
+    }
     assert_eq!(run_with(&["audit", "-"], &[1]).out, "refused 41 line 0\n", "no card to be read");
 }
 
 #[test]
 fn the_pages_have_the_fingerprint() {
     let page = fs::read_to_string(examples().join("../docs/FORMAT.md")).unwrap();
-    assert!(page.contains("`49f80dbf`") && page.contains("CRC-32"));
+    assert!(page.contains("`49f80dbf`") && page.contains("`421f0a52`") && page.contains("CRC-32"));
     let page = include_str!("../README.md");
     assert!(page.contains("card 3ce57cdf") && page.contains("CRC-32"));
 }
@@ -41,11 +48,14 @@ fn the_pages_have_the_fingerprint() {
 #[test]
 fn another_card_has_another_fingerprint() {
     let card = Card::example();
-    let bytes = card.to_bytes();
+    let services = vec![Service::new(12, ServiceClass::Space)];
+    let card = Card { services, ..card };
+    let version = Version::NEWEST;
+    let bytes = card.to_bytes(version).unwrap();
     for bit in 0..8 * bytes.len() {
-        let mut other = bytes;
+        let mut other = bytes.clone();
         other[bit / 8] ^= 1 << (bit % 8);
-        let Ok(other) = Card::from_bytes(&other) else { continue };
+        let Ok(other) = Card::from_bytes(version, &other) else { continue };
         assert_ne!(other.fingerprint(), card.fingerprint(), "bit {bit}");
     }
 }
@@ -61,7 +71,7 @@ fn audit_compares_with_the_card_expected() {
     // No answer depends on the budget here, so a sheet with another one is accepted.
     let other = Card { budget: 1001, ..Card::example() };
     let mut bytes = fs::read(&day).unwrap();
-    bytes[3..161].copy_from_slice(&other.to_bytes());
+    bytes[3..161].copy_from_slice(&other.to_bytes(Version::One).unwrap());
     let sheet = folder.write("sheet", &bytes);
     run(&["audit", &sheet]).assert_fine("an altered card");
     let ended = run(&["audit", &sheet, "--card", &card]);

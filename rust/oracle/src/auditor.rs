@@ -5,7 +5,7 @@ use crate::entries::Step;
 use crate::model::{is_known, Answer, Battery, Call, Card};
 use crate::plain;
 use crate::reading;
-use crate::sheet::{self, CARD_BYTES};
+use crate::sheet;
 use std::fmt;
 
 /// The most bytes that the program and the C audit take.
@@ -93,7 +93,7 @@ pub fn audit_by(step: Step, sheet: &[u8]) -> Verdict {
         Some((&version, lines)) if is_known(version) => (version, lines),
         _ => return Verdict::refused(40, 0),
     };
-    match card_line(lines) {
+    match card_line(version, lines) {
         Some((card, lines)) => call_lines(step, version, Battery::fresh(&card), lines),
         None => Verdict::refused(41, 0),
     }
@@ -105,20 +105,17 @@ fn first_line(bytes: &[u8]) -> Option<(&[u8], &[u8])> {
     rest.split_at_checked(usize::from(u16::from_be_bytes(*length)))
 }
 
-fn card_line(bytes: &[u8]) -> Option<(Card, &[u8])> {
+fn card_line(version: u8, bytes: &[u8]) -> Option<(Card, &[u8])> {
     let (content, rest) = first_line(bytes)?;
-    if content.len() != CARD_BYTES {
-        return None;
-    }
-    let card = reading::card(content)?;
+    let card = reading::card(version, content)?;
     (plain::card_refusal(&card) == 0).then_some((card, rest))
 }
 
 /// A call line's call and answer; None where refusal 42 applies.
-fn call_line(card: &Card, content: &[u8]) -> Option<(Call, Answer)> {
-    let length = sheet::call_length(*content.first()?)?;
+fn call_line(version: u8, card: &Card, content: &[u8]) -> Option<(Call, Answer)> {
+    let length = sheet::call_length(version, *content.first()?)?;
     let (call, answer) = content.split_at_checked(length)?;
-    Some((reading::call(card, call)?, reading::answer(card.layers, answer)?))
+    Some((reading::call(version, card, call)?, reading::answer(card.layers, answer)?))
 }
 
 fn call_lines(step: Step, version: u8, mut battery: Battery, mut bytes: &[u8]) -> Verdict {
@@ -128,7 +125,7 @@ fn call_lines(step: Step, version: u8, mut battery: Battery, mut bytes: &[u8]) -
         let Some((content, rest)) = first_line(bytes) else {
             return Verdict::refused(42, line);
         };
-        let Some((call, shown)) = call_line(&battery.card, content) else {
+        let Some((call, shown)) = call_line(version, &battery.card, content) else {
             return Verdict::refused(42, line);
         };
         let (answer, after) = step(version, &battery, &call);

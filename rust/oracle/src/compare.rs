@@ -8,7 +8,7 @@ use crate::entries::{self, Step};
 use crate::generate;
 use crate::lent::{Flush, Lent, LentValue};
 use crate::library::Library;
-use crate::model::Battery;
+use crate::model::{is_known, Battery};
 use crate::own::{self, Record, Shown};
 use crate::random::Random;
 use crate::raw::{self, Calling, Opening};
@@ -170,7 +170,8 @@ pub fn check_call(
     report.fail(input.known.allows(ours.result), other.is_none(), || {
         failure("call", version, &lend(), &ours, other.as_ref())
     });
-    reading::battery(&ours.record)
+    // An unknown version reads nothing.
+    is_known(version).then(|| reading::battery(version, &ours.record)).flatten()
 }
 
 /// Compares a call on the caller's own record.
@@ -210,7 +211,7 @@ pub fn entries(library: &impl Library, step: Step, count: u64, seed: u64) -> Rep
     while report.inputs < count {
         check_open(library, &raw::opening(&mut random), &mut report);
         let version = generate::version(&mut random);
-        let card = generate::card(&mut random);
+        let card = generate::card_of(&mut random, version);
         let mut battery = generate::battery(&mut random, &card);
         for _ in 0..generate::list_length(&mut random) {
             let input = raw::calling(&mut random, version, &battery);

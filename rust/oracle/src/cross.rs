@@ -54,11 +54,11 @@ pub fn run(count: u64, seed: u64) -> Counts {
     let mut counts = Counts::default();
     while counts.calls < count {
         let version = generate::version(&mut random);
-        let card = generate::card(&mut random);
+        let card = generate::card_of(&mut random, version);
         let mut battery = generate::battery(&mut random, &card);
         counts.lists += 1;
         for _ in 0..generate::list_length(&mut random) {
-            let call = generate::next_call(&mut random, &battery);
+            let call = generate::next_call(&mut random, version, &battery);
             battery = compare(version, &battery, &call, &mut counts);
         }
     }

@@ -4,12 +4,12 @@ use crate::auditor::{Verdict, MOST_BYTES};
 use crate::entries;
 use crate::fields::{self, Line};
 use crate::generate;
-use crate::model::{is_known, shows_hydronic_time, Card, VERSIONS};
+use crate::model::{is_known, lists_services, shows_hydronic_time, Card, VERSIONS};
 use crate::plain;
 use crate::random::Random;
 use crate::raw::garbage;
 use crate::reading;
-use crate::sheet::{self, OPENING_BYTES};
+use crate::sheet::{self, CARD_BYTES};
 
 /// A sheet for an auditor without a limit of length.
 pub struct Sheet {
@@ -52,20 +52,21 @@ pub struct Written {
 /// Opens a sheet of `room` bytes and makes up to `calls` random calls, some of them broken.
 pub fn write(random: &mut Random, version: u8, card: &Card, calls: u64, room: usize) -> Written {
     let mut lent = garbage(random, room);
-    let mut record = vec![0; sheet::record_length(card.layers)];
-    let opened = entries::open(version, &sheet::card_bytes(card), &mut record, &mut lent);
+    let card_bytes = sheet::card_bytes(version, card);
+    let mut record = vec![0; sheet::record_length(&card_bytes)];
+    let opened = entries::open(version, &card_bytes, &mut record, &mut lent);
     assert_eq!(opened, 0, "an accepted card with room opens a sheet");
     let mut written = Written { bytes: Vec::new(), lines: 0 };
-    let mut used = OPENING_BYTES;
+    let mut used = sheet::opening_length(&card_bytes);
     for _ in 0..calls {
-        let battery = reading::battery(&record).expect("an entry leaves a good battery");
-        let mut call = sheet::call_bytes(&generate::next_call(random, &battery));
+        let battery = reading::battery(version, &record).expect("an entry leaves a good battery");
+        let mut call = sheet::call_bytes(version, &generate::next_call(random, version, &battery));
         if random.one_in(10) {
-            fields::break_call(random, &mut call, card.timestep);
+            fields::break_call(random, version, &mut call, card.timestep);
         }
         let result = entries::call(version, &mut record, &call, &mut lent[used..]);
         if result != 10 && result != 11 {
-            used += 2 + call.len() + sheet::answer_length(card.layers);
+            used += sheet::line_length(&call, card.layers);
             written.lines += 1;
         }
     }
@@ -77,10 +78,11 @@ pub fn write(random: &mut Random, version: u8, card: &Card, calls: u64, room: us
 /// A sheet of an ordinary list; the room is at times too small for all of it.
 fn ordinary(random: &mut Random) -> Written {
     let version = generate::version(random);
-    let card = generate::card(random);
+    let card = generate::card_of(random, version);
     let calls = generate::list_length(random) - 1;
+    let opening = sheet::opening(version, &card).len();
     let room = match random.below(4) {
-        0 => OPENING_BYTES + random.below(3000) as usize,
+        0 => opening + random.below(3000) as usize,
         _ => 40_000,
     };
     write(random, version, &card, calls, room)
@@ -89,7 +91,7 @@ fn ordinary(random: &mut Random) -> Written {
 /// A sheet of more bytes than the program takes.
 fn long(random: &mut Random) -> Written {
     let version = generate::version(random);
-    let card = Card { layers: 64, ..generate::card(random) };
+    let card = Card { layers: 64, ..generate::card_of(random, version) };
     write(random, version, &card, 140, 2 * MOST_BYTES)
 }
 
@@ -114,6 +116,8 @@ fn version_known(before: u8, bytes: &[u8], lines: &[Line]) -> Known {
     let (shown, due) = (shows_hydronic_time(before), shows_hydronic_time(bytes[0]));
     if !is_known(bytes[0]) {
         refused(40, 0)
+    } else if lists_services(before) != lists_services(bytes[0]) {
+        refused(41, 0) // no card's length is one of both
     } else if shown == due {
         accepted
     } else {
@@ -139,9 +143,9 @@ fn another_time(bytes: &[u8], line: &Line, is_shown: bool) -> Option<Known> {
 
 /// The card of a sheet was changed.
 fn card_known(bytes: &[u8]) -> Known {
-    let card = reading::card(&bytes[3..OPENING_BYTES]).expect("a card's length");
-    match plain::card_refusal(&card) {
-        0 => Known::From(0),
+    let card = reading::card(bytes[0], &bytes[3..fields::opening_end(bytes)]);
+    match card.map(|card| plain::card_refusal(&card)) {
+        Some(0) => Known::From(1),
         _ => refused(41, 0),
     }
 }
@@ -153,7 +157,8 @@ fn line_known(before: &[u8], after: &[u8], line: &Line, at: usize, lines: u64) -
         refused(42, index)
     } else if at < line.answer() {
         // Kinds 4, 5 and 6 have one length; another call in range can have the same answer.
-        match sheet::call_length(after[line.call()]) == sheet::call_length(line.kind) {
+        let length = |kind| sheet::call_length(line.version, kind);
+        match length(after[line.call()]) == length(line.kind) {
             true => Known::From(index),
             false => refused(42, index),
         }
@@ -187,7 +192,7 @@ fn number_known(before: &[u8], after: &[u8], line: &Line, at: usize, lines: u64)
 pub fn cut(sheet: &[u8], lines: &[Line], length: usize) -> Sheet {
     let known = match lines.iter().find(|line| line.end() > length) {
         _ if length == 0 => refused(40, 0),
-        _ if length < OPENING_BYTES => refused(41, 0),
+        _ if length < fields::opening_end(sheet) => refused(41, 0),
         Some(line) if line.at == length => Known::Exactly(Verdict::Accepted(line.index - 1)),
         Some(line) => refused(42, line.index),
         None => Known::Exactly(Verdict::Accepted(lines.len() as u64)),
@@ -218,7 +223,7 @@ pub fn zero_signs(sheet: &[u8]) -> Vec<Sheet> {
             copies.push(Sheet { what: "sign of a zero", ..flipped(sheet, &lines, at, 128) });
         }
         let call = &sheet[line.call_bytes()];
-        if let Some(mark) = fields::mark(line.kind).filter(|mark| call[*mark] == 0) {
+        if let Some(mark) = fields::mark(line.version, line.kind).filter(|mark| call[*mark] == 0) {
             let mut bytes = sheet.to_vec();
             bytes[line.call() + mark + 1] = 128;
             let known = refused(42, line.index);
@@ -298,7 +303,7 @@ impl Copy<'_> {
             }
             _ => {
                 let call = &mut self.bytes[line.call_bytes()];
-                fields::break_call(self.random, call, timestep);
+                fields::break_call(self.random, line.version, call, timestep);
             }
         }
     }
@@ -321,9 +326,73 @@ impl Copy<'_> {
         self.bytes.splice(line.at..line.at, copy);
     }
 
-    fn put_card(&mut self, card: &Card) {
-        self.bytes[3..OPENING_BYTES].copy_from_slice(&sheet::card_bytes(card));
+    fn opening_end(&self) -> usize {
+        fields::opening_end(&self.bytes)
     }
+
+    /// In the place of line 0.
+    fn put_card(&mut self, card: &Card) {
+        let opening = sheet::opening(self.bytes[0], card);
+        self.bytes.splice(..self.opening_end(), opening);
+    }
+
+    fn card(&self) -> Card {
+        let card = reading::card(self.bytes[0], &self.bytes[3..self.opening_end()]);
+        card.expect("a sheet under damage has a card")
+    }
+}
+
+/// Damage to the list of services, in version 3: its count, its length, its entries.
+fn damage_services(mut copy: Copy) -> Option<Sheet> {
+    if !lists_services(copy.bytes[0]) {
+        return None;
+    }
+    let card = copy.card();
+    let count = copy.bytes[3 + CARD_BYTES];
+    match copy.random.below(6) {
+        0 => {
+            copy.bytes[3 + CARD_BYTES] =
+                copy.random.pick(&[!count, count ^ 1, count ^ 32, count ^ 33]);
+            copy.done("count", refused(41, 0))
+        }
+        1 => {
+            // A byte of the card less, and its length with it: 158 + 3 × count.
+            let end = copy.opening_end();
+            copy.bytes.remove(end - 1);
+            let length = (end - 4) as u16;
+            copy.bytes[1..3].copy_from_slice(&length.to_be_bytes());
+            copy.done("length 158 and services", refused(41, 0))
+        }
+        2 => {
+            // A service more, made of the first line's bytes.
+            let length = (copy.opening_end() - 3 + 3) as u16;
+            copy.bytes[3 + CARD_BYTES] = count.checked_add(1)?;
+            copy.bytes[1..3].copy_from_slice(&length.to_be_bytes());
+            copy.done("count and length", Known::From(0))
+        }
+        3 | 4 => {
+            let services = generate::refused_services(copy.random);
+            copy.put_card(&Card { services, ..card });
+            copy.done("refused services", refused(41, 0))
+        }
+        _ => {
+            let services = generate::services(copy.random);
+            copy.put_card(&Card { services, ..card });
+            copy.done("other services", Known::From(1))
+        }
+    }
+}
+
+/// Damage to a demand's type, in version 3: its bytes exchanged, or another one. Any is in range.
+fn damage_type(mut copy: Copy) -> Option<Sheet> {
+    let line = copy.line().filter(|line| line.kind == 1 && lists_services(line.version))?;
+    let (high, low) = (line.call() + 1, line.call() + 2);
+    match copy.random.below(3) {
+        0 => copy.bytes.swap(high, low),
+        1 => copy.bytes[high] ^= 1,
+        _ => copy.bytes[low] = copy.bytes[low].wrapping_add(1),
+    }
+    copy.done("type", Known::From(line.index))
 }
 
 /// Half of them are known ones.
@@ -348,12 +417,14 @@ fn damage_ends(mut copy: Copy) -> Option<Sheet> {
     match copy.random.below(8) {
         0 => turned(copy),
         1 => {
-            let length = copy.random.pick(&[0, 1, 157, 159, 0x9e00, 0xffff]);
-            copy.bytes[1..3].copy_from_slice(&u16::to_be_bytes(length));
+            let right = copy.opening_end() as u16 - 3;
+            let lengths = [0, 1, 157, right - 1, right + 1, right + 3, 0x9e00, 0xffff];
+            let length = copy.random.pick(&lengths);
+            copy.bytes[1..3].copy_from_slice(&length.to_be_bytes());
             copy.done("card's length", refused(41, 0))
         }
         2 | 3 => {
-            let card = generate::any_card(copy.random);
+            let card = generate::any_card_of(copy.random, copy.bytes[0]);
             copy.put_card(&card);
             let known = card_known(&copy.bytes);
             copy.done("another card", known)
@@ -367,7 +438,7 @@ fn damage_ends(mut copy: Copy) -> Option<Sheet> {
         5 => {
             let length = copy.random.below(400) as usize;
             let more = garbage(copy.random, length);
-            copy.bytes.truncate(OPENING_BYTES);
+            copy.bytes.truncate(copy.opening_end());
             copy.bytes.extend(more);
             let first =
                 if length == 0 { Known::Exactly(Verdict::Accepted(0)) } else { refused(42, 1) };
@@ -438,10 +509,12 @@ fn damage_two(mut copy: Copy, timestep: f64) -> Option<Sheet> {
 
 /// A damaged copy of an accepted sheet; None where the sheet has no place for the damage drawn.
 pub fn damaged(random: &mut Random, sheet: &[u8]) -> Option<Sheet> {
-    let timestep = reading::card(&sheet[3..OPENING_BYTES])?.timestep;
-    let which = random.below(10);
+    let which = random.below(12);
     let copy = Copy { random, bytes: sheet.to_vec(), lines: fields::lines(sheet) };
+    let timestep = copy.card().timestep;
     match which {
+        10 => damage_services(copy),
+        11 => damage_type(copy),
         0..=2 => damage_ends(copy),
         3..=8 => damage_line(copy, timestep),
         _ => damage_two(copy, timestep),

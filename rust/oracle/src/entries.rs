@@ -33,18 +33,18 @@ pub fn open(version: u8, card: &[u8], record: &mut [u8], sheet: &mut [u8]) -> u8
     if !is_known(version) {
         return 40;
     }
-    let Some(read) = reading::card(card) else {
+    let Some(read) = reading::card(version, card) else {
         return 1;
     };
     let refusal = plain::card_refusal(&read);
     if refusal != 0 {
         return refusal;
     }
-    let fresh = sheet::battery_bytes(&Battery::fresh(&read));
+    let fresh = sheet::battery_bytes(version, &Battery::fresh(&read));
     if record.len() != fresh.len() {
         return 10;
     }
-    if sheet.len() < sheet::OPENING_BYTES {
+    if sheet.len() < sheet::opening_length(card) {
         return 11;
     }
     record.copy_from_slice(&fresh);
@@ -62,18 +62,18 @@ pub fn call_by(step: Step, version: u8, record: &mut [u8], call: &[u8], sheet: &
     if !is_known(version) {
         return 40;
     }
-    let Some(battery) = reading::battery(record) else {
+    let Some(battery) = reading::battery(version, record) else {
         return 10;
     };
-    let Some(read) = reading::call(&battery.card, call) else {
+    let Some(read) = reading::call(version, &battery.card, call) else {
         return 10;
     };
-    if sheet.len() < 2 + call.len() + sheet::answer_length(battery.card.layers) {
+    if sheet.len() < sheet::line_length(call, battery.card.layers) {
         return 11;
     }
     let (answer, after) = step(version, &battery, &read);
     put_in_front(sheet, &sheet::line_with(call, &answer));
-    record.copy_from_slice(&sheet::battery_bytes(&after));
+    record.copy_from_slice(&sheet::battery_bytes(version, &after));
     answer.refusal
 }
 

@@ -1,30 +1,42 @@
 //! Where things stand in the bytes of a call and of a sheet, for those who damage them.
 
+use crate::model::lists_services;
 use crate::random::Random;
 use crate::ranges::{self, Range};
-use crate::sheet::{self, OPENING_BYTES};
+use crate::sheet;
 
-/// Places of a call's type and flags, each with its largest value.
-fn flags(kind: u8) -> &'static [(usize, u8)] {
+/// How much later a demand's fields stand than in version 1, its type aside.
+fn later(version: u8) -> usize {
+    usize::from(lists_services(version))
+}
+
+/// Places of a call's type and flags, each with its largest value. From version 3 on a type has none.
+fn flags(version: u8, kind: u8) -> &'static [(usize, u8)] {
     match kind {
+        1 if lists_services(version) => &[(3, 1), (4, 1)],
         1 => &[(1, 3), (2, 1), (3, 1)],
         _ => &[],
     }
 }
 
 /// The place of a call's mark; its number stands after it.
-pub fn mark(kind: u8) -> Option<usize> {
+pub fn mark(version: u8, kind: u8) -> Option<usize> {
     match kind {
-        1 => Some(20),
+        1 => Some(20 + later(version)),
         7 => Some(1),
         _ => None,
     }
 }
 
 /// Places and ranges of a call's numbers, the one after the mark included.
-pub fn numbers(kind: u8, timestep: f64) -> Vec<(usize, Range)> {
+pub fn numbers(version: u8, kind: u8, timestep: f64) -> Vec<(usize, Range)> {
+    let later = later(version);
     match kind {
-        1 => vec![(4, ranges::REQUIRED), (12, (0.0, timestep)), (21, ranges::TEMPERATURE)],
+        1 => vec![
+            (4 + later, ranges::REQUIRED),
+            (12 + later, (0.0, timestep)),
+            (21 + later, ranges::TEMPERATURE),
+        ],
         2 => vec![(1, ranges::POWER), (9, ranges::FRACTION)],
         3 => (0..9).map(|at| (1 + 8 * at, HYDRONIC[at])).collect(),
         7 => vec![(2, ranges::TEMPERATURE), (10, ranges::FRACTION)],
@@ -81,18 +93,19 @@ pub fn unknown_kind(random: &mut Random) -> u8 {
 }
 
 /// Breaks one field of a call that is in range, in its length: refusal 10, on a line 42.
-pub fn break_call(random: &mut Random, call: &mut [u8], timestep: f64) {
+pub fn break_call(random: &mut Random, version: u8, call: &mut [u8], timestep: f64) {
     let kind = call[0];
-    let numbers = numbers(kind, timestep);
+    let (flags, mark) = (flags(version, kind), mark(version, kind));
+    let numbers = numbers(version, kind, timestep);
     match random.below(8) {
-        0 | 1 if !flags(kind).is_empty() => {
-            let (at, largest) = random.pick(flags(kind));
+        0 | 1 if !flags.is_empty() => {
+            let (at, largest) = random.pick(flags);
             call[at] = random.pick(&[largest + 1, largest + 1, 128, 255]);
         }
-        2 | 3 if mark(kind).is_some() => break_mark(random, call),
+        2 | 3 if mark.is_some() => break_mark(random, call, mark.unwrap_or_default()),
         4..=6 if !numbers.is_empty() => {
             let (at, range) = random.pick(&numbers);
-            if mark(kind).is_some_and(|mark| mark + 1 == at) {
+            if mark.is_some_and(|mark| mark + 1 == at) {
                 call[at - 1] = 1;
             }
             put_number(call, at, outside(random, range));
@@ -102,8 +115,7 @@ pub fn break_call(random: &mut Random, call: &mut [u8], timestep: f64) {
 }
 
 /// Another mark than 0 and 1, or nonzero bytes under mark 0: a sign, a bit or any number.
-fn break_mark(random: &mut Random, call: &mut [u8]) {
-    let at = mark(call[0]).expect("the kind has a mark");
+fn break_mark(random: &mut Random, call: &mut [u8], at: usize) {
     match random.below(4) {
         0 => call[at] = random.pick(&[2, 2, 128, 255]),
         1 => {
@@ -125,6 +137,7 @@ fn break_mark(random: &mut Random, call: &mut [u8]) {
 /// The places of a call line in a sheet.
 #[derive(Clone, Copy, Debug)]
 pub struct Line {
+    pub version: u8,
     /// 1 for the first call line.
     pub index: u64,
     /// Where its length stands.
@@ -139,7 +152,23 @@ impl Line {
     }
 
     fn call_length(&self) -> usize {
-        sheet::call_length(self.kind).expect("a known kind")
+        sheet::call_length(self.version, self.kind).expect("a known kind")
+    }
+
+    /// The bytes of a demand's type.
+    pub fn service_type(&self) -> std::ops::Range<usize> {
+        let at = self.call() + 1;
+        at..at + 1 + later(self.version)
+    }
+
+    /// The commit flag of a demand.
+    pub fn commit(&self) -> usize {
+        self.service_type().end
+    }
+
+    /// The mark of a demand's return temperature.
+    pub fn return_mark(&self) -> usize {
+        self.commit() + 18
     }
 
     /// The first byte of the answer, its refusal.
@@ -196,13 +225,19 @@ impl Line {
     }
 }
 
+/// Where the call lines of a sheet begin, by the length of its line 0.
+pub fn opening_end(sheet: &[u8]) -> usize {
+    3 + usize::from(u16::from_be_bytes([sheet[1], sheet[2]]))
+}
+
 /// The call lines of an accepted sheet.
 pub fn lines(sheet: &[u8]) -> Vec<Line> {
-    let layers = sheet[3];
+    let (version, layers) = (sheet[0], sheet[3]);
     let mut lines: Vec<Line> = Vec::new();
-    let mut at = OPENING_BYTES;
+    let mut at = opening_end(sheet);
     while at < sheet.len() {
-        let line = Line { index: lines.len() as u64 + 1, at, kind: sheet[at + 2], layers };
+        let index = lines.len() as u64 + 1;
+        let line = Line { version, index, at, kind: sheet[at + 2], layers };
         at = line.end();
         lines.push(line);
     }

@@ -1,9 +1,13 @@
 //! Random cards, batteries and calls, weighted to every edge of document 01's ranges.
 
-use crate::model::{is_known, Battery, Call, Card, Demand, Hydronic, State, Totals, VERSIONS};
-use crate::plain;
+use crate::model::{
+    is_known, lists_services, Battery, Call, Card, Demand, Hydronic, Service, Services, State,
+    Totals, VERSIONS,
+};
+use crate::plain::{self, MOST_SERVICES};
 use crate::random::Random;
 use crate::ranges::{self, Range};
+use std::collections::BTreeSet;
 
 /// A known version.
 pub fn version(random: &mut Random) -> u8 {
@@ -48,6 +52,7 @@ pub fn points_card() -> Card {
         losses: 0.25,
         start: 60.0,
         power: 0.0,
+        services: Services::default(),
     }
 }
 
@@ -79,6 +84,7 @@ fn ordinary_card(random: &mut Random) -> Card {
         losses: random.between(0.0, 0.5),
         start: random.between(20.0, 90.0).round(),
         power: random.pick(&[0.0, 1.0, 3.0, 20.0]),
+        services: Services::default(),
     }
 }
 
@@ -138,7 +144,7 @@ fn near_mark(random: &mut Random, card: &Card) -> f64 {
     random.near(mark)
 }
 
-/// An accepted card.
+/// An accepted card without services.
 pub fn card(random: &mut Random) -> Card {
     loop {
         let mut card = ordinary_card(random);
@@ -151,7 +157,16 @@ pub fn card(random: &mut Random) -> Card {
     }
 }
 
-/// A card of any kind: accepted ones, each range's both sides, each of 1 to 4.
+/// An accepted card of a version.
+pub fn card_of(random: &mut Random, version: u8) -> Card {
+    let card = card(random);
+    match lists_services(version) {
+        true => Card { services: services(random), ..card },
+        false => card,
+    }
+}
+
+/// A card of any kind without services: accepted ones, each range's both sides, each of 1 to 4.
 pub fn any_card(random: &mut Random) -> Card {
     let mut card = card(random);
     match random.below(8) {
@@ -177,6 +192,90 @@ pub fn any_card(random: &mut Random) -> Card {
         _ => {}
     }
     card
+}
+
+/// A card of any kind, in version 3 with an accepted list or with one that 61 refuses.
+pub fn any_card_of(random: &mut Random, version: u8) -> Card {
+    let card = any_card(random);
+    let services = match lists_services(version) {
+        true if random.one_in(3) => refused_services(random),
+        true => services(random),
+        false => Services::default(),
+    };
+    Card { services, ..card }
+}
+
+/// Service numbers whose bytes, ends or order can be got wrong.
+const ODD_NUMBERS: [u16; 16] =
+    [4, 5, 6, 127, 128, 254, 255, 256, 257, 515, 1024, 32767, 32768, 65281, 65534, 65535];
+
+/// So many different numbers from 4 up, rising: odd ones, neighbours, and any.
+fn rising_numbers(random: &mut Random, count: usize) -> Vec<u16> {
+    let mut numbers = BTreeSet::new();
+    while numbers.len() < count {
+        let number = match random.below(4) {
+            0 => random.pick(&ODD_NUMBERS),
+            1 => numbers.last().map_or(4, |last: &u16| last.saturating_add(1)),
+            _ => random.word() as u16,
+        };
+        if number > 3 {
+            numbers.insert(number);
+        }
+    }
+    numbers.into_iter().collect()
+}
+
+fn listed(random: &mut Random, count: usize) -> Vec<Service> {
+    let numbers = rising_numbers(random, count);
+    numbers.into_iter().map(|number| Service { number, class: random.pick(&[1, 2, 3]) }).collect()
+}
+
+/// An accepted list of 0 to 32 services, most often of a few.
+pub fn services(random: &mut Random) -> Services {
+    let any = random.below(MOST_SERVICES as u64 + 1) as usize;
+    let few = 3 + random.below(6) as usize;
+    let count = random.pick(&[0, 1, 1, 2, 2, few, few, any, MOST_SERVICES - 1, MOST_SERVICES]);
+    Services::new(&listed(random, count))
+}
+
+/// A list with one thing wrong, for which 61 refuses it.
+pub fn refused_services(random: &mut Random) -> Services {
+    if random.one_in(4) {
+        let count = random.pick(&[33, 33, 34, 40, 64, 128, 255]);
+        return Services::new(&listed(random, count));
+    }
+    let count = random.pick(&[2, 2, 3, 5, 8, MOST_SERVICES]);
+    let mut list = listed(random, count);
+    let at = random.below(count as u64 - 1) as usize;
+    match random.below(5) {
+        0 => list[at + 1].number = list[at].number,
+        1 => list.swap(at, at + 1),
+        2 => list[0].number = random.pick(&[0, 1, 2, 3, 3]),
+        3 => list[at].class = random.pick(&[0, 0, 4, 4, 5, 129, 255]),
+        _ => list[count - 1].class = random.pick(&[0, 4, 128, 255]),
+    }
+    Services::new(&list)
+}
+
+/// A service type of a version: 0 to 3, and from version 3 on listed numbers, their neighbours and
+/// others.
+fn service_type(random: &mut Random, version: u8, card: &Card) -> u16 {
+    let known = random.pick(&[0, 1, 1, 1, 2, 2, 2, 3, 3, 3]);
+    let listed = card.services.listed();
+    let one = match listed.len() as u64 {
+        0 => known,
+        count => listed[random.below(count) as usize].number,
+    };
+    match random.below(16) {
+        _ if !lists_services(version) => known,
+        0..=4 => known,
+        5..=10 => one,
+        11 => one.wrapping_add(1),
+        12 => one.wrapping_sub(1),
+        13 => one.swap_bytes(),
+        14 => random.pick(&ODD_NUMBERS),
+        _ => random.word() as u16,
+    }
 }
 
 /// An end of a range, its neighbours on both sides, or no number at all.
@@ -316,10 +415,10 @@ fn required(random: &mut Random) -> f64 {
     }
 }
 
-fn demand(random: &mut Random, card: &Card) -> Call {
+fn demand(random: &mut Random, version: u8, card: &Card) -> Call {
     let present = !random.one_in(12);
     Call::Demand(Demand {
-        service_type: random.pick(&[0, 1, 1, 1, 2, 2, 2, 3, 3, 3]),
+        service_type: service_type(random, version, card),
         commit: u8::from(!random.one_in(4)),
         control_on: random.below(2) as u8,
         required: required(random),
@@ -417,10 +516,10 @@ fn hydronic_call(random: &mut Random, battery: &Battery) -> Call {
 }
 
 /// A call in range.
-fn call(random: &mut Random, battery: &Battery) -> Call {
+fn call(random: &mut Random, version: u8, battery: &Battery) -> Call {
     let card = &battery.card;
     match random.below(100) {
-        0..=39 => demand(random, card),
+        0..=39 => demand(random, version, card),
         40..=51 => Call::Electric { power: power(random), target: target(random) },
         52..=71 => hydronic_call(random, battery),
         72..=78 => Call::StandingLoss,
@@ -434,13 +533,13 @@ fn call(random: &mut Random, battery: &Battery) -> Call {
     }
 }
 
-/// The next call of a list: often closing a timestep whose time is used up.
-pub fn next_call(random: &mut Random, battery: &Battery) -> Call {
+/// The next call of a list of a version: often closing a timestep whose time is used up.
+pub fn next_call(random: &mut Random, version: u8, battery: &Battery) -> Call {
     let used_up = battery.state.totals.running_hours >= battery.card.timestep;
     if used_up && !random.one_in(3) {
         Call::CloseTimestep
     } else {
-        call(random, battery)
+        call(random, version, battery)
     }
 }
 

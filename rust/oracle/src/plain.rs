@@ -2,7 +2,8 @@
 //! file or the judge. Modules as document 01 numbers them.
 
 use crate::model::{
-    shows_hydronic_time, Answer, Battery, Call, Card, Demand, Derived, Hydronic, State,
+    shows_hydronic_time, Answer, Battery, Call, Card, Demand, Derived, Hydronic, Service, Services,
+    State,
 };
 use crate::ranges;
 
@@ -88,7 +89,7 @@ pub fn truncate(x: f64) -> u64 {
 
 // ---- Card
 
-/// Refusal 1 to 4, or 0.
+/// Refusal 1 to 4 or 61, or 0.
 pub fn card_refusal(card: &Card) -> u8 {
     if !ranges::card_in_range(card) {
         1
@@ -98,9 +99,40 @@ pub fn card_refusal(card: &Card) -> u8 {
         3
     } else if card.max < card.reference || near(card.max, card.reference, 1e-10) {
         4
+    } else if services_refusal(&card.services) {
+        61
     } else {
         0
     }
+}
+
+/// The most services that a card may list.
+pub const MOST_SERVICES: usize = 32;
+
+/// Refusal 61: the count, then entry by entry.
+pub fn services_refusal(services: &Services) -> bool {
+    let mut last = 3;
+    let listed = services.listed();
+    if listed.len() > MOST_SERVICES {
+        return true;
+    }
+    for &Service { number, class } in listed {
+        if number <= last || !(1..=3).contains(&class) {
+            return true;
+        }
+        last = number;
+    }
+    false
+}
+
+/// What a service type stands for: 1 regular, 2 space, 3 direct; 0 combi, or a number that isn't
+/// listed.
+pub fn class(card: &Card, service_type: u16) -> u8 {
+    if service_type <= 3 {
+        return service_type as u8;
+    }
+    let found = card.services.listed().iter().find(|service| service.number == service_type);
+    found.map_or(0, |service| service.class)
 }
 
 /// Melting range and layer capacities.
@@ -725,9 +757,9 @@ fn next_step(card: &Card, run: &DemandRun, required: f64, power: f64, step: f64,
 }
 
 /// Running hours of a committed demand.
-fn book(state: &mut State, service_type: u8, hours: f64) {
+fn book(state: &mut State, class: u8, hours: f64) {
     state.totals.running_hours += hours;
-    match service_type {
+    match class {
         1 | 2 => state.totals.pump_hours += hours,
         _ => state.totals.direct_hours += hours,
     }
@@ -738,13 +770,14 @@ fn demand(steps: &mut Substeps, state: &mut State, demand: &Demand) -> Result<An
         return Ok(Answer::plain(0.0, 0, state.clone()));
     }
     let inlet = demand.return_temperature.ok_or(20)?;
-    if demand.commit == 1 && demand.service_type == 0 {
+    let class = class(steps.card, demand.service_type);
+    if demand.commit == 1 && class == 0 {
         return Err(21);
     }
     let before = state.clone();
     let run = demand_energy(steps, state, demand, inlet)?;
     if demand.commit == 1 {
-        book(state, demand.service_type, run.seconds / 3600.0);
+        book(state, class, run.seconds / 3600.0);
     } else {
         *state = before;
     }
@@ -790,7 +823,7 @@ pub fn step(version: u8, battery: &Battery, call: &Call) -> (Answer, Battery) {
     let before = &battery.state;
     let answer = if card_refusal(&battery.card) != 0
         || ranges::battery_refusal(battery)
-        || ranges::call_refusal(&battery.card, call)
+        || ranges::call_refusal(version, &battery.card, call)
     {
         Answer::refused(10, before)
     } else {

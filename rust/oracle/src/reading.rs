@@ -1,9 +1,11 @@
-//! Card, battery record, call and answer read from bytes, as document 01 lays them out.
+//! Card, battery record, call and answer read from bytes, as documents 01 and 02 lay them out.
 
-use crate::model::{Answer, Battery, Call, Card, Demand, Hydronic, State, Totals};
+use crate::model::{
+    lists_services, Answer, Battery, Call, Card, Demand, Hydronic, Service, Services, State, Totals,
+};
 use crate::plain;
 use crate::ranges;
-use crate::sheet::{call_length, record_length, CARD_BYTES};
+use crate::sheet::{call_length, card_in_front, record_length};
 
 /// Bytes that are read from the front; None where they end too early.
 struct Cursor<'a>(&'a [u8]);
@@ -58,9 +60,21 @@ impl Cursor<'_> {
         Some(State { zones, totals })
     }
 
-    fn demand(&mut self) -> Option<Call> {
+    /// A count, then as many services.
+    fn services(&mut self) -> Option<Services> {
+        let mut listed = Vec::new();
+        for _ in 0..self.byte()? {
+            listed.push(Service { number: self.short()?, class: self.byte()? });
+        }
+        Some(Services::new(&listed))
+    }
+
+    fn demand(&mut self, version: u8) -> Option<Call> {
         Some(Call::Demand(Demand {
-            service_type: self.byte()?,
+            service_type: match lists_services(version) {
+                true => self.short()?,
+                false => self.byte()?.into(),
+            },
             commit: self.byte()?,
             control_on: self.byte()?,
             required: self.number()?,
@@ -83,9 +97,9 @@ impl Cursor<'_> {
         }))
     }
 
-    fn call(&mut self) -> Option<Call> {
+    fn call(&mut self, version: u8) -> Option<Call> {
         match self.byte()? {
-            1 => self.demand(),
+            1 => self.demand(version),
             2 => Some(Call::Electric { power: self.number()?, target: self.number()? }),
             3 => self.hydronic(),
             4 => Some(Call::StandingLoss),
@@ -101,8 +115,8 @@ impl Cursor<'_> {
 }
 
 /// A card of any numbers; None where the length is another.
-pub fn card(bytes: &[u8]) -> Option<Card> {
-    if bytes.len() != CARD_BYTES {
+pub fn card(version: u8, bytes: &[u8]) -> Option<Card> {
+    if card_in_front(version, bytes)?.len() != bytes.len() {
         return None;
     }
     let mut cursor = Cursor(bytes);
@@ -116,28 +130,32 @@ pub fn card(bytes: &[u8]) -> Option<Card> {
     for number in card.numbers_mut() {
         *number = cursor.number()?;
     }
+    if lists_services(version) {
+        card.services = cursor.services()?;
+    }
     Some(card)
 }
 
 /// A battery handed in; None where refusal 10 applies to it.
-pub fn battery(bytes: &[u8]) -> Option<Battery> {
-    let card = card(bytes.get(..CARD_BYTES)?)?;
-    if plain::card_refusal(&card) != 0 || bytes.len() != record_length(card.layers) {
+pub fn battery(version: u8, bytes: &[u8]) -> Option<Battery> {
+    let front = card_in_front(version, bytes)?;
+    let card = card(version, front)?;
+    if plain::card_refusal(&card) != 0 || bytes.len() != record_length(front) {
         return None;
     }
-    let state = Cursor(&bytes[CARD_BYTES..]).state(card.layers)?;
+    let state = Cursor(&bytes[front.len()..]).state(card.layers)?;
     let battery = Battery { card, state };
     (!ranges::battery_refusal(&battery)).then_some(battery)
 }
 
 /// Kind and call fields, alone; None where refusal 10 applies to them.
-pub fn call(card: &Card, bytes: &[u8]) -> Option<Call> {
+pub fn call(version: u8, card: &Card, bytes: &[u8]) -> Option<Call> {
     let kind = bytes.first()?;
-    if bytes.len() != call_length(*kind)? {
+    if bytes.len() != call_length(version, *kind)? {
         return None;
     }
-    let call = Cursor(bytes).call()?;
-    (!ranges::call_refusal(card, &call)).then_some(call)
+    let call = Cursor(bytes).call(version)?;
+    (!ranges::call_refusal(version, card, &call)).then_some(call)
 }
 
 /// What a call line shows after its call; None for another length, for a mark other than

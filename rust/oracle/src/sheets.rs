@@ -7,8 +7,8 @@ mod refused;
 use crate::auditor::{self, Verdict};
 use crate::entries;
 use crate::generate::points_card;
-use crate::model::{Call, Card, Demand, Hydronic};
-use crate::sheet::{self, OPENING_BYTES};
+use crate::model::{Call, Card, Demand, Hydronic, Service, Services};
+use crate::sheet;
 use std::fs;
 use std::path::Path;
 
@@ -59,14 +59,15 @@ fn save(folder: &Path, name: &str, bytes: &[u8]) -> Result<(), String> {
 
 /// The sheet of a list, and what each call returned.
 fn run(version: u8, card: &Card, calls: &[Call]) -> (Vec<u8>, Vec<u8>) {
-    let mut record = vec![0; sheet::record_length(card.layers)];
-    let mut bytes = vec![0; OPENING_BYTES];
-    assert_eq!(entries::open(version, &sheet::card_bytes(card), &mut record, &mut bytes), 0);
+    let card_bytes = sheet::card_bytes(version, card);
+    let mut record = vec![0; sheet::record_length(&card_bytes)];
+    let mut bytes = vec![0; sheet::opening_length(&card_bytes)];
+    assert_eq!(entries::open(version, &card_bytes, &mut record, &mut bytes), 0);
     let mut results = Vec::new();
     for call in calls {
-        let call = sheet::call_bytes(call);
+        let call = sheet::call_bytes(version, call);
         let used = bytes.len();
-        bytes.resize(used + 2 + call.len() + sheet::answer_length(card.layers), 0);
+        bytes.resize(used + sheet::line_length(&call, card.layers), 0);
         results.push(entries::call(version, &mut record, &call, &mut bytes[used..]));
     }
     (bytes, results)
@@ -88,6 +89,19 @@ fn written_in(version: u8, card: &Card, calls: &[Call]) -> Vec<u8> {
 /// One layer at 60 °C, or as many as asked.
 fn card(layers: u8) -> Card {
     Card { layers, ..points_card() }
+}
+
+/// Services by their numbers and classes.
+fn services(listed: &[(u16, u8)]) -> Services {
+    let listed: Vec<Service> =
+        listed.iter().map(|&(number, class)| Service { number, class }).collect();
+    Services::new(&listed)
+}
+
+/// So many services: 4, 5, 6 and so on, of the classes in turn.
+fn many_services(count: u16) -> Services {
+    let listed: Vec<(u16, u8)> = (0..count).map(|i| (4 + i, 1 + (i % 3) as u8)).collect();
+    services(&listed)
 }
 
 fn demand(required: f64) -> Demand {

@@ -6,6 +6,7 @@ mod zone_records;
 
 use crate::generate;
 use crate::judge;
+use crate::model::VERSIONS;
 use crate::random::Random;
 use crate::record::{self, Record, START};
 use std::fs;
@@ -59,7 +60,8 @@ fn function_file(make: Make, count: u64, mut random: Random) -> Vec<u8> {
     bytes
 }
 
-/// Bytes of lists with `count` calls in all, each list of one version after its start record.
+/// Bytes of lists with `count` calls in all, each list of one version after its start record. Cards
+/// list no services, and types are 0 to 3 in every version: VECTORS.md's words have no others.
 fn lists_file(count: u64, mut random: Random) -> Vec<u8> {
     let mut bytes = Vec::new();
     let mut left = count;
@@ -70,7 +72,7 @@ fn lists_file(count: u64, mut random: Random) -> Vec<u8> {
         Record::new(START).battery(&battery).word(u64::from(version)).write(&mut bytes);
         let calls = generate::list_length(&mut random).min(left);
         for _ in 0..calls {
-            let call = generate::next_call(&mut random, &battery);
+            let call = generate::next_call(&mut random, VERSIONS[0], &battery);
             let (answer, after) = judge::step(version, &battery, &call);
             Record::new(51).call(&call).answer(&answer).write(&mut bytes);
             battery = after;

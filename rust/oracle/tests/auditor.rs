@@ -9,7 +9,7 @@ use oracle::fields;
 use oracle::generate::{self, points_card};
 use oracle::model::{is_known, Card, VERSIONS};
 use oracle::random::Random;
-use oracle::sheet::{self, OPENING_BYTES};
+use oracle::sheet;
 #[cfg(published)]
 use oracle::{judge, library::Independent};
 use oracle::{plain, sheets};
@@ -29,16 +29,16 @@ fn assert_known(sheet: &Sheet) {
 /// lengths alone; None where version or card are refused, a call is or a length doesn't fit.
 fn replayed(bytes: &[u8]) -> Option<Vec<u8>> {
     let version = *bytes.first()?;
-    let card = bytes.get(3..OPENING_BYTES)?;
-    let mut record = vec![0; sheet::record_length(card[0])];
-    let mut written = vec![0; OPENING_BYTES];
+    let card = sheet::card_in_front(version, bytes.get(3..)?)?;
+    let mut record = vec![0; sheet::record_length(card)];
+    let mut written = vec![0; sheet::opening_length(card)];
     if entries::open(version, card, &mut record, &mut written) != 0 {
         return None;
     }
-    let mut rest = &bytes[OPENING_BYTES..];
+    let mut rest = &bytes[written.len()..];
     while !rest.is_empty() {
-        let call = rest.get(2..2 + sheet::call_length(*rest.get(2)?)?)?;
-        let mut line = vec![0; 2 + call.len() + sheet::answer_length(card[0])];
+        let call = rest.get(2..2 + sheet::call_length(version, *rest.get(2)?)?)?;
+        let mut line = vec![0; sheet::line_length(call, card[0])];
         if entries::call(version, &mut record, call, &mut line) == 10 {
             return None;
         }
@@ -75,7 +75,8 @@ fn the_library_has_no_limit_and_the_c_audit_has() {
 #[test]
 fn flipped_everywhere_and_cut_everywhere() {
     let kinds = ["kind_demand", "kind_hydronic", "kind_charge_energy_demand"];
-    for name in kinds.into_iter().chain(["zero_signs", "hydronic_times"]) {
+    let others = ["zero_signs", "hydronic_times", "services", "opening_32_services"];
+    for name in kinds.into_iter().chain(others) {
         let bytes = named(name);
         let lines = fields::lines(&bytes);
         for at in 0..bytes.len() {
@@ -87,10 +88,10 @@ fn flipped_everywhere_and_cut_everywhere() {
     }
 }
 
-/// A bit of every byte of a sheet with every kind and refusal, in both versions.
+/// A bit of every byte of a sheet with every kind and refusal, in every version.
 #[test]
 fn all_kinds_damaged_everywhere() {
-    for name in ["all_kinds", "all_kinds_version_2"] {
+    for name in ["all_kinds", "all_kinds_version_2", "all_kinds_version_3"] {
         damage::everywhere(&mut Random::new(3), &named(name)).iter().for_each(assert_known);
     }
 }
@@ -116,9 +117,8 @@ fn accepted_exactly_when_replayed() {
     let mut accepted = 0;
     for index in 0..150 {
         for Sheet { what, bytes, .. } in damage::family(&mut random, index) {
-            let lays_out = bytes.get(1..3) == Some(&[0, 158]);
             let same = |written: Vec<u8>| equal_but_for_zeros(&written, &bytes);
-            let replays = lays_out && replayed(&bytes).is_some_and(same);
+            let replays = replayed(&bytes).is_some_and(same);
             let is_accepted = matches!(audit(&bytes), Verdict::Accepted(_));
             // Other bytes than a zero's sign can differ by 128 too: then replaying says nothing.
             assert!(!is_accepted || replays, "{what}");
@@ -149,12 +149,13 @@ fn versions_differ_in_hydronic_times() {
     assert!(times > 300, "{times}");
 }
 
-/// Another version in the first byte: accepted where no hydronic line has a time in either.
+/// Another version in the first byte: accepted in 1 and 2 where no hydronic line has a time in
+/// either; no card of 3 is one of 1 or 2.
 #[test]
 fn turned_versions() {
     let mut random = Random::new(19);
     let mut counts = BTreeMap::new();
-    for index in 0..600 {
+    for index in 0..1200 {
         for sheet in damage::family(&mut random, index) {
             if sheet.what == "version" {
                 assert_known(&sheet);
@@ -166,17 +167,23 @@ fn turned_versions() {
     }
     let met: Vec<_> =
         counts.iter().filter(|(_, count)| **count >= 20).map(|(met, _)| *met).collect();
-    let (one, two) = (Some(1), Some(2));
-    assert_eq!(met, [(None, 40), (one, 0), (one, 43), (two, 0), (two, 43)], "{counts:?}");
+    let of = |version, refusals: &[u8]| -> Vec<_> {
+        refusals.iter().map(|refusal| (Some(version), *refusal)).collect()
+    };
+    let due = [vec![(None, 40)], of(1, &[0, 41, 43]), of(2, &[0, 41, 43]), of(3, &[41])].concat();
+    assert_eq!(met, due, "{counts:?}");
 }
 
 /// However few bytes were free.
 #[test]
 fn written_sheets_are_accepted_in_every_room() {
-    for room in OPENING_BYTES..OPENING_BYTES + 700 {
-        let version = VERSIONS[room % VERSIONS.len()];
-        let card = Card { layers: 1 + (room % 3) as u8, ..points_card() };
-        let written = damage::write(&mut Random::new(room as u64), version, &card, 12, room);
+    for free in 0..900 {
+        let (version, mut random) = (VERSIONS[free % VERSIONS.len()], Random::new(free as u64));
+        let layers = 1 + (free / 3 % 3) as u8;
+        let Card { services, .. } = generate::card_of(&mut random, version);
+        let card = Card { layers, services, ..points_card() };
+        let room = sheet::opening(version, &card).len() + free;
+        let written = damage::write(&mut random, version, &card, 12, room);
         assert!(written.bytes.len() <= room);
         assert_eq!(audit(&written.bytes), Verdict::Accepted(written.lines));
         assert_eq!(fields::lines(&written.bytes).len() as u64, written.lines);
@@ -188,7 +195,7 @@ fn charged_total_and_directions_on_accepted_sheets() {
     let mut random = Random::new(13);
     for _ in 0..300 {
         let version = generate::version(&mut random);
-        let card = generate::card(&mut random);
+        let card = generate::card_of(&mut random, version);
         let bytes = damage::write(&mut random, version, &card, 20, 60_000).bytes;
         let mut charged = 0.0;
         let mut before = vec![card.start; usize::from(card.layers)];
@@ -197,7 +204,7 @@ fn charged_total_and_directions_on_accepted_sheets() {
             let after: Vec<f64> = (0..before.len()).map(zones).collect();
             let pairs = || before.iter().zip(&after);
             let answered = bytes[line.answer()] == 0;
-            let trial = line.kind == 1 && bytes[line.call() + 2] == 0;
+            let trial = line.kind == 1 && bytes[line.commit()] == 0;
             if answered && [2, 3].contains(&line.kind) {
                 charged += fields::number_at(&bytes, line.energy());
             }

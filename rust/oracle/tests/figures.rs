@@ -454,7 +454,9 @@ fn the_closing_line() {
     expected.extend([0; 40]);
     for step in steps() {
         let (answer, _) = step(&battery(points_card(), 60.0), &Call::CloseTimestep);
-        assert_eq!(sheet::call_line(&Call::CloseTimestep, &answer), expected);
+        for version in VERSIONS {
+            assert_eq!(sheet::call_line(version, &Call::CloseTimestep, &answer), expected);
+        }
     }
 }
 
@@ -464,10 +466,11 @@ fn line_lengths() {
     for layers in [1, 8, 64] {
         let card = Card { layers, ..points_card() };
         let start = battery(card, 60.0);
-        for version in VERSIONS {
-            assert_eq!(sheet::opening(version, &card).len(), 1 + 2 + sheet::CARD_BYTES);
+        let state = 8 * usize::from(layers) + 40;
+        for (version, length) in [(1, 158), (2, 158), (3, 159)] {
+            assert_eq!(sheet::opening(version, &card).len(), 1 + 2 + length);
+            assert_eq!(sheet::battery_bytes(version, &start).len(), length + state);
         }
-        assert_eq!(sheet::battery_bytes(&start).len(), 158 + 8 * usize::from(layers) + 40);
         for (call, fields) in [
             (Call::Demand(demand(1.0, 10.0)), 28),
             (Call::Electric { power: 1.0, target: 1.0 }, 16),
@@ -478,8 +481,11 @@ fn line_lengths() {
             (Call::ChargeEnergyDemand { flow_maximum, target: 1.0 }, 17),
         ] {
             for step in steps() {
-                let line = sheet::call_line(&call, &step(&start, &call).0);
-                assert_eq!(line.len(), 2 + 71 + 8 * usize::from(layers) + fields);
+                for version in VERSIONS {
+                    let line = sheet::call_line(version, &call, &step(&start, &call).0);
+                    let later = usize::from(version == 3 && call.kind() == 1);
+                    assert_eq!(line.len(), 2 + 71 + 8 * usize::from(layers) + fields + later);
+                }
             }
         }
     }
@@ -492,7 +498,10 @@ fn minus_zero_is_in_range_where_zero_is() {
     assert_eq!(plain::card_refusal(&zeros), 0);
     #[cfg(published)]
     assert_eq!(judge::card_refusal(&zeros), 0);
-    assert!(!ranges::call_refusal(&card, &Call::Electric { power: -0.0, target: -0.0 }));
+    let zeros = Call::Electric { power: -0.0, target: -0.0 };
     let least = Call::Electric { power: -f64::from_bits(1), target: 0.0 };
-    assert!(ranges::call_refusal(&card, &least));
+    for version in VERSIONS {
+        assert!(!ranges::call_refusal(version, &card, &zeros));
+        assert!(ranges::call_refusal(version, &card, &least));
+    }
 }

@@ -10,7 +10,7 @@ use oracle::random::Random;
 use oracle::sheet;
 use std::collections::BTreeMap;
 
-/// The versions without and with the time.
+/// The last version without the time, and the first with it.
 const PAIR: [u8; 2] = [1, 2];
 
 /// The readings' card, with a start and a substep.
@@ -87,6 +87,7 @@ fn the_figures() {
         let call = Call::Hydronic(fields);
         for step in STEPS {
             let [(untimed, _), (shown, after)] = PAIR.map(|v| step(v, &battery, &call));
+            assert!(step(3, &battery, &call).0.same_bits(&shown));
             assert_eq!((shown.refusal, shown.substeps), (0, substeps));
             assert_eq!(shown.time.to_bits(), time.to_bits());
             assert!(untimed.same_bits(&timed(&shown, 0.0)));
@@ -115,7 +116,7 @@ fn what_else_the_readings_say_of_them() {
     }
 }
 
-/// Each figure's line on a sheet of either version, with the time that its version shows and with
+/// Each figure's line on a sheet of every version, with the time that its version shows and with
 /// the other one.
 #[test]
 fn the_other_versions_time_is_43() {
@@ -126,10 +127,10 @@ fn the_other_versions_time_is_43() {
         let call = Call::Hydronic(fields);
         for step in STEPS {
             let (shown, _) = step(2, &battery, &call);
-            for (version, due, other) in [(1, 0.0, time), (2, time, 0.0)] {
+            for (version, due, other) in [(1, 0.0, time), (2, time, 0.0), (3, time, 0.0)] {
                 let with = |time| {
                     let opening = sheet::opening(version, &battery.card);
-                    [opening, sheet::call_line(&call, &timed(&shown, time))].concat()
+                    [opening, sheet::call_line(version, &call, &timed(&shown, time))].concat()
                 };
                 assert_eq!(audit_by(step, &with(due)), Verdict::Accepted(1));
                 if due != other {
@@ -148,7 +149,7 @@ fn ends(calls: u64) -> BTreeMap<Result<HydronicEnd, u8>, u64> {
     for _ in 0..calls {
         let card = generate::card(&mut random);
         let battery = generate::battery(&mut random, &card);
-        let call = generate::next_call(&mut random, &battery);
+        let call = generate::next_call(&mut random, PAIR[0], &battery);
         let [(untimed, _), (shown, _)] = PAIR.map(|v| plain::step(v, &battery, &call));
         let Call::Hydronic(fields) = call else {
             assert!(untimed.same_bits(&shown), "{call:?}");

@@ -48,7 +48,7 @@ fn replay() -> (PathBuf, PathBuf) {
         .status();
     assert!(made.expect("cc runs").success());
     let oracle = env!("CARGO_BIN_EXE_oracle");
-    let drawn = Command::new(oracle).arg("cases").arg(&cases).args(["--count", "2000"]).output();
+    let drawn = Command::new(oracle).arg("cases").arg(&cases).args(["--count", "10000"]).output();
     assert!(drawn.expect("it runs").status.success());
     (program, cases)
 }
@@ -65,8 +65,13 @@ fn the_driver_links_agrees_and_finds_faults() {
         ("entries", "refused-record"),
         ("entries", "version-late"),
         ("entries", "time-product"),
+        ("entries", "services-early"),
+        ("entries", "equal-numbers"),
+        ("entries", "unlisted-trial"),
         ("audit", "last-line"),
         ("audit", "time-always"),
+        ("audit", "services-33"),
+        ("audit", "type-exchanged"),
         ("entries", "reads-behind"),
         ("entries", "reads-before"),
         ("audit", "reads-behind"),
@@ -76,9 +81,19 @@ fn the_driver_links_agrees_and_finds_faults() {
         assert!(!well && !last.contains(" 0 disagreements"), "{fault}: {last}");
     }
     let (program, cases) = replay();
-    for fault in
-        ["", "refused-record", "version-late", "time-always", "reads-behind", "reads-before"]
-    {
+    for fault in [
+        "",
+        "refused-record",
+        "version-late",
+        "time-always",
+        "any-class",
+        "unlisted-served",
+        "own-services-early",
+        "own-services-33",
+        "own-services-stored",
+        "reads-behind",
+        "reads-before",
+    ] {
         let mut run = Command::new(&program);
         let ended = run.arg(&cases).env("HEAT_BATTERY_FAULT", fault).output().expect("it runs");
         assert_eq!(ended.status.success(), fault.is_empty(), "{fault}");

@@ -1,10 +1,12 @@
 //! The independent entry on the caller's own record.
 
 use oracle::compare::{check_advance, Report};
+use oracle::faults::{Faulty, IN_OWN};
 use oracle::generate::{self, points_card};
-use oracle::model::{Battery, VERSIONS};
+use oracle::model::{lists_services, Battery, VERSIONS};
 use oracle::own::{self, Record, Shown};
 use oracle::random::Random;
+use oracle::raw::{self, Calling};
 use oracle::{entries, plain, reading, sheet};
 
 const CLOSE: [u8; 1] = [5];
@@ -20,20 +22,21 @@ fn as_the_entry_on_bytes() {
     let mut random = Random::new(11);
     for _ in 0..3000 {
         let version = generate::version(&mut random);
-        let card = generate::card(&mut random);
+        let card = generate::card_of(&mut random, version);
         let battery = generate::battery(&mut random, &card);
-        let call = sheet::call_bytes(&generate::next_call(&mut random, &battery));
-        let mut bytes = sheet::battery_bytes(&battery);
-        let mut line = vec![0; 2 + call.len() + sheet::answer_length(card.layers)];
+        let next = generate::next_call(&mut random, version, &battery);
+        let call = sheet::call_bytes(version, &next);
+        let mut bytes = sheet::battery_bytes(version, &battery);
+        let mut line = vec![0; sheet::line_length(&call, card.layers)];
+        let before = bytes.clone();
         let refusal = entries::call(version, &mut bytes, &call, &mut line);
         let answer = reading::answer(card.layers, &line[2 + call.len()..]).expect("a line");
-        let mut record = Record::from(&battery);
+        let mut record = Record::of_bytes(version, &before);
         let shown = advance(version, &mut record, &call);
         assert_eq!((shown.refusal, shown.substeps), (refusal, answer.substeps));
         assert_eq!((shown.energy, shown.time), (answer.energy, answer.time));
         assert_eq!((shown.mark == 1).then_some(shown.outlet), answer.outlet);
-        let after = reading::battery(&bytes).expect("an entry leaves a good battery");
-        assert_eq!(record.words(), Record::from(&after).words());
+        assert_eq!(record.words(), Record::of_bytes(version, &bytes).words());
     }
 }
 
@@ -66,10 +69,79 @@ fn bad_records_and_versions_are_refused_and_stay() {
     assert_eq!(advance(1, &mut above, &CLOSE).refusal, 0);
 }
 
+/// A good record but for a count of services and what stands in the first places.
+fn with(services: u8, pairs: &[(u16, u8)]) -> Record {
+    let mut record = Record::from(&Battery::fresh(&points_card()));
+    record.services = services;
+    for (at, (number, class)) in pairs.iter().enumerate() {
+        record.numbers[at] = *number;
+        record.classes[at] = *class;
+    }
+    record
+}
+
+/// What 61 refuses is 10 from version 3 on, and is not read before.
+#[test]
+fn services_are_read_from_version_3_on() {
+    let rising: Vec<(u16, u8)> = (0..32).map(|at| (4 + at, 3)).collect();
+    let accepted = [
+        with(0, &[(0, 0)]),
+        with(1, &[(4, 1), (4, 9)]),
+        with(2, &[(32767, 2), (32768, 3)]),
+        with(32, &rising),
+    ];
+    let refused = [
+        with(33, &rising),
+        with(255, &rising),
+        with(1, &[(3, 1)]),
+        with(1, &[(4, 0)]),
+        with(1, &[(4, 4)]),
+        with(2, &[(4, 1), (4, 1)]),
+        with(2, &[(5, 1), (4, 1)]),
+        with(2, &[(4, 1), (0, 0)]),
+    ];
+    let records = accepted.map(|record| (record, 0)).into_iter();
+    for (before, refusal) in records.chain(refused.map(|record| (record, 10))) {
+        for version in VERSIONS {
+            let mut record = before;
+            let due = if lists_services(version) { refusal } else { 0 };
+            assert_eq!(advance(version, &mut record, &CLOSE).refusal, due);
+            assert_eq!(record.words(), before.words());
+        }
+    }
+}
+
+/// On records and calls as the entries on bytes get them, damaged ones among them.
+fn compared(faulty: &Faulty) -> Report {
+    let (mut random, mut report) = (Random::new(23), Report::default());
+    let advance = |version, record: &mut Record, call: &[u8]| faulty.advance(version, record, call);
+    while report.inputs < 3000 {
+        let version = generate::version(&mut random);
+        let card = generate::card_of(&mut random, version);
+        let battery = generate::battery(&mut random, &card);
+        let Calling { version, record, call, .. } = raw::calling(&mut random, version, &battery);
+        let record = Record::of_bytes(version, &record);
+        check_advance(advance, plain::step, version, &record, &call, &mut report);
+    }
+    report
+}
+
+#[test]
+fn a_comparison_finds_every_fault() {
+    let report = compared(&Faulty::named(""));
+    assert!(report.is_clean(), "{report}");
+    for refusal in [0, 10, 20, 21, 22, 25, 40] {
+        assert!(report.count("advance", refusal) > 0, "{refusal}");
+    }
+    for (name, fault) in IN_OWN {
+        assert!(compared(&Faulty { fault }).disagreements > 0, "{name}");
+    }
+}
+
 #[test]
 fn a_comparison_finds_faults() {
     let good = Record::from(&Battery::fresh(&points_card()));
-    let faults: [Advance; 4] = [
+    let faults: [Advance; 7] = [
         |version, record, call| Shown { substeps: 1, ..advance(version, record, call) },
         |version, record, call| Shown { energy: -0.0, ..advance(version, record, call) },
         |version, record, call| {
@@ -78,6 +150,18 @@ fn a_comparison_finds_faults() {
         },
         |version, record, call| {
             record.count = 2;
+            advance(version, record, call)
+        },
+        |version, record, call| {
+            record.services = 1;
+            advance(version, record, call)
+        },
+        |version, record, call| {
+            record.numbers[31] = 1;
+            advance(version, record, call)
+        },
+        |version, record, call| {
+            record.classes[31] = 1;
             advance(version, record, call)
         },
     ];

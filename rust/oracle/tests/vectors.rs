@@ -5,8 +5,8 @@ use oracle::model::{Answer, Battery, Call, Card, Demand, Derived, Hydronic, Stat
 use oracle::plain::{self, Charging, Exchanger, Mode, Salt, Substeps};
 use oracle::record::{read_all, Record};
 #[cfg(published)]
-use oracle::vectors;
-use std::collections::BTreeMap;
+use oracle::{model::VERSIONS, vectors};
+use std::collections::{BTreeMap, BTreeSet};
 use std::fs;
 use std::path::{Path, PathBuf};
 
@@ -85,7 +85,7 @@ impl Words<'_> {
     fn call(&mut self) -> Call {
         match self.word() {
             1 => Call::Demand(Demand {
-                service_type: self.word() as u8,
+                service_type: self.word() as u16,
                 commit: self.word() as u8,
                 control_on: self.word() as u8,
                 required: self.float(),
@@ -305,12 +305,13 @@ fn the_energy_to_a_level_goes_every_way() {
     assert!(ways.values().all(|count| *count > COUNT / 40), "{ways:?}");
 }
 
-/// A list's answers by the plain implementation, from its own state: how many, by refusal.
-fn listed(folder: &Path) -> BTreeMap<u8, u64> {
+/// A list's answers by the plain implementation, from its own state: how many, by refusal; and the
+/// versions of lists.
+fn listed(folder: &Path) -> (BTreeMap<u8, u64>, BTreeSet<u8>) {
     let bytes = fs::read(folder.join("lists.vec")).expect("the file is there");
     let mut list: Option<(u8, Battery)> = None;
     let mut refusals = BTreeMap::new();
-    let mut times = BTreeMap::new();
+    let (mut versions, mut times) = (BTreeSet::new(), BTreeSet::new());
     for record in read_all(&bytes).expect("a vector file") {
         let mut words = Words(&record.words);
         if record.function == 50 {
@@ -323,19 +324,26 @@ fn listed(folder: &Path) -> BTreeMap<u8, u64> {
         let (answer, after) = plain::step(version, &before, &call);
         assert_eq!(words.0, Record::new(51).answer(&answer).words, "{before:?} {call:?}");
         *refusals.entry(answer.refusal).or_insert(0u64) += 1;
+        versions.insert(version);
         if matches!(call, Call::Hydronic(_)) {
-            *times.entry((version, answer.time > 0.0)).or_insert(0u64) += 1;
+            times.insert((version, answer.time > 0.0));
         }
         list = Some((version, after));
     }
     assert_eq!(refusals.keys().copied().collect::<Vec<_>>(), [0, 20, 21, 22, 23, 24, 25]);
-    assert_eq!(times.into_keys().collect::<Vec<_>>(), [(1, false), (2, false), (2, true)]);
-    refusals
+    // None in version 1, some in the others.
+    for version in &versions {
+        assert!(times.contains(&(*version, false)));
+        assert_eq!(times.contains(&(*version, true)), *version > 1);
+    }
+    (refusals, versions)
 }
 
 #[test]
 fn stored_lists_agree_with_plain() {
-    assert_eq!(listed(&stored()).values().sum::<u64>(), 2000);
+    let (refusals, versions) = listed(&stored());
+    assert_eq!(refusals.values().sum::<u64>(), 2000);
+    assert!(versions.is_superset(&[1, 2].into()));
 }
 
 #[cfg(published)]
@@ -343,7 +351,9 @@ fn stored_lists_agree_with_plain() {
 fn lists_agree_with_plain() {
     let folder = folder("lists");
     vectors::write(&folder, COUNT, 12, Some(&["lists"])).expect("the folder is writable");
-    assert_eq!(listed(&folder).values().sum::<u64>(), COUNT);
+    let (refusals, versions) = listed(&folder);
+    assert_eq!(refusals.values().sum::<u64>(), COUNT);
+    assert_eq!(versions, VERSIONS.into());
 }
 
 #[cfg(published)]

@@ -12,7 +12,8 @@ use crate::core::heating_systems::common::HeatingServiceType;
 use crate::core::simulation_time::{SimulationTimeIterator, Timestep};
 use crate::input::{HeatBattery, HeatSourceWetDetails, PcmBatteryChargingConfiguration};
 use crate::model::{
-    shows_hydronic_time, Answer, Battery, Call, Card, Demand, Derived, Hydronic, State, Totals,
+    shows_hydronic_time, Answer, Battery, Call, Card, Demand, Derived, Hydronic, Services, State,
+    Totals,
 };
 use crate::ranges;
 use crate::stand_ins::{take_logarithm_refused, take_logarithms};
@@ -178,9 +179,40 @@ pub fn derived(card: &Card) -> Result<Derived, u8> {
     }
 }
 
-/// Refusal 1 to 4 of a card, or 0.
+/// Refusal 1 to 4 or 61 of a card, or 0.
 pub fn card_refusal(card: &Card) -> u8 {
-    derived(card).err().unwrap_or(0)
+    match derived(card) {
+        Err(refusal) => refusal,
+        Ok(_) if is_services(&card.services) => 0,
+        Ok(_) => 61,
+    }
+}
+
+/// At most 32, each number above the last and the first above 3, each class 1, 2 or 3.
+fn is_services(services: &Services) -> bool {
+    let listed = services.listed();
+    listed.len() <= 32
+        && listed.first().is_none_or(|first| first.number > 3)
+        && listed.windows(2).all(|pair| pair[0].number < pair[1].number)
+        && listed.iter().all(|service| matches!(service.class, 1..=3))
+}
+
+/// The published file's service of a type, for the accepted list of a card; None for type 0 and for
+/// a number that isn't listed. A list rises, so it is searched by halves.
+fn service(card: &Card, service_type: u16) -> Option<HeatingServiceType> {
+    let listed = card.services.listed();
+    let class = match service_type {
+        0..=3 => service_type,
+        _ => listed
+            .binary_search_by_key(&service_type, |service| service.number)
+            .map_or(0, |place| listed[place].class.into()),
+    };
+    match class {
+        1 => Some(HeatingServiceType::DomesticHotWaterRegular),
+        2 => Some(HeatingServiceType::Space),
+        3 => Some(HeatingServiceType::DomesticHotWaterDirect),
+        _ => None,
+    }
 }
 
 fn load(battery: &Battery, control_on: bool) -> anyhow::Result<HeatBatteryPcm> {
@@ -214,25 +246,25 @@ fn runs(demand: &Demand) -> bool {
 }
 
 /// Refusals 20 and 21, given before the first substep.
-fn demand_refusal(demand: &Demand) -> u8 {
+fn demand_refusal(card: &Card, demand: &Demand) -> u8 {
     if !runs(demand) {
         0
     } else if demand.return_temperature.is_none() {
         20
-    } else if demand.commit == 1 && demand.service_type == 0 {
+    } else if demand.commit == 1 && service(card, demand.service_type).is_none() {
         21
     } else {
         0
     }
 }
 
-fn demand_energy(published: &HeatBatteryPcm, demand: &Demand) -> anyhow::Result<f64> {
-    let service_type = match demand.service_type {
-        0 => HeatingServiceType::DomesticHotWaterCombi,
-        1 => HeatingServiceType::DomesticHotWaterRegular,
-        2 => HeatingServiceType::Space,
-        _ => HeatingServiceType::DomesticHotWaterDirect,
-    };
+fn demand_energy(
+    published: &HeatBatteryPcm,
+    card: &Card,
+    demand: &Demand,
+) -> anyhow::Result<f64> {
+    let service_type = service(card, demand.service_type)
+        .unwrap_or(HeatingServiceType::DomesticHotWaterCombi);
     published.demand_energy(
         "service",
         service_type,
@@ -279,9 +311,9 @@ fn close_timestep(published: &HeatBatteryPcm) {
 }
 
 /// The energy of a call. An error with no number is the published file's state of charge, 25.
-fn energy(published: &HeatBatteryPcm, call: &Call) -> anyhow::Result<f64> {
+fn energy(published: &HeatBatteryPcm, card: &Card, call: &Call) -> anyhow::Result<f64> {
     match call {
-        Call::Demand(demand) => demand_energy(published, demand),
+        Call::Demand(demand) => demand_energy(published, card, demand),
         Call::Electric { power, target } => {
             published.charge_battery_electric(*power, *target).map(|charged| charged.0)
         }
@@ -306,7 +338,7 @@ fn answer(version: u8, battery: &Battery, call: &Call) -> anyhow::Result<Answer>
     let control_on = matches!(call, Call::Demand(demand) if demand.control_on == 1);
     let published = load(battery, control_on)?;
     RUN.set(Run::with_budget(u32::from(battery.card.budget)));
-    let energy = energy(&published, call)?;
+    let energy = energy(&published, &battery.card, call)?;
     let run = RUN.get();
     let mut answer = Answer::plain(energy, run.substeps, state_of(&published));
     match call {
@@ -326,12 +358,12 @@ pub fn step(version: u8, battery: &Battery, call: &Call) -> (Answer, Battery) {
     let before = &battery.state;
     let answer = if card_refusal(&battery.card) != 0
         || ranges::battery_refusal(battery)
-        || ranges::call_refusal(&battery.card, call)
+        || ranges::call_refusal(version, &battery.card, call)
     {
         Answer::refused(10, before)
     } else {
         let refusal = match call {
-            Call::Demand(demand) => demand_refusal(demand),
+            Call::Demand(demand) => demand_refusal(&battery.card, demand),
             _ => 0,
         };
         if refusal != 0 {

@@ -1,7 +1,10 @@
-//! Card, battery, call and answer of document 01, and the sheet's versions of document 02.
+//! Card, battery, call and answer of document 01, and the sheet's versions and services of document
+//! 02.
+
+use std::fmt;
 
 /// The known versions, oldest first.
-pub const VERSIONS: [u8; 2] = [1, 2];
+pub const VERSIONS: [u8; 3] = [1, 2, 3];
 
 pub fn is_known(version: u8) -> bool {
     VERSIONS.contains(&version)
@@ -10,6 +13,53 @@ pub fn is_known(version: u8) -> bool {
 /// Whether an answered hydronic line shows its time; else it shows 0.
 pub fn shows_hydronic_time(version: u8) -> bool {
     version >= 2
+}
+
+/// Whether a card lists services, and a service type has two bytes.
+pub fn lists_services(version: u8) -> bool {
+    version >= 3
+}
+
+/// A listed service: its number, and 1 regular, 2 space or 3 direct.
+#[derive(Clone, Copy, Debug, Default, PartialEq, Eq)]
+pub struct Service {
+    pub number: u16,
+    pub class: u8,
+}
+
+/// A list of services, accepted or not: as many as its count byte can say.
+#[derive(Clone, Copy)]
+pub struct Services {
+    count: u8,
+    places: [Service; u8::MAX as usize],
+}
+
+impl Services {
+    /// At most 255.
+    pub fn new(listed: &[Service]) -> Self {
+        let count = u8::try_from(listed.len()).expect("a count byte");
+        let mut places = [Service::default(); u8::MAX as usize];
+        places[..listed.len()].copy_from_slice(listed);
+        Services { count, places }
+    }
+
+    pub fn listed(&self) -> &[Service] {
+        &self.places[..usize::from(self.count)]
+    }
+}
+
+/// None.
+impl Default for Services {
+    fn default() -> Self {
+        Services::new(&[])
+    }
+}
+
+impl fmt::Debug for Services {
+    fn fmt(&self, f: &mut fmt::Formatter<'_>) -> fmt::Result {
+        let pairs = self.listed().iter().map(|service| (service.number, service.class));
+        f.debug_list().entries(pairs).finish()
+    }
 }
 
 #[derive(Clone, Copy, Debug, Default)]
@@ -37,6 +87,8 @@ pub struct Card {
     pub losses: f64,
     pub start: f64,
     pub power: f64,
+    /// None before version 3.
+    pub services: Services,
 }
 
 impl Card {
@@ -124,7 +176,7 @@ impl Totals {
     }
 }
 
-#[derive(Clone, Debug)]
+#[derive(Clone, Debug, Default)]
 pub struct State {
     pub zones: Vec<f64>,
     pub totals: Totals,
@@ -156,7 +208,8 @@ pub enum Call {
 
 #[derive(Clone, Copy, Debug)]
 pub struct Demand {
-    pub service_type: u8,
+    /// 0 to 3; from version 3 on any number.
+    pub service_type: u16,
     pub commit: u8,
     pub control_on: u8,
     pub required: f64,

@@ -1,6 +1,6 @@
 //! Document 01's ranges of card and call fields, both ends included, and refusal 10.
 
-use crate::model::{Battery, Call, Card, Demand, Hydronic};
+use crate::model::{lists_services, Battery, Call, Card, Demand, Hydronic};
 
 pub type Range = (f64, f64);
 
@@ -51,8 +51,8 @@ pub fn card_in_range(card: &Card) -> bool {
         && card.numbers().iter().zip(CARD).all(|(x, range)| within(*x, range))
 }
 
-fn demand_in_range(card: &Card, demand: &Demand) -> bool {
-    demand.service_type <= 3
+fn demand_in_range(version: u8, card: &Card, demand: &Demand) -> bool {
+    (demand.service_type <= 3 || lists_services(version))
         && demand.commit <= 1
         && demand.control_on <= 1
         && within(demand.required, REQUIRED)
@@ -73,9 +73,9 @@ fn hydronic_in_range(hydronic: &Hydronic) -> bool {
 }
 
 /// Refusal 10 of a call: whether a field is out of range or not finite.
-pub fn call_refusal(card: &Card, call: &Call) -> bool {
+pub fn call_refusal(version: u8, card: &Card, call: &Call) -> bool {
     !match call {
-        Call::Demand(demand) => demand_in_range(card, demand),
+        Call::Demand(demand) => demand_in_range(version, card, demand),
         Call::Electric { power, target } => within(*power, POWER) && within(*target, FRACTION),
         Call::Hydronic(hydronic) => hydronic_in_range(hydronic),
         Call::StandingLoss | Call::CloseTimestep | Call::StateOfCharge => true,

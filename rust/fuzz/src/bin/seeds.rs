@@ -7,11 +7,11 @@ use oracle::auditor::MOST_BYTES;
 use oracle::damage;
 use oracle::entries;
 use oracle::generate;
-use oracle::model::{Battery, Card};
+use oracle::model::{is_known, Battery, Card};
 use oracle::random::Random;
 use oracle::raw::{self, Calling};
 use oracle::reading;
-use oracle::sheet::{self, OPENING_BYTES};
+use oracle::sheet;
 use oracle::sheets;
 use std::fs;
 use std::path::Path;
@@ -26,7 +26,7 @@ const MOST: u64 = 6;
 fn after(version: u8, battery: Battery, calling: Calling) -> Battery {
     let Calling { mut record, call, mut sheet, .. } = calling;
     entries::call(version, &mut record, &call, &mut sheet);
-    reading::battery(&record).unwrap_or(battery)
+    is_known(version).then(|| reading::battery(version, &record)).flatten().unwrap_or(battery)
 }
 
 /// An opening and calls of any sort.
@@ -40,8 +40,8 @@ fn any_list(random: &mut Random) -> Input {
         calls: Vec::new(),
         card: opening.card,
     };
-    let mut battery = change::battery(&input.card);
-    let mut left = sheet::battery_bytes(&battery);
+    let mut battery = change::battery(version, &input.card);
+    let mut left = sheet::battery_bytes(version, &battery);
     battery = generate::battery(random, &battery.card);
     for _ in 0..1 + random.below(MOST) {
         let calling = raw::calling(random, version, &battery);
@@ -52,27 +52,29 @@ fn any_list(random: &mut Random) -> Input {
             record: if calling.record == left { Vec::new() } else { calling.record.clone() },
         });
         battery = after(version, battery, calling);
-        left = sheet::battery_bytes(&battery);
+        left = sheet::battery_bytes(version, &battery);
     }
     input
 }
 
 /// An opening and calls, each in range and with room.
 fn sound_list(random: &mut Random) -> Input {
-    let card = sound_card(random);
+    let version = generate::version(random);
+    let card = sound_card(random, version);
     let mut calls = Vec::new();
     let battery = Battery::fresh(&card);
     for _ in 0..1 + random.below(MOST) {
-        let call = sheet::call_bytes(&generate::next_call(random, &battery));
+        let call = sheet::call_bytes(version, &generate::next_call(random, version, &battery));
         calls.push(change::called(call, card.layers));
     }
-    let (version, record) = (generate::version(random), sheet::record_length(card.layers) as u16);
-    Input { version, card: sheet::card_bytes(&card), record, room: OPENING_BYTES as u16, calls }
+    let card = sheet::card_bytes(version, &card);
+    let (record, room) = (sheet::record_length(&card) as u16, sheet::opening_length(&card) as u16);
+    Input { version, card, record, room, calls }
 }
 
 /// A card whose calls don't take long.
-fn sound_card(random: &mut Random) -> Card {
-    let card = generate::card(random);
+fn sound_card(random: &mut Random, version: u8) -> Card {
+    let card = generate::card_of(random, version);
     Card { budget: card.budget.min(1000), ..card }
 }
 
@@ -92,7 +94,8 @@ fn any_sheets(random: &mut Random, count: u64) -> Vec<Vec<u8>> {
 
 /// A sheet as written; one in forty has nearly as many bytes as the audit takes.
 fn sound_sheet(random: &mut Random) -> Vec<u8> {
-    let (version, card) = (generate::version(random), sound_card(random));
+    let version = generate::version(random);
+    let card = sound_card(random, version);
     if random.one_in(40) {
         let card = Card { layers: 64, budget: card.budget.min(100), ..card };
         return damage::write(random, version, &card, 140, MOST_BYTES).bytes;

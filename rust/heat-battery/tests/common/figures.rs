@@ -28,6 +28,7 @@ pub const POINTS: Card = Card {
     losses: 0.25,
     start: 76.0,
     power: 0.0,
+    services: Vec::new(),
 };
 
 /// What a hydronic charge is given besides the figures that all here share.
@@ -51,7 +52,7 @@ impl Wet {
     }
 }
 
-/// A charge of a fresh battery, and the substeps and the time that version 2 shows.
+/// A charge of a fresh battery, and the substeps and the time that version 2 and later show.
 pub struct Figure {
     pub start: f64,
     pub substep: f64,

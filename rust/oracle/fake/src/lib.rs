@@ -4,7 +4,7 @@
 use oracle::auditor::Fields;
 use oracle::faults::Faulty;
 use oracle::library::Library;
-use oracle::own::{self, Record, Shown};
+use oracle::own::{Record, Shown};
 use std::slice::{from_raw_parts, from_raw_parts_mut};
 
 fn library() -> Faulty {
@@ -75,5 +75,5 @@ pub unsafe extern "C" fn heat_battery_advance(
     call: *const u8,
     call_len: usize,
 ) -> Shown {
-    own::advance(library().step(), version, &mut *record, from_raw_parts(call, call_len))
+    library().advance(version, &mut *record, from_raw_parts(call, call_len))
 }

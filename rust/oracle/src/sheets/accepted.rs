@@ -1,10 +1,12 @@
 //! Sheets that are accepted, and those of the limit of length.
 
-use super::{card, demand, hydronic, one_of_each, run, written, written_in, Named};
+use super::{
+    card, demand, hydronic, many_services, one_of_each, run, services, written, written_in, Named,
+};
 use crate::auditor::MOST_BYTES;
 use crate::fields;
-use crate::model::{Call, Card, Demand, Hydronic};
-use crate::sheet::{self, OPENING_BYTES};
+use crate::model::{Call, Card, Demand, Hydronic, Services};
+use crate::sheet;
 
 const KINDS: [&str; 7] = [
     "demand",
@@ -20,9 +22,13 @@ pub fn all() -> Vec<Named> {
     let mut sheets = vec![
         Named::accepted("opening", written(&card(1), &[]), 0),
         Named::accepted("opening_version_2", written_in(2, &card(1), &[]), 0),
-        all_kinds(1, "all_kinds"),
-        all_kinds(2, "all_kinds_version_2"),
+        Named::accepted("opening_version_3", written_in(3, &card(1), &[]), 0),
+        Named::accepted("opening_32_services", written_in(3, &listing(many_services(32)), &[]), 0),
+        all_kinds(1, Services::default(), "all_kinds"),
+        all_kinds(2, Services::default(), "all_kinds_version_2"),
+        all_kinds(3, services(&[(4, 1), (256, 3), (65535, 2)]), "all_kinds_version_3"),
         hydronic_times(),
+        listed_services(),
     ];
     for (name, call) in KINDS.iter().zip(one_of_each()) {
         sheets.push(Named::accepted(&format!("kind_{name}"), written(&card(1), &[call]), 1));
@@ -34,6 +40,47 @@ pub fn all() -> Vec<Named> {
     sheets
 }
 
+/// The card of one layer with a list.
+fn listing(services: Services) -> Card {
+    Card { services, ..card(1) }
+}
+
+/// Demands of listed numbers and of others: which hours they count to, what 21 refuses and what a
+/// trial may ask.
+fn listed_services() -> Named {
+    let list = [(4, 1), (5, 2), (255, 3), (256, 1), (257, 2), (515, 3), (32767, 1), (32768, 3)];
+    let of = |service_type| Demand { service_type, ..demand(0.001) };
+    let trial = |service_type| Demand { commit: 0, ..of(service_type) };
+    let calls = [
+        (of(4), 0),
+        (of(5), 0),
+        (of(255), 0),
+        (of(256), 0),
+        (of(257), 0),
+        (of(515), 0),
+        (of(32767), 0),
+        (of(32768), 0),
+        (of(1), 0),
+        (of(2), 0),
+        (of(3), 0),
+        (of(0), 21),
+        (of(6), 21),
+        (of(254), 21),
+        (of(258), 21),
+        (of(32769), 21),
+        (of(65535), 21),
+        (Demand { return_temperature: None, ..of(6) }, 20),
+        (Demand { required: 1e-10, ..of(6) }, 0),
+        (trial(6), 0),
+        (trial(65535), 0),
+        (trial(515), 0),
+    ];
+    let (bytes, results) =
+        run(3, &listing(services(&list)), &calls.map(|(fields, _)| Call::Demand(fields)));
+    assert_eq!(results, calls.map(|(_, result)| result));
+    Named::accepted("services", bytes, calls.len() as u64)
+}
+
 /// b at which the outlet's denominator of one of 25 layers vanishes at 6 l/min.
 const SINGULAR_B: f64 = -20920.0;
 
@@ -43,8 +90,8 @@ fn unbounded(hex_b: f64) -> Call {
 }
 
 /// All seven kinds, and each of 20 to 25.
-fn all_kinds(version: u8, name: &str) -> Named {
-    let salt = Card { below: 400.0, during: 3200.0, above: 200.0, ..card(25) };
+fn all_kinds(version: u8, services: Services, name: &str) -> Named {
+    let salt = Card { below: 400.0, during: 3200.0, above: 200.0, services, ..card(25) };
     let card = Card { budget: 60, max: 59.0, power: 3.0, simultaneous: 1, ..salt };
     let list = [
         (Call::StateOfCharge, 25),
@@ -142,8 +189,8 @@ fn fill(rest: usize, extra: [usize; 4]) -> Option<[usize; 4]> {
 fn filling_list(layers: u8) -> Vec<Call> {
     let [demand, electric, hydronic, loss, close, level, charge] = one_of_each();
     let shortest = 2 + 1 + sheet::answer_length(layers);
-    let extra = [1, 2, 3, 7].map(|kind| sheet::call_length(kind).expect("a known kind") - 1);
-    let room = MOST_BYTES - OPENING_BYTES;
+    let extra = [1, 2, 3, 7].map(|kind| sheet::call_length(1, kind).expect("a known kind") - 1);
+    let room = MOST_BYTES - sheet::opening(1, &card(layers)).len();
     let mut lines = room / shortest;
     let counts = loop {
         match fill(room - lines * shortest, extra) {

@@ -1,9 +1,9 @@
 //! Sheets that are refused, each with one thing wrong unless its name says more.
 
-use super::{card, demand, one_of_each, written, written_in, Named};
+use super::{card, demand, many_services, one_of_each, services, written, written_in, Named};
 use crate::fields::{self, Line};
-use crate::model::{Call, Card, Demand};
-use crate::sheet::{self, OPENING_BYTES};
+use crate::model::{Call, Card, Demand, Services};
+use crate::sheet;
 
 pub fn all() -> Vec<Named> {
     let mut sheets = refused_40();
@@ -11,6 +11,7 @@ pub fn all() -> Vec<Named> {
     sheets.extend(refused_42());
     sheets.extend(refused_43());
     sheets.extend(hydronic_times());
+    sheets.extend(refused_services());
     sheets.extend(order());
     sheets.push(Named::refused("zeros_44", vec![0; 65_537], 44, 0));
     sheets
@@ -46,7 +47,7 @@ fn refused_40() -> Vec<Named> {
     vec![
         Named::refused("empty", Vec::new(), 40, 0),
         Named::refused("version_0", turned(1, 0), 40, 0),
-        Named::refused("version_3", turned(2, 3), 40, 0),
+        Named::refused("version_4", turned(3, 4), 40, 0),
         Named::refused("version_255", turned(2, 255), 40, 0),
     ]
 }
@@ -61,7 +62,7 @@ fn card_line(length: u16) -> Vec<u8> {
 fn refused_41() -> Vec<Named> {
     let with_card = |card: Card| {
         let mut bytes = whole();
-        bytes[3..OPENING_BYTES].copy_from_slice(&sheet::card_bytes(&card));
+        bytes.splice(..fields::opening_end(&bytes), sheet::opening(1, &card));
         bytes
     };
     let good = card(2);
@@ -80,7 +81,7 @@ fn refused_41() -> Vec<Named> {
     let mut sheets = vec![
         Named::refused("one_byte", vec![1], 41, 0),
         Named::refused("card_length_cut", whole()[..2].to_vec(), 41, 0),
-        Named::refused("card_cut", whole()[..OPENING_BYTES - 1].to_vec(), 41, 0),
+        Named::refused("card_cut", whole()[..160].to_vec(), 41, 0),
         Named::refused("card_157", card_line(157), 41, 0),
         Named::refused("card_159", card_line(159), 41, 0),
     ];
@@ -192,6 +193,71 @@ fn hydronic_times() -> Vec<Named> {
     ]
 }
 
+/// A sheet of version 3 whose card lists these, whether 61 refuses them or not.
+fn listing(services: Services) -> Vec<u8> {
+    let mut bytes = whole_in(3);
+    let card = Card { services, ..card(2) };
+    bytes.splice(..fields::opening_end(&bytes), sheet::opening(3, &card));
+    bytes
+}
+
+/// A sheet of version 3 with one demand of a type and its answer, then with another type in its
+/// place. Number 300 is regular, 301 direct.
+fn retyped(before: u16, after: u16) -> Vec<u8> {
+    let card = Card { services: services(&[(300, 1), (301, 3)]), ..card(2) };
+    let call = Call::Demand(Demand { service_type: before, ..demand(0.05) });
+    let mut bytes = written_in(3, &card, &[call]);
+    let line = fields::lines(&bytes)[0];
+    bytes[line.service_type()].copy_from_slice(&after.to_be_bytes());
+    bytes
+}
+
+/// Lengths and lists of version 3's card, its calls, and services that answer otherwise.
+fn refused_services() -> Vec<Named> {
+    let refused =
+        |name: &str, listed: &[(u16, u8)]| Named::refused(name, listing(services(listed)), 41, 0);
+    let count = |count: u8| {
+        let mut bytes = listing(services(&[(4, 1), (5, 2)]));
+        bytes[3 + sheet::CARD_BYTES] = count;
+        bytes
+    };
+    // 255 bytes, which would be those of 32 services.
+    let mut short = listing(many_services(32));
+    short[3 + sheet::CARD_BYTES] = 33;
+    let no_layers = Card { services: many_services(33), layers: 0, ..card(2) };
+    let old = &whole_in(2)[fields::opening_end(&whole_in(2))..];
+    let flag = |at: usize| changed_in(3, 1, |bytes, line| bytes[line.call() + at] = 2);
+    vec![
+        Named::refused("version_3", turned(2, 3), 41, 0),
+        Named::refused("version_3_turned_to_2", turned(3, 2), 41, 0),
+        Named::refused("services_count_1_for_2", count(1), 41, 0),
+        Named::refused("services_count_3_for_2", count(3), 41, 0),
+        Named::refused("services_33_in_255_bytes", short, 41, 0),
+        Named::refused("services_33", listing(many_services(33)), 41, 0),
+        Named::refused("services_33_layers_0", sheet::opening(3, &no_layers), 41, 0),
+        Named::refused("services_255", listing(many_services(255)), 41, 0),
+        refused("services_twice", &[(4, 1), (4, 1)]),
+        refused("services_falling", &[(256, 1), (255, 2)]),
+        refused("service_3", &[(3, 3)]),
+        refused("service_0", &[(0, 1), (4, 1)]),
+        refused("service_class_0", &[(4, 0)]),
+        refused("service_class_4", &[(4, 1), (5, 4)]),
+        Named::refused(
+            "version_2_line_in_version_3",
+            [&sheet::opening(3, &card(2)), old].concat(),
+            42,
+            1,
+        ),
+        Named::refused("commit_2_in_version_3", flag(3), 42, 1),
+        Named::refused("control_2_in_version_3", flag(4), 42, 1),
+        Named::refused("return_mark_2_in_version_3", flag(21), 42, 1),
+        Named::refused("service_unlisted", retyped(300, 302), 43, 1),
+        Named::refused("service_exchanged", retyped(300, 300u16.swap_bytes()), 43, 1),
+        Named::refused("service_of_another_class", retyped(300, 301), 43, 1),
+        Named::refused("service_refused_though_listed", retyped(302, 300), 43, 1),
+    ]
+}
+
 fn zone_nan() -> Vec<u8> {
     changed(7, |bytes, line| fields::put_number(bytes, line.state(), f64::NAN))
 }
@@ -206,14 +272,14 @@ fn refused_without_case() -> Vec<u8> {
     let absent = Call::Demand(Demand { return_temperature: None, ..demand(0.05) });
     let mut bytes = written(&card(2), &[absent]);
     let line = fields::lines(&bytes)[0];
-    bytes[line.call() + 20] = 1;
-    fields::put_number(&mut bytes, line.call() + 21, 10.0);
+    bytes[line.return_mark()] = 1;
+    fields::put_number(&mut bytes, line.return_mark() + 1, 10.0);
     bytes
 }
 
 /// The answer to a demand whose return temperature is then taken away.
 fn answered_against_20() -> Vec<u8> {
-    changed(1, |bytes, line| bytes[line.call() + 20..line.answer()].fill(0))
+    changed(1, |bytes, line| bytes[line.return_mark()..line.answer()].fill(0))
 }
 
 /// The first line is missing, and the next one shows what it left.
@@ -226,7 +292,8 @@ fn zones_carried_on() -> Vec<u8> {
     let cold = written(&card(1), &[Call::CloseTimestep, Call::StandingLoss]);
     let warm = Card { start: 60.5, ..card(1) };
     let warm = written(&warm, &[Call::CloseTimestep, Call::StandingLoss]);
-    [&cold[..OPENING_BYTES], &warm[OPENING_BYTES..]].concat()
+    let (cold_end, warm_end) = (fields::opening_end(&cold), fields::opening_end(&warm));
+    [&cold[..cold_end], &warm[warm_end..]].concat()
 }
 
 /// The lowest line wins, 42 before 43.

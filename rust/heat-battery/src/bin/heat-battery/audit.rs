@@ -1,12 +1,13 @@
 //! `audit`: the verdict, which card it is of, and what lies behind it.
 
 use crate::arguments::Arguments;
-use crate::card::{accepted, count};
+use crate::card::{accepted, count, listed, unlisted};
 use crate::failure::Failure;
 use crate::files;
 use crate::output::print;
 use heat_battery::{
-    explain, is_too_long, read, Call, Card, Difference, Explanation, Verdict, MOST_AUDITED,
+    explain, is_too_long, read, Call, Card, Difference, Explanation, Refusal, Verdict, Version,
+    MOST_AUDITED,
 };
 use std::ffi::OsStr;
 use std::fmt::Write;
@@ -18,11 +19,11 @@ pub fn audit(arguments: &Arguments) -> Result<(), Failure> {
     let verdict = heat_battery::audit(&bytes);
     let card = read(&bytes).ok().map(|(_, card, _)| card);
     let mut text = format!("{verdict}\n");
-    if let Some(card) = card {
+    if let Some(card) = &card {
         let _ = writeln!(text, "card {}", card.fingerprint());
     }
     if arguments.has("--explain") {
-        text.push_str(&words(verdict, &bytes));
+        text.push_str(&words(verdict, &bytes, card.as_ref()));
     }
     if is_too_long(&bytes) {
         text.push_str(&program_words(bytes.len()));
@@ -78,7 +79,8 @@ impl<'a> Expected<'a> {
 
 /// Where a sheet's card isn't the one expected: both fingerprints and every field that differs.
 fn other_card(card: &Card, expected: &Card, name: &str) -> Option<String> {
-    if card.to_bytes() == expected.to_bytes() {
+    let bytes = |card: &Card| card.to_bytes(Version::NEWEST);
+    if bytes(card) == bytes(expected) {
         return None;
     }
     let (ours, theirs) = (card.fingerprint(), expected.fingerprint());
@@ -90,18 +92,30 @@ fn other_card(card: &Card, expected: &Card, name: &str) -> Option<String> {
             let _ = write!(words, "\n  {}: the sheet says {ours}, the card {theirs}", field.name);
         }
     }
+    let [ours, theirs] = [card, expected].map(|card| listed(&card.services));
+    if ours != theirs {
+        let _ = write!(words, "\n  services: the sheet lists {ours}, the card {theirs}");
+    }
     Some(words)
 }
 
 /// An accepted sheet needs no second look.
-fn words(verdict: Verdict, bytes: &[u8]) -> String {
+fn words(verdict: Verdict, bytes: &[u8], card: Option<&Card>) -> String {
     if let Verdict::Accepted(_) = verdict {
         return "every call line agrees with the steps\n".into();
     }
     match explain(bytes) {
         Explanation::Agreement => String::new(),
         Explanation::Damage(damage) => format!("line {}: {}\n", damage.line, damage.words),
-        Explanation::Differences { line, call, fields } => differences(line, &call, &fields),
+        Explanation::Differences { line, call, fields } => {
+            let mut text = differences(line, &call, &fields);
+            let is_refused = |field: &Difference| field.field == "refusal" && field.given == "21";
+            let unlisted = card.and_then(|card| unlisted(card, &call, Refusal::NoService));
+            if let Some(words) = unlisted.filter(|_| fields.iter().any(is_refused)) {
+                let _ = writeln!(text, "  {words}");
+            }
+            text
+        }
     }
 }
 

@@ -6,7 +6,7 @@ use crate::files;
 use crate::holds::{warnings, Holds};
 use crate::output::{note, print};
 use heat_battery::text::{self, Slips};
-use heat_battery::{Card, Looks, Refusal};
+use heat_battery::{Call, Card, Looks, Refusal, Service};
 use std::ffi::OsStr;
 
 pub fn template(_: &Arguments) -> Result<(), Failure> {
@@ -16,10 +16,11 @@ pub fn template(_: &Arguments) -> Result<(), Failure> {
 pub fn check(arguments: &Arguments) -> Result<(), Failure> {
     let card = accepted(arguments.place(0))?;
     print(&format!(
-        "accepted: {}, {}\n{}\ncard {}\n",
+        "accepted: {}, {}\n{}\n{}card {}\n",
         size(&card),
         span(&card),
         Holds::of(&card),
+        services(&card),
         card.fingerprint()
     ))?;
     for words in warnings(&card) {
@@ -49,6 +50,29 @@ fn span(card: &Card) -> String {
     )
 }
 
+/// A line with the services that a card lists; empty where it lists none.
+fn services(card: &Card) -> String {
+    match card.services.is_empty() {
+        true => String::new(),
+        false => format!("services: {}\n", listed(&card.services)),
+    }
+}
+
+/// Services in words: `12 space, 700 direct`
+pub fn listed(services: &[Service]) -> String {
+    let words: Vec<String> = services.iter().map(Service::to_string).collect();
+    match words.is_empty() {
+        true => "none".into(),
+        false => words.join(", "),
+    }
+}
+
+/// That a demand's service isn't listed, in words, where it isn't and the refusal is 21.
+pub fn unlisted(card: &Card, call: &Call, refusal: Refusal) -> Option<String> {
+    let number = card.unlisted(call).filter(|_| refusal == Refusal::NoService)?;
+    Some(format!("service {number} isn't on the card's list: {}", listed(&card.services)))
+}
+
 /// The card of a file, where the engine opens a battery with it; else every reason why not. A
 /// number that is out of range is a refusal, whatever its size.
 pub fn accepted(path: &OsStr) -> Result<Card, Failure> {
@@ -57,9 +81,9 @@ pub fn accepted(path: &OsStr) -> Result<Card, Failure> {
         files::refused(path, format!("card refused, {refusal}\n  {reasons}"))
     };
     let listed =
-        text::card(&files::text(path, Looks::Card)?).map_err(|slips| match slips.is_refusal() {
-            true => refused(Refusal::CardOutOfRange, &slips),
-            false => files::trouble(path, format!("no card:\n{slips}")),
+        text::card(&files::text(path, Looks::Card)?).map_err(|slips| match slips.refusal() {
+            Some(refusal) => refused(refusal, &slips),
+            None => files::trouble(path, format!("no card:\n{slips}")),
         })?;
     match listed.card.check() {
         Ok(()) => Ok(listed.card),

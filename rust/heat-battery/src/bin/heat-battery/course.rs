@@ -2,7 +2,7 @@
 //! or, where no timestep is closed, over the lines.
 
 use crate::axis::is_drawable;
-use heat_battery::{Battery, Call, Card, Line, ServiceType, Version};
+use heat_battery::{Battery, Call, Card, Line, ServiceClass, Version};
 
 /// A line and where it begins and ends across the picture.
 struct Placed {
@@ -42,15 +42,17 @@ pub static CLASSES: [Class; 6] = [
     Class { name: "standing loss", color: "#444444", sign: -1.0 },
 ];
 
-/// The class of a call that moves heat.
-fn class(call: &Call) -> Option<&'static Class> {
+/// The class of a call that moves heat; a listed service is drawn as what the card says it is.
+fn class(card: &Card, call: &Call) -> Option<&'static Class> {
     let [electric, hydronic, space, regular, direct, loss] = &CLASSES;
     match call {
         Call::Electric { .. } => Some(electric),
         Call::Hydronic { .. } => Some(hydronic),
-        Call::Demand { service: ServiceType::Space, .. } => Some(space),
-        Call::Demand { service: ServiceType::Direct, .. } => Some(direct),
-        Call::Demand { .. } => Some(regular),
+        Call::Demand { service, .. } => Some(match card.class(*service) {
+            Some(ServiceClass::Space) => space,
+            Some(ServiceClass::Direct) => direct,
+            Some(ServiceClass::Regular) | None => regular,
+        }),
         Call::StandingLoss => Some(loss),
         Call::CloseTimestep | Call::StateOfCharge | Call::ChargeEnergyDemand { .. } => None,
     }
@@ -166,7 +168,7 @@ impl Course {
         for (from, to, step, _) in self.steps() {
             let mut sums: Vec<Bar> = Vec::new();
             for Placed { line, .. } in step.iter().filter(|one| one.line.answer.refusal.is_none()) {
-                let Some(class) = class(&line.call) else { continue };
+                let Some(class) = class(&self.card, &line.call) else { continue };
                 let energy = line.answer.figure() * class.sign;
                 let is_trial = line.call.is_trial();
                 let same = |bar: &&mut Bar| bar.class == class && bar.is_trial == is_trial;

@@ -29,8 +29,15 @@ heat-battery card check FILE
 
 Reads a card (one name = value on each line, what follows # is a comment) and says whether the
 engine accepts it. If so: what the battery holds between empty and full, below, in and above the
-melting range, in kWh, and the card's fingerprint. If not, every field that is out of range is named
-with its line and its range.
+melting range, in kWh, the services that it lists and the card's fingerprint. If not, every field
+that is out of range is named with its line and its range, and every service that can't be listed.
+
+A card may list services by number, each on a line such as
+
+  service 12 = space
+
+At most 32, their numbers rising from 4 to 65535; the classes are regular, space and direct. Only
+sheets from version 3 on have them.
 
 Warnings, on standard error, are of what is legal but odd: a start above max or below reference,
 losses that empty a full battery in a day, a melting capacity below the others or over 1000 times as
@@ -42,7 +49,8 @@ Status: 0 accepted; 1 refused; 2 the file can't be read or is no card.
 pub const CARD_TEMPLATE: &str = "\
 heat-battery card template
 
-Prints a card to start from, with each field's meaning, unit and range.
+Prints a card to start from, with each field's meaning, unit and range and, in a comment, a line
+that lists a service.
 ";
 
 pub const RUN: &str = "\
@@ -59,16 +67,19 @@ on each line, a kind and its fields in any order; what follows # is a comment:
   state_of_charge
   charge_energy_demand flow_maximum=65 target=1
 
-Services: combi, regular, space, direct. return_temperature and flow_maximum may be none. Units:
-kWh, h, kW, °C, l/min, m/s, m. A refused call is reported with its number, its meaning and its
-line, and the list goes on: 20 to 25 stand on the sheet as a line, 10 and 11 leave no line. Beyond
-twenty, refused calls are counted.
+Services: combi, regular, space, direct or a number that the card lists, such as service=12; a demand
+for another number is refused with 21, a trial of it runs. return_temperature and flow_maximum may be
+none. Units: kWh, h, kW, °C, l/min, m/s, m. A refused call is reported with its number, its meaning
+and its line, and the list goes on: 20 to 25 stand on the sheet as a line, 10 and 11 leave no line.
+Beyond twenty, refused calls are counted.
 
 A committed demand that got over 0.001 kWh less than it required is unmet; a refused one got
 nothing. How many are, and what they lack, is said at the end.
 
-  --version N    write a sheet of version N (1, 2), not of the newest. From version 2 on an answered
-                 hydronic charge shows how long its pump ran; in version 1 it shows 0 s
+  --version N    write a sheet of version N (1, 2, 3), not of the newest. From version 2 on an
+                 answered hydronic charge shows how long its pump ran; in version 1 it shows 0 s.
+                 Numbered services are of version 3: with another, a card that lists some or a call
+                 for one is an error, and nothing is written
   --stop         end at the first refused call; the sheet so far is written
   --most BYTES   hold the sheet to so many bytes; the list ends at the first line that has no room
   --unmet-fails  status 3 where a demand is unmet
@@ -80,18 +91,19 @@ every call was answered, a demand is unmet and --unmet-fails stands there.
 pub const SHOW: &str = "\
 heat-battery show SHEET [--json] [--unmet-fails]
 
-Prints the card and every line: kind and fields of the call, refusal in words, energy, shortfall of
-a demand, outlet, time, substeps, zones and totals; at the end unmet demand, the hours of the
-charging loop, the sheet's version, the card's fingerprint and the audit's verdict. Energy is heat
-that moved. What was only asked stands apart: the energy of a trial, the state of charge (0 to 1),
-the charge energy demand ('to charge').
+Prints the card and every line: kind and fields of the call, a numbered service with its class on
+the card, refusal in words, energy, shortfall of a demand, outlet, time, substeps, zones and totals;
+at the end unmet demand, the hours of the charging loop, the sheet's version, the card's fingerprint
+and the audit's verdict. Energy is heat that moved. What was only asked stands apart: the energy of a
+trial, the state of charge (0 to 1), the charge energy demand ('to charge').
 
 The time is that of a demand and, from version 2 on, of the pump of a hydronic charge. The charging
 loop's hours are the sum of the latter; they are in none of the running totals.
 
 The table is rounded; --json has every number exactly (one that isn't finite is a string). Its energy
 and shortfall are 0 where there is none; trial_energy, state_of_charge, charge_energy_demand and
-outlet are then null, as is charging_loop in version 1.
+outlet are then null, as is charging_loop in version 1. The card's services are a list; a demand's
+service is a name or a number, its service_class is null for combi and for a number that isn't listed.
 
   --unmet-fails  status 3 where a demand is unmet, as 'run' has it
 

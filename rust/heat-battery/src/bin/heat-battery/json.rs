@@ -2,7 +2,7 @@
 //! which only a damaged sheet has, is a string.
 
 use crate::files::Parts;
-use heat_battery::{Call, Card, ChargingLoop, Line, Totals, Unmet, Value, Verdict};
+use heat_battery::{Call, Card, ChargingLoop, Line, Service, Totals, Unmet, Value, Verdict};
 use std::fmt::Write;
 
 pub fn sheet(parts: &Parts, verdict: Verdict) -> String {
@@ -14,7 +14,7 @@ pub fn sheet(parts: &Parts, verdict: Verdict) -> String {
     );
     for (at, one) in lines.iter().enumerate() {
         text.push_str(if at == 0 { "\n" } else { ",\n" });
-        text.push_str(&line(one));
+        text.push_str(&line(card, one));
     }
     let _ = writeln!(text, "],\n\"unmet\":{},", unmet_object(&Unmet::of(lines)));
     let pump = ChargingLoop::of(*version, lines).map_or("null".into(), pump_object);
@@ -26,7 +26,7 @@ pub fn sheet(parts: &Parts, verdict: Verdict) -> String {
     text
 }
 
-fn line(line: &Line) -> String {
+fn line(card: &Card, line: &Line) -> String {
     let answer = &line.answer;
     let refusal = answer.refusal.map_or(0, |refusal| refusal.number());
     let name = answer.refusal.map_or("null".into(), |refusal| string(refusal.name()));
@@ -36,7 +36,7 @@ fn line(line: &Line) -> String {
     let members = [
         ("line", line.index.to_string()),
         ("kind", string(line.call.kind().name())),
-        ("call", call_object(&line.call)),
+        ("call", call_object(card, &line.call)),
         ("refusal", refusal.to_string()),
         ("refusal_name", name),
         ("refusal_words", words),
@@ -56,11 +56,28 @@ fn line(line: &Line) -> String {
 
 fn card_object(card: &Card) -> String {
     let fields = Card::FIELDS.iter().map(|field| field.name);
-    object(fields.zip(card.values().iter().map(value)))
+    let services: Vec<String> = card.services.iter().map(service_object).collect();
+    let services = format!("[{}]", services.join(","));
+    let values = card.values();
+    object(fields.zip(values.iter().map(value)).chain([("services", services)]))
 }
 
-fn call_object(call: &Call) -> String {
-    object(call.fields().iter().map(|(field, one)| (field.name, value(one))))
+fn service_object(service: &Service) -> String {
+    let Service { number, class } = service;
+    object([("number", number.to_string()), ("class", string(class.name()))])
+}
+
+/// The call's fields; behind a demand's service the class that it has on the card.
+fn call_object(card: &Card, call: &Call) -> String {
+    let fields = call.fields();
+    object(fields.iter().flat_map(|(field, one)| {
+        let class = match one {
+            Value::Service(service) => Some(card.class(*service)),
+            _ => None,
+        };
+        let class = class.map(|class| class.map_or("null".into(), |class| string(class.name())));
+        [(field.name, value(one))].into_iter().chain(class.map(|class| ("service_class", class)))
+    }))
 }
 
 fn totals_object(totals: &Totals) -> String {
@@ -86,7 +103,7 @@ fn value(value: &Value) -> String {
     match *value {
         Value::Byte(_) | Value::Short(_) => value.to_string(),
         Value::Flag(flag) => flag.to_string(),
-        Value::Service(service) => string(service.name()),
+        Value::Service(service) => service.name().map_or(service.to_string(), string),
         Value::Number(x) | Value::Optional(Some(x)) => number(x),
         Value::Optional(None) => "null".into(),
     }

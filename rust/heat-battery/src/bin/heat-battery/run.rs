@@ -1,13 +1,13 @@
 //! `run`: a list of calls, made and written as a sheet.
 
 use crate::arguments::Arguments;
-use crate::card::{accepted, count};
+use crate::card::{accepted, count, listed, unlisted};
 use crate::failure::Failure;
 use crate::files;
 use crate::output::{note, write};
 use crate::progress::Progress;
 use heat_battery::text::{self, ListedCall};
-use heat_battery::{shortfall, Looks, Refusal, Sheet, Unmet, Version, MOST_AUDITED};
+use heat_battery::{shortfall, Call, Card, Looks, Refusal, Sheet, Unmet, Version, MOST_AUDITED};
 use std::ffi::OsStr;
 
 pub fn run(arguments: &Arguments) -> Result<(), Failure> {
@@ -20,6 +20,7 @@ pub fn run(arguments: &Arguments) -> Result<(), Failure> {
     let card = accepted(card_path)?;
     let calls = text::calls(&files::text(calls_path, Looks::Calls)?)
         .map_err(|slips| files::trouble(calls_path, format!("no list of calls:\n{slips}")))?;
+    test_version(version, card_path, &card, calls_path, &calls)?;
     let sheet = Sheet::open_within(version, &card, most)
         .map_err(|refusal| Failure::Refused(format!("no sheet: {refusal}")))?;
     let mut list = List::new(sheet, files::name(calls_path), calls.len());
@@ -37,6 +38,34 @@ fn version(arguments: &Arguments) -> Result<Version, Failure> {
         let known = Version::known();
         Failure::Usage(format!("run: --version {value} is no known version of a sheet ({known})"))
     })
+}
+
+/// An error where the card or a call has what no sheet of the version can have.
+fn test_version(
+    version: Version,
+    card_path: &OsStr,
+    card: &Card,
+    calls_path: &OsStr,
+    calls: &[ListedCall],
+) -> Result<(), Failure> {
+    let later = format!("of version {} and later", Version::Three);
+    if !card.services.is_empty() && !version.has_services() {
+        let services = listed(&card.services);
+        let words = format!("a sheet of version {version} has none, they are {later}");
+        return Err(files::refused(card_path, format!("lists services ({services}); {words}")));
+    }
+    for ListedCall { line, call } in calls {
+        match call {
+            Call::Demand { service, .. } if !call.stands_in(version) => {
+                let words =
+                    format!("a sheet of version {version} has none above 3, they are {later}");
+                let start = format!("line {line} is for service {service}");
+                return Err(files::refused(calls_path, format!("{start}; {words}")));
+            }
+            _ => {}
+        }
+    }
+    Ok(())
 }
 
 fn test_paths(card: &OsStr, calls: &OsStr, out: &OsStr) -> Result<(), Failure> {
@@ -115,9 +144,13 @@ impl List {
         let start = format!("{} line {}, call {number} ({kind})", self.name, listed.line);
         note(&format!("{start}: refused {refusal}; {place}"));
         if refusal == Refusal::BadCall {
-            for fault in listed.call.faults(self.sheet.battery().card()) {
+            let (version, card) = (self.sheet.version(), self.sheet.battery().card());
+            for fault in listed.call.faults(version, card) {
                 note(&format!("  {fault}"));
             }
+        }
+        if let Some(words) = unlisted(self.sheet.battery().card(), &listed.call, refusal) {
+            note(&format!("  {words}"));
         }
     }
 

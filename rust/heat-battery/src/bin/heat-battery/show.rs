@@ -1,12 +1,15 @@
 //! `show`: every line of a sheet as a table, or as JSON.
 
 use crate::arguments::Arguments;
+use crate::card::unlisted;
 use crate::failure::Failure;
 use crate::files::{self, Parts};
 use crate::json;
 use crate::output::print;
 use crate::run::unmet_status;
-use heat_battery::{audit, Answer, ChargingLoop, Damage, Line, Unmet, Verdict, Version};
+use heat_battery::{
+    audit, Answer, Card, ChargingLoop, Damage, Field, Line, Unmet, Value, Verdict, Version,
+};
 use std::ffi::OsStr;
 use std::fmt::Write;
 
@@ -53,7 +56,7 @@ fn table(parts: &Parts, verdict: Verdict) -> String {
     let Parts { version, card, lines, .. } = parts;
     let mut text = format!("{card}\n{HEAD}");
     for line in lines {
-        add_line(&mut text, line);
+        add_line(&mut text, card, line);
     }
     let unmet = Unmet::of(lines);
     if !unmet.is_none() {
@@ -75,7 +78,7 @@ pub fn pump<'a>(
     ChargingLoop::of(version, lines).filter(|pump| pump.lines > 0)
 }
 
-fn add_line(text: &mut String, line: &Line) {
+fn add_line(text: &mut String, card: &Card, line: &Line) {
     let Answer { outlet, time, substeps, zones, totals, refusal, .. } = &line.answer;
     // Only a damaged sheet has an energy on a question's line.
     let is_shown = |energy: &f64| !line.call.is_question() || *energy != 0.0;
@@ -97,16 +100,32 @@ fn add_line(text: &mut String, line: &Line) {
     );
     if let Some(refusal) = refusal {
         let _ = writeln!(text, "      refused {refusal}");
+        if let Some(words) = unlisted(card, &line.call, *refusal) {
+            let _ = writeln!(text, "      {words}");
+        }
     }
     let fields = line.call.fields();
     if !fields.is_empty() {
-        let fields: Vec<String> =
-            fields.iter().map(|(field, value)| format!("{}={value}", field.name)).collect();
+        let shown = |(field, value): &(&Field, Value)| {
+            format!("{}={value}{}", field.name, class_words(card, value))
+        };
+        let fields: Vec<String> = fields.iter().map(shown).collect();
         let _ = writeln!(text, "      call   {}", fields.join(" "));
     }
     for (row, zones) in zones.chunks(ZONES_A_ROW).enumerate() {
         let zones: String = zones.iter().map(|zone| format!("{:>10}", rounded(*zone, 4))).collect();
         let _ = writeln!(text, "      {:<8} {zones}", zone_names(row));
+    }
+}
+
+/// What stands behind a service above 3: its class on the card.
+fn class_words(card: &Card, value: &Value) -> String {
+    match value {
+        Value::Service(service) if service.is_numbered() => match card.class(*service) {
+            Some(class) => format!(" ({class})"),
+            None => " (not listed)".into(),
+        },
+        _ => String::new(),
     }
 }
 
