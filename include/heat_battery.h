@@ -40,8 +40,9 @@ extern "C" {
      demand has two bytes
 
    Versions 1 and 2 share all lengths and records, so no entry can tell a call
-   that is given the wrong one of the two. No card or record of theirs has a
-   length that version 3 takes, and the other way round. */
+   that is given the wrong one of the two. Their cards and records never have
+   the length that version 3 asks of them, nor the other way round: opening
+   refuses such a card with 1, and a call such a record with 10. */
 #define HEAT_BATTERY_OLDEST_VERSION 1
 #define HEAT_BATTERY_NEWEST_VERSION 3
 
@@ -53,8 +54,8 @@ extern "C" {
 
 /* In version 3 the card's services follow: a count (u8), then for each a number
    (u16) and its class (u8: 1 regular, 2 space, 3 direct). At most 32 are
-   accepted, with numbers from 4 up, each above the last. The length is that of
-   the count, whatever it is. By this much a card, a record and an opening of
+   accepted, with numbers from 4 up, each above the last. The length is by the
+   count, whatever that is. By this much a card, a record and an opening of
    version 3 are longer than HEAT_BATTERY_CARD_LENGTH, RECORD_LENGTH and
    OPENING_LENGTH, which are those of versions 1 and 2. */
 #define HEAT_BATTERY_SERVICES_LENGTH(count) (1 + 3 * (size_t)(count))

@@ -88,7 +88,7 @@ static size_t card_length(uint8_t version, const uint8_t *record, size_t length)
 /* The list of a card of version 3, as far as there are places for it; what isn't read holds anything. */
 static void services_from(struct heat_battery *b, uint8_t version, const uint8_t *record) {
     const uint8_t *entry = record + HEAT_BATTERY_CARD_LENGTH + 1;
-    memset(&b->services, 0xe7, 1);
+    b->services = 0xe7;
     memset(b->numbers, 0xe7, sizeof b->numbers);
     memset(b->classes, 0xe7, sizeof b->classes);
     if (version < 3)

@@ -165,6 +165,10 @@ fn record(random: &mut Random, version: u8, record: &mut Vec<u8>, battery: &Batt
         0 => record.clear(),
         1 => *record = crate::mutated(record, record.len() + 2),
         2 => in_place(record),
+        3 if lists_services(version) && random.one_in(2) => {
+            let listing = Card { services: generate::refused_services(random), ..*card };
+            *record = sheet::battery_bytes(version, &Battery::fresh(&listing));
+        }
         _ if record.len() >= front + 8 => {
             let at = random.below((record.len() - front) as u64 / 8) as usize;
             let number = generate::any_zone(random, card);
