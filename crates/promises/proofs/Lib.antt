@@ -1,5 +1,6 @@
 pub mod Spared
 pub mod Widened
+pub mod TwoAndThree
 pub mod Lined
 pub mod AList
 pub mod Numbers
