@@ -1,6 +1,7 @@
 pub mod Spared
 pub mod Widened
 pub mod TwoAndThree
+pub mod ServiceClasses
 pub mod Lined
 pub mod AList
 pub mod Numbers

@@ -20,9 +20,11 @@ use Rattle.auditor.proofs.Words.{verdict-given, plain-given, same-verdict, word
 use Rattle.auditor.proofs.Fields.{fields-accept, fields-refuse, fields-word}
 use Rattle.promises.proofs.Directions.{directions}
 use Rattle.promises.proofs.Charged.{charged-total}
-use Rattle.promises.specs.Promises.{OpeningNumbers, CallNumbers, OwnRecordNumbers, AuditVerdicts, AuditorVerdicts, RefusedOpeningChangesNothing, CallWithoutLineChangesNothing, RefusalLineLeavesTheRecord, RefusedOwnRecordStays, PlacesAboveTheCountStay, ServicesStay, EqualToTheSteps, Opening, AcceptsAList, AcceptsAListByRules, ExactlyWhen, ExactlyWhenInC, WordTellsTheVerdict, ExactlyWhenOfAnyLength, FieldsTellTheVerdict, BothAuditsAgree, ZonesMoveTheRightWay, ChargedTotalAddsUp, OpeningRefusals, CallRefusals, OwnRecordRefusals, AuditRefusals, FortyExactlyWhenUnknown, LogarithmsCounted, HydronicTime, RunningTotalsStay, OnlyTheTimeDiffers}
+use Rattle.promises.specs.Promises.{OpeningNumbers, CallNumbers, OwnRecordNumbers, AuditVerdicts, AuditorVerdicts, RefusedOpeningChangesNothing, CallWithoutLineChangesNothing, RefusalLineLeavesTheRecord, RefusedOwnRecordStays, PlacesAboveTheCountStay, ServicesStay, EqualToTheSteps, Opening, AcceptsAList, AcceptsAListByRules, ExactlyWhen, ExactlyWhenInC, WordTellsTheVerdict, ExactlyWhenOfAnyLength, FieldsTellTheVerdict, BothAuditsAgree, ZonesMoveTheRightWay, ChargedTotalAddsUp, OpeningRefusals, CallRefusals, OwnRecordRefusals, AuditRefusals, FortyExactlyWhenUnknown, LogarithmsCounted, HydronicTime, RunningTotalsStay, OnlyTheTimeDiffers, ServiceClasses, DemandsAreClassed, EqualAnswers}
 use Rattle.promises.proofs.Numbers.{among-call, among-own}
 use Rattle.promises.proofs.AList.{a-list}
+use Rattle.promises.proofs.ServiceClasses.{service-classes, demands-are-classed}
+use Rattle.promises.proofs.TwoAndThree.{equal-answers}
 
 pub opening-numbers : OpeningNumbers
 opening-numbers = any.open-numbers
@@ -137,3 +139,12 @@ running-totals-stay = running-stays
 
 pub only-the-time-differs : OnlyTheTimeDiffers
 only-the-time-differs version other battery = (hydronic-alike version other battery, others-equal version other battery)
+
+pub service-classes-are : ServiceClasses
+service-classes-are = service-classes
+
+pub demands-are-of-their-class : DemandsAreClassed
+demands-are-of-their-class = demands-are-classed
+
+pub equal-answers-given : EqualAnswers
+equal-answers-given = equal-answers

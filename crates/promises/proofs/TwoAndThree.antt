@@ -24,13 +24,17 @@ use Rattle.sheet_calls.specs.Calls.{callOf}
 use Rattle.sheet_calls.specs.declared.ReadCall.the-variants.{Good}
 use Rattle.sheet_calls.proofs.CallLaws.{same-call}
 use Rattle.sheet_lines.specs.Answers.{answerBytes}
+use Rattle.sheet_lines.proofs.CardFront.{card-at-front}
 use Rattle.sheet_lines.specs.Lines.{lineLength, lineBytes}
-use Rattle.entries.specs.Entry.{After, unchanged}
+use Rattle.entries.specs.Entry.{After, unchanged, openedWith, openOf}
+use Rattle.entries.proofs.Opening.{open-known, opened}
+use Rattle.heat_battery.proofs.AnyVersion.{opens-exactly}
 use Rattle.heat_battery.specs.Entries.{entryOf}
 use Rattle.heat_battery.specs.Lists.{ListedCall, AllGiven, entryTo, noLine, lineTaken, freeRest, Encoded}
 use Rattle.heat_battery.proofs.Encodings.{lined, Entered, kept-10, kept-11, stepped, entry-on-encoding, read-not-ten, step-encoded, gets-line, line-taken, free-rest}
-use Rattle.heat_battery.proofs.EqualSteps.{given-is, nothing-used}
-use Rattle.promises.specs.TwoAndThree.{widened, inThree, FirstTypes, NoEleven, Answered, answeredBy, answersOf}
+use Rattle.heat_battery.proofs.EqualSteps.{given-is, nothing-used, fresh-encoded}
+use Rattle.promises.specs.TwoAndThree.{widened, inThree, FirstTypes, NoEleven, Answered, answeredBy, answersOf, openedRecord, openedRest}
+use Rattle.promises.specs.Promises.{EqualAnswers}
 use Rattle.promises.proofs.Widened.{widened-read}
 
 -- ---- the steps, the ranges and the answers' bytes are the same
@@ -186,3 +190,28 @@ module _ (fields card : List ℕ) where
   same-answers (call ∷ calls) given first b rec₂ free₂ rec₃ free₃ e₂ e₃ n₂ n₃ =
       one-more call (given .0) (first .0) calls b rec₂ free₂ rec₃ free₃ e₂ e₃ n₂ (λ b′. same-answers calls (given .1) (first .1) b′) n₃
       (entry-on-encoding 2 fields b rec₂ e₂ known₂ (call .bytes) free₂) (entry-on-encoding 3 card b rec₃ e₃ known₃ (widened (call .bytes)) free₃)
+
+-- ---- from opening on
+
+opened-is : (version : ℕ) (card rec free : List ℕ) → openOf version card rec free .code ≡ 0 → openOf version card rec free ≡ openedWith version card free
+opened-is version card rec free o =
+    let h = opens-exactly version card rec free .0 o in
+    open-known version card rec free (h .0) ∙ opened version card rec free (h .1 .card-good .long) (h .1 .card-good .accepted) (h .1 .long) (h .1 .room)
+
+opened-encoded : (version : ℕ) (card rec free : List ℕ) → openOf version card rec free .code ≡ 0 → Encoded version card (fresh (cardAt version card)) (openedRecord version card rec free)
+opened-encoded version card rec free o =
+    subst (Encoded version card (fresh (cardAt version card))) (sym (ap (λ (x : After). x .record') (opened-is version card rec free o)))
+    (fresh-encoded version card (opens-exactly version card rec free .0 o .1 .card-good))
+
+-- the card's fields are read alike, whatever stands behind them
+card-same : (bs : List ℕ) → cardAt 3 bs ≡ cardAt 2 bs
+unfolding cardAt
+card-same bs = refl
+
+pub equal-answers : EqualAnswers
+equal-answers fields list rec₂ free₂ rec₃ free₃ calls o₂ o₃ given first n₂ n₃ =
+    let l = opens-exactly 2 fields rec₂ free₂ .0 o₂ .1 .card-good .long in
+    let c : cardAt 3 (fields ++ list) ≡ cardAt 2 fields = card-same (fields ++ list) ∙ card-at-front 2 fields list (omega arith) in
+    same-answers fields (fields ++ list) calls given first (fresh (cardAt 2 fields)) (openedRecord 2 fields rec₂ free₂) (openedRest 2 fields rec₂ free₂)
+    (openedRecord 3 (fields ++ list) rec₃ free₃) (openedRest 3 (fields ++ list) rec₃ free₃) (opened-encoded 2 fields rec₂ free₂ o₂)
+    (subst (λ (x : Card). Encoded 3 (fields ++ list) (fresh x) (openedRecord 3 (fields ++ list) rec₃ free₃)) c (opened-encoded 3 (fields ++ list) rec₃ free₃ o₃)) n₂ n₃

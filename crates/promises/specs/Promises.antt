@@ -6,13 +6,14 @@ use mathlib.Core.Path.{_≡_}
 use mathlib.Core.Bool.{true, false, cond}
 use mathlib.Core.Logic.{_↔_}
 use mathlib.Core.List.{List, [], _∷_, _++_}
-use lib.ListN.{length, drop}
+use lib.ListN.{length, drop, getD}
 use lib.Ieee.{Float}
 use Rattle.floats.specs.Constants.{zero}
-use Rattle.codec.specs.Bytes.{over}
+use Rattle.codec.specs.Bytes.{beAt, over}
 use Rattle.zone.specs.declared.Salt.{Salt}
 use Rattle.zone.specs.Layer.{saltAt}
-use Rattle.card.specs.Version.{knownVersion, showsHydronicTime}
+use Rattle.card.specs.Version.{knownVersion, showsHydronicTime, listsServices}
+use Rattle.card.specs.Services.{Service, listed, BadServices, classOf}
 use Rattle.card.specs.Derived.{saltsOf}
 use Rattle.card.specs.Card.{cardRefusal, OneOf, cardRefusals}
 use Rattle.card.specs.declared.Card.{Card}
@@ -23,7 +24,8 @@ use Rattle.battery.specs.Places.{SameAbove}
 use Rattle.battery.specs.declared.Battery.{Battery}
 use Rattle.battery.specs.declared.Hydronic.{Hydronic}
 use Rattle.battery.specs.declared.Call.{Call}
-use Rattle.battery.specs.declared.Call.the-variants.{ChargeHydronic}
+use Rattle.battery.specs.declared.Demand.{Demand}
+use Rattle.battery.specs.declared.Call.the-variants.{DemandEnergy, ChargeHydronic}
 use Rattle.substep.specs.Substep.{logarithmsOf, processHeatBatteryZones}
 use Rattle.substep.specs.declared.SubstepInput.{SubstepInput}
 use Rattle.substep.specs.declared.Fault.the-variants.{Logarithm}
@@ -35,6 +37,8 @@ use Rattle.engine.specs.Times.{TimeRun, withTime}
 use Rattle.engine.specs.Cases.{Case20, Case21, Case22, Case23, Case24, Case25}
 use Rattle.sheet_records.specs.Cards.{cardAt, servicesAt}
 use Rattle.sheet_records.specs.Records.{recordOf}
+use Rattle.sheet_calls.specs.Calls.{callOf}
+use Rattle.sheet_calls.specs.declared.ReadCall.the-variants.{Good}
 use Rattle.sheet_lines.specs.Answers.{AcceptsItself}
 use Rattle.sheet_lines.specs.Lines.{lineBytes, openingBytes}
 use Rattle.entries.specs.Entry.{unchanged, openOf}
@@ -49,6 +53,7 @@ use Rattle.auditor.specs.Audit.{limit, auditOf, limitedAuditOf, verdictWord, ve
 use Rattle.auditor.specs.Sheet.{Sheet}
 use Rattle.auditor.specs.Cases.{NoVersion, NoCard, CardNotTaken, BadLine, Disagrees, Known, Given}
 use Rattle.promises.specs.Claims.{AllDirected, AllSummed}
+use Rattle.promises.specs.TwoAndThree.{inThree, FirstTypes, NoEleven, answersOf, openedRecord, openedRest}
 
 -- ---- 1: 'A caller of any entry, with any numbers and any bytes, gets an answer or a refusal of document 01': the contracts of the five C entries
 -- (crates/heat_battery/src/lib.rt) equate what each returns and leaves with openOf, entryOf and ownAdvanced of the version that it is given, and with limitedAuditOf and auditOf of `plain`; these are their numbers, 0 for an answer
@@ -263,3 +268,30 @@ OnlyTheTimeDiffers =
     → (cardRefusal version (battery .card) ≡ 0 → (hydronic : Hydronic)
     → stepOf version battery (ChargeHydronic hydronic) ≡ withTime (stepOf version battery (ChargeHydronic hydronic) .time) (stepOf other battery (ChargeHydronic hydronic)))
     × ((call : Call) → ((hydronic : Hydronic) → call ≡ ChargeHydronic hydronic → ⊥) → stepOf version battery call ≡ stepOf other battery call)
+
+-- Four: '0 to 3 keep their meaning, and each number above 3 has a class in a list'; 'a demand for an unlisted number is 21, under 21's conditions', as one of type 0 is,
+-- and a trial of it runs; every number is in range
+abbrev pub ServiceClasses : Type 0
+ServiceClasses =
+    (service : ℕ → Service) (count : ℕ) → (BadServices service count → ⊥)
+    → ((number : ℕ) → number ≤ 3 → classOf (listed service 0 count) number ≡ number)
+    × ((i : ℕ) → i < count → classOf (listed service 0 count) (service i .number) ≡ service i .class)
+    × ((number : ℕ) → 3 < number → ((i : ℕ) → i < count → service i .number ≡ number → ⊥) → classOf (listed service 0 count) number ≡ 0)
+    × ((number : ℕ) → classOf (listed service 0 count) number ≤ 3)
+
+-- from version 3 on that is the class that a demand has, of a number of two bytes after its kind; before, it is the byte there
+abbrev pub DemandsAreClassed : Type 0
+DemandsAreClassed =
+    (version : ℕ) (services : List Service) (call : List ℕ) (demand : Demand) → callOf version services call ≡ Good (DemandEnergy demand)
+    → demand .service ≡ cond (listsServices version) (classOf services (beAt call 1 2)) (getD call 1 0)
+
+-- 'A run that uses only types 0 to 3, with 11 nowhere, gives equal answers in versions 2 and 3': any card that opens a sheet of version 2, with any bytes behind it that
+-- open one of version 3, and any calls whatsoever of version 2, given in both layouts
+abbrev pub EqualAnswers : Type 0
+EqualAnswers =
+    (fields list rec₂ free₂ rec₃ free₃ : List ℕ) (calls : List ListedCall) → openOf 2 fields rec₂ free₂ .code ≡ 0 → openOf 3 (fields ++ list) rec₃ free₃ .code ≡ 0
+    → AllGiven 2 calls → FirstTypes calls
+    → NoEleven (openedRecord 2 fields rec₂ free₂) (openedRest 2 fields rec₂ free₂) calls
+    → NoEleven (openedRecord 3 (fields ++ list) rec₃ free₃) (openedRest 3 (fields ++ list) rec₃ free₃) (inThree calls)
+    → answersOf (openedRecord 2 fields rec₂ free₂) (openedRest 2 fields rec₂ free₂) calls
+    ≡ answersOf (openedRecord 3 (fields ++ list) rec₃ free₃) (openedRest 3 (fields ++ list) rec₃ free₃) (inThree calls)
