@@ -6,7 +6,7 @@ use mathlib.Core.List.{List}
 use native.Mathlib.Omega.{arith}
 use lib.Ieee.{Float}
 use Rattle.logic.proofs.Branch.{by-test}
-use Rattle.logic.proofs.Tests.{and-true}
+use Rattle.logic.proofs.Tests.{and-true, no-both}
 use Rattle.card.specs.Version.{knownVersion}
 use Rattle.card.specs.Services.{Service, servicesOk}
 use Rattle.card.proofs.Accepted.{accepted-layers}
@@ -51,14 +51,15 @@ read-leaves-above version b Bad = same-above (b .card .layers) (b .zones)
 read-leaves-above version b (Good call) = advance-keeps-above version b call
 
 -- nor is one whose services are
-pub not-accepted-listed : (version : ℕ) (services : List Service) (b : Battery) (call : List ℕ) → (servicesOk services && batteryAccepted version b) ≡ false
+pub not-accepted-listed : (version : ℕ) (services : List Service) (b : Battery) (call : List ℕ) → (batteryAccepted version b && servicesOk services) ≡ false
     → advanceListed version services b call ≡ refusedWith 10 b
 unfolding advanceListed
-not-accepted-listed version services b call = on (servicesOk services)
+not-accepted-listed version services b call = on (servicesOk services) (batteryAccepted version b) refl
   where
-    on : (ok : Bool) → (ok && batteryAccepted version b) ≡ false → cond ok (advanceRead version b (callOf version services call)) (refusedWith 10 b) ≡ refusedWith 10 b
-    on true h = not-accepted-read version b (callOf version services call) h
-    on false h = refl
+    on : (ok accepted : Bool) → batteryAccepted version b ≡ accepted → (accepted && ok) ≡ false → cond ok (advanceRead version b (callOf version services call)) (refusedWith 10 b) ≡ refusedWith 10 b
+    on true true e h = no-both h
+    on true false e h = not-accepted-read version b (callOf version services call) e
+    on false accepted e h = refl
 
 -- accepted ones leave it to the call
 pub accepted-listed : (version : ℕ) (services : List Service) (b : Battery) (call : List ℕ) → servicesOk services ≡ true

@@ -185,8 +185,8 @@ fn advance_read(
     ensures { λ r. ⌜ settled ledger (now (zones .entry)) r (now (zones .exit)) ≡ advanceListed version (ownServices version count (now (numbers .entry)) (now (classes .entry))) (whole ledger (now (zones .entry))) (now (call .entry)) ⌝ }
 {
     if logic::both(
-        own_ok(version, count, numbers, classes),
         battery::is_accepted(version, ledger, zones),
+        own_ok(version, count, numbers, classes),
     ) {
         let kind = sheet_calls::kind_of(version, call);
         let class = own_demand_class(version, count, numbers, classes, kind, call);

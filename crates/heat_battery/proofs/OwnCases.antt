@@ -36,6 +36,10 @@ use Rattle.entries.proofs.OwnRecordLaws.{own-known}
 use Rattle.heat_battery.specs.Cases.{GoodCall, GoodOwn, OwnCase10, bad-own, bad-own-call, OwnCase}
 use Rattle.heat_battery.proofs.CallCases.{not-ten}
 
+and-false : (a : Bool) → (a && false) ≡ false
+and-false true = refl
+and-false false = refl
+
 -- ---- a record that 10 lets through
 
 module _ (version : ℕ) (services : List Service) (b : Battery) where
@@ -86,7 +90,7 @@ module _ (version : ℕ) (known : knownVersion version ≡ true) (services : Lis
   unlisted-number : servicesOk services ≡ false → n ≡ 10
   unfolding advancedOf advancedBy shownOf
   unlisted-number bad =
-      ap (λ (a : Answer). a .refusal) (own-known version services b call known ∙ not-accepted-listed version services b call (rw bad)) ∙ refused-number 10 b
+      ap (λ (a : Answer). a .refusal) (own-known version services b call known ∙ not-accepted-listed version services b call (rw bad (and-false (batteryAccepted version b)))) ∙ refused-number 10 b
 
   number : servicesOk services ≡ true → (c : Call) → callOf version services call ≡ Good c → n ≡ advanceOf version b c .refusal
   unfolding advanceRead
