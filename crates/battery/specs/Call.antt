@@ -26,7 +26,8 @@ unfoldable pub isGivenTemperature : Given → Bool
 isGivenTemperature Absent = true
 isGivenTemperature (Value t) = isTemperature t
 
--- '1 demand: type (u8: 0 combi, 1 regular, 2 space, 3 direct), commit, control on, required -1e6..1e6 kWh, start 0..timestep h, return mark and temperature'
+-- '1 demand: type (u8: 0 combi, 1 regular, 2 space, 3 direct), commit, control on, required -1e6..1e6 kWh, start 0..timestep h, return mark and temperature'.
+-- Document 02, Four: from version 3 on the reader gives the class of any number, which is in range
 unfoldable pub demandInRange : Card → Demand → Bool
 demandInRange card demand =
     leb (demand .service) 3 && (within (neg million) million (demand .required) && (within zero (card .timestep) (demand .start) && isGivenTemperature (demand .feed)))

@@ -30,7 +30,7 @@ pub enum Given {
 }
 
 pub struct Demand {
-    // 0 combi, 1 regular, 2 space, 3 direct
+    // the class of its type: 0 combi, 1 regular, 2 space, 3 direct; a number that isn't listed has 0 (sheet_calls::demand_class)
     pub service: u8,
     // the Rust's update_heat_source_state; a trial where it is false
     pub commit: bool,

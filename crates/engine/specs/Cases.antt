@@ -18,7 +18,8 @@ pub record NoReturn (demand : Demand) : Type 0 where
   pub above : lt tolerance (demand .required) ≡ true
   pub absent : demand .feed ≡ Absent
 
--- '21 committed, required above 1e-10, service type 0'; '20 before 21'
+-- '21 committed, required above 1e-10, service type 0'; '20 before 21'. Document 02, Four: 'a demand for an unlisted number is 21, under 21's conditions': the reader
+-- gives it type 0
 pub record NoService (demand : Demand) : Type 0 where
   pub above : lt tolerance (demand .required) ≡ true
   pub temperature : Float

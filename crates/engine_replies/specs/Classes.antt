@@ -8,7 +8,7 @@ use Rattle.card.specs.declared.Card.{Card}
 use Rattle.engine_replies.specs.declared.totals.ServiceClass.{ServiceClass}
 use Rattle.engine_replies.specs.declared.totals.ServiceClass.the-variants.{Combi, Regular, Space, Direct}
 
--- 'type (u8: 0 combi, 1 regular, 2 space, 3 direct)'
+-- 'type (u8: 0 combi, 1 regular, 2 space, 3 direct)'; of a listed number the reader gives the class
 unfoldable pub serviceClass : Card → ℕ → ServiceClass
 serviceClass card service = cond (eqb service 1) Regular (cond (eqb service 2) Space (cond (eqb service 3) Direct Combi))
 
