@@ -6,7 +6,7 @@
 #include "pages.h"
 #include <string.h>
 
-enum { OPEN = 1, CALL = 2, AUDIT = 3, WHOLE = 4, GUARD = 64, ROOM = 20 * PAGE };
+enum { OPEN = 1, CALL = 2, AUDIT = 3, WHOLE = 4, GUARD = 64, ROOM = 40 * PAGE };
 
 struct slice {
     uint8_t *bytes; /* a page that can't be read on one side, guards on the other */
