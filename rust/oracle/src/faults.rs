@@ -80,8 +80,8 @@ pub enum Fault {
     ReadsBefore,
 }
 
-/// Faults of the entries by their names for a variable or an option.
-pub const IN_ENTRIES: [(&str, Fault); 19] = [
+/// Faults of the entries alone, by their names for a variable or an option.
+pub const IN_ENTRIES: [(&str, Fault); 9] = [
     ("room", Fault::Room),
     ("room-first", Fault::RoomFirst),
     ("line-before-room", Fault::LineBeforeRoom),
@@ -90,21 +90,11 @@ pub const IN_ENTRIES: [(&str, Fault); 19] = [
     ("refused-record", Fault::RefusedRecord),
     ("behind-line", Fault::BehindLine),
     ("version-late", Fault::VersionLate),
-    ("time-always", Fault::TimeAlways),
-    ("time-product", Fault::TimeProduct),
     ("services-early", Fault::ServicesEarly),
-    ("services-33", Fault::Services33),
-    ("equal-numbers", Fault::EqualNumbers),
-    ("number-under-4", Fault::NumberUnder4),
-    ("any-class", Fault::AnyClass),
-    ("services-length", Fault::ServicesLength),
-    ("type-exchanged", Fault::TypeExchanged),
-    ("unlisted-served", Fault::UnlistedServed),
-    ("unlisted-trial", Fault::UnlistedTrial),
 ];
 
-/// Faults of the audit.
-pub const IN_AUDIT: [(&str, Fault); 17] = [
+/// Faults of the audit alone.
+pub const IN_AUDIT: [(&str, Fault); 7] = [
     ("passes-all", Fault::PassesAll),
     ("passes-none", Fault::PassesNone),
     ("index", Fault::Index),
@@ -112,6 +102,10 @@ pub const IN_AUDIT: [(&str, Fault); 17] = [
     ("order", Fault::Order),
     ("no-limit", Fault::NoLimit),
     ("whole-limited", Fault::WholeLimited),
+];
+
+/// Faults of what the entries and the audit share: steps, layout and card.
+pub const IN_BOTH: [(&str, Fault); 10] = [
     ("time-always", Fault::TimeAlways),
     ("time-product", Fault::TimeProduct),
     ("services-33", Fault::Services33),
@@ -199,7 +193,7 @@ fn unlisted_trial(version: u8, battery: &Battery, call: &Call) -> (Answer, Batte
 impl Faulty {
     /// The fault of that name; none for another name.
     pub fn named(name: &str) -> Self {
-        let all = IN_ENTRIES.iter().chain(&IN_AUDIT).chain(&IN_OWN).chain(&ENDING);
+        let all = IN_ENTRIES.iter().chain(&IN_AUDIT).chain(&IN_BOTH).chain(&IN_OWN).chain(&ENDING);
         let found = all.into_iter().find(|(known, _)| *known == name);
         Faulty { fault: found.map_or(Fault::None, |(_, fault)| *fault) }
     }

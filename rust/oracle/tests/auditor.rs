@@ -4,7 +4,7 @@ use oracle::auditor::{audit, audit_limited, Verdict};
 use oracle::compare;
 use oracle::damage::{self, Known, Sheet};
 use oracle::entries;
-use oracle::faults::{Faulty, IN_AUDIT};
+use oracle::faults::{Faulty, IN_AUDIT, IN_BOTH};
 use oracle::fields;
 use oracle::generate::{self, points_card};
 use oracle::model::{is_known, Card, VERSIONS};
@@ -230,7 +230,7 @@ fn plain_and_judge_give_the_same_verdicts() {
 
 #[test]
 fn a_comparison_finds_every_fault() {
-    for (name, fault) in IN_AUDIT {
+    for (name, fault) in IN_AUDIT.into_iter().chain(IN_BOTH) {
         let report = compare::audit(&Faulty { fault }, plain::step, 8_000, 5);
         assert!(report.disagreements > 0, "{name}");
         assert_eq!(report.surprises, 0, "{name}");

@@ -2,7 +2,7 @@
 
 use oracle::compare;
 use oracle::entries;
-use oracle::faults::{Faulty, IN_ENTRIES};
+use oracle::faults::{Faulty, IN_BOTH, IN_ENTRIES};
 use oracle::fields::put_number;
 use oracle::generate::points_card;
 use oracle::model::{lists_services, Battery, Call, Card, Demand, VERSIONS};
@@ -296,7 +296,7 @@ fn plain_and_judge_give_the_same_bytes() {
 
 #[test]
 fn a_comparison_finds_every_fault() {
-    for (name, fault) in IN_ENTRIES {
+    for (name, fault) in IN_ENTRIES.into_iter().chain(IN_BOTH) {
         let report = compare::entries(&Faulty { fault }, plain::step, 10_000, 7);
         assert!(report.disagreements > 0, "{name}");
         assert_eq!(report.surprises, 0, "{name}");
