@@ -11,14 +11,14 @@ ghost use Rattle.auditor.specs.Bound.{IndexAtMost};
 use card::Card;
 
 // The lines that agree, or the refusal and the line's index.
-#[derive(Drop)]
+#[derive(Clone, Copy)]
 pub enum Verdict {
     Accepted(usize),
     Refused(u8, usize),
 }
 
 // Line 0: its accepted card, and where the lines after it begin.
-#[derive(Drop)]
+#[derive(Clone, Copy)]
 enum CardLine {
     Fit(Card, usize),
     Unfit,
@@ -26,7 +26,7 @@ enum CardLine {
 
 // A verdict in numbers, for C.
 #[repr(C)]
-#[derive(Drop)]
+#[derive(Clone, Copy)]
 pub struct AuditVerdict {
     // 0 for none
     pub refusal: u8,

@@ -11,7 +11,7 @@ ghost use Rattle.battery.specs.Ledger.{whole, totals_finite, ledger_of};
 use card::Card;
 
 #[repr(C)]
-#[derive(Drop)]
+#[derive(Clone, Copy)]
 pub struct Battery {
     pub card: Card,
     // °C, the first `count` of 64 places; no step uses or changes what lies above it
@@ -27,13 +27,13 @@ pub struct Battery {
 }
 
 // A mark and a value.
-#[derive(Drop)]
+#[derive(Clone, Copy)]
 pub enum Given {
     Absent,
     Value(f64),
 }
 
-#[derive(Drop)]
+#[derive(Clone, Copy)]
 pub struct Demand {
     // the class of its type: 0 combi, 1 regular, 2 space, 3 direct; a number that isn't listed has 0 (sheet_calls::demand_class)
     pub service: u8,
@@ -48,7 +48,7 @@ pub struct Demand {
     pub feed: Given,
 }
 
-#[derive(Drop)]
+#[derive(Clone, Copy)]
 pub struct Hydronic {
     pub inlet: f64,
     pub hours: f64,
@@ -64,7 +64,7 @@ pub struct Hydronic {
 }
 
 // Document 01's kinds 1 to 7.
-#[derive(Drop)]
+#[derive(Clone, Copy)]
 pub enum Call {
     DemandEnergy(Demand),
     // power, target
@@ -77,7 +77,7 @@ pub enum Call {
     ChargeEnergyDemand(Given, f64),
 }
 
-#[derive(Drop)]
+#[derive(Clone, Copy)]
 pub struct Answer {
     // 0 for none
     pub refusal: u8,
@@ -94,7 +94,7 @@ pub struct Answer {
 }
 
 // A battery's five totals, as in Battery.
-#[derive(Drop)]
+#[derive(Clone, Copy)]
 pub struct Totals {
     pub total: f64,
     pub pump: f64,
@@ -104,7 +104,7 @@ pub struct Totals {
 }
 
 // All of a battery but its zones, which stay where they lie.
-#[derive(Drop)]
+#[derive(Clone, Copy)]
 pub struct Ledger {
     pub card: Card,
     pub count: u8,
@@ -112,7 +112,7 @@ pub struct Ledger {
 }
 
 // All of an answer but the zones, the card and the count.
-#[derive(Drop)]
+#[derive(Clone, Copy)]
 pub struct Reply {
     pub refusal: u8,
     pub energy: f64,

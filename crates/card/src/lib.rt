@@ -11,7 +11,7 @@ ghost use Rattle.std.specs.Prelude.{◌≡◌, eqb};
 ghost use Rattle.card.specs.Card.{counts_in_range, times_in_range, temperatures_in_range, capacities_in_range, exchanger_in_range, powers_in_range, card_in_range, card_refusal};
 
 #[repr(C)]
-#[derive(Drop)]
+#[derive(Clone, Copy)]
 pub struct Card {
     pub layers: u8,
     pub units: u16,
@@ -50,7 +50,7 @@ pub struct Card {
 }
 
 // Refusals 1 to 4.
-#[derive(Drop)]
+#[derive(Clone, Copy)]
 pub enum CardVerdict {
     Accepted,
     OutOfRange,
@@ -60,7 +60,7 @@ pub enum CardVerdict {
 }
 
 // What HeatBatteryPcm::new derives from a card, besides its salt and the stored maximum.
-#[derive(Drop)]
+#[derive(Clone, Copy)]
 pub struct HeatBatteryPcm {
     // temperature difference of the rated losses
     pub rated: f64,

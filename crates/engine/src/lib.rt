@@ -8,7 +8,7 @@ use battery::{Demand, Given};
 use runs::Source;
 
 // What a call asks: its kind, the charges by their source.
-#[derive(Drop)]
+#[derive(Clone, Copy)]
 pub enum Operation {
     DemandEnergy(Demand),
     // source, target

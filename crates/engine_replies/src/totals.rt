@@ -8,7 +8,7 @@ use card::Card;
 use runs::Stopped;
 
 // The class of a service type.
-#[derive(Drop)]
+#[derive(Clone, Copy)]
 pub enum ServiceClass {
     Combi,
     Regular,

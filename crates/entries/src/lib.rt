@@ -14,7 +14,7 @@ use battery::{Answer, Battery, Totals};
 use card::Card;
 
 // What the card of a record is: bad ones are refused with 10.
-#[derive(Drop)]
+#[derive(Clone, Copy)]
 pub enum RecordCard {
     Good(Card),
     Bad,

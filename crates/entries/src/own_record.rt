@@ -12,7 +12,7 @@ use sheet_calls::ReadCall;
 
 // The caller's own record: a battery, and the services that its card lists, which are read from version 3 on and never written.
 #[repr(C)]
-#[derive(Drop)]
+#[derive(Clone, Copy)]
 pub struct OwnRecord {
     pub battery: Battery,
     // how many there are
@@ -23,7 +23,7 @@ pub struct OwnRecord {
 
 // What a call answers, without the battery.
 #[repr(C)]
-#[derive(Drop)]
+#[derive(Clone, Copy)]
 pub struct Shown {
     // 0 for none
     pub refusal: u8,
@@ -38,7 +38,7 @@ pub struct Shown {
 }
 
 // What a call leaves of a battery besides its zones, and what it shows.
-#[derive(Drop)]
+#[derive(Clone, Copy)]
 pub struct Renewed {
     pub totals: Totals,
     pub shown: Shown,

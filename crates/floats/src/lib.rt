@@ -98,7 +98,7 @@ pub fn square(p: f64) -> f64
 }
 
 // A compensated sum: the plain sum and what its roundings lost.
-#[derive(Drop)]
+#[derive(Clone, Copy)]
 pub struct Sum2 {
     pub s: f64,
     pub c: f64,
@@ -128,7 +128,7 @@ pub fn sum_with_accumulator(xs: [f64; 64], n: usize) -> f64
 }
 
 // What `ln` answers: refused where its argument is not positive, normal and finite.
-#[derive(Drop)]
+#[derive(Clone, Copy)]
 pub enum Log {
     Value(f64),
     Refused,

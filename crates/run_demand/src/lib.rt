@@ -14,7 +14,7 @@ use zone::KilowattHours;
 use zone_water::Mode;
 
 // What a demand asks: fixed over its substeps.
-#[derive(Drop)]
+#[derive(Clone, Copy)]
 pub struct DemandTask {
     pub card: Card,
     pub pcm: HeatBatteryPcm,
@@ -29,7 +29,7 @@ pub struct DemandTask {
 }
 
 // What a demand's substeps change.
-#[derive(Drop)]
+#[derive(Clone, Copy)]
 pub struct DemandState {
     // seconds of the next substep
     pub step: f64,
@@ -40,13 +40,13 @@ pub struct DemandState {
     pub reynold: f64,
 }
 
-#[derive(Drop)]
+#[derive(Clone, Copy)]
 pub struct DemandTurn {
     pub state: DemandState,
     pub next: Next,
 }
 
-#[derive(Drop)]
+#[derive(Clone, Copy)]
 pub struct DemandEnd {
     pub state: DemandState,
     pub end: End,

@@ -8,7 +8,7 @@ use card::{Card, HeatBatteryPcm};
 use zone::{Kilojoules, KilowattHours};
 
 // How a run of substeps ends. The last three are refusals 22, 24 and 23.
-#[derive(Drop)]
+#[derive(Clone, Copy)]
 pub enum End {
     Done,
     // demand: negative delivery, demand met, no positive step
@@ -25,14 +25,14 @@ pub enum End {
 }
 
 // What follows a substep.
-#[derive(Drop)]
+#[derive(Clone, Copy)]
 pub enum Next {
     On,
     Stop(End),
 }
 
 // What a run hands out; its zones stay where they lie.
-#[derive(Drop)]
+#[derive(Clone, Copy)]
 pub struct Stopped {
     pub energy: KilowattHours,
     // the charged electric total after the run
@@ -45,7 +45,7 @@ pub struct Stopped {
 }
 
 // A wet source's figures.
-#[derive(Drop)]
+#[derive(Clone, Copy)]
 pub struct Exchanger {
     pub inlet: f64,
     pub hours: f64,
@@ -60,14 +60,14 @@ pub struct Exchanger {
     pub diameter: f64,
 }
 
-#[derive(Drop)]
+#[derive(Clone, Copy)]
 pub enum Source {
     // rated power in kW
     Electric(f64),
     Wet(Exchanger),
 }
 
-#[derive(Drop)]
+#[derive(Clone, Copy)]
 pub struct HydronicTask {
     pub card: Card,
     pub pcm: HeatBatteryPcm,
@@ -77,7 +77,7 @@ pub struct HydronicTask {
 }
 
 // What the substeps of a hydronic charge change.
-#[derive(Drop)]
+#[derive(Clone, Copy)]
 pub struct HydronicState {
     pub absorbed: Kilojoules,
     pub reynold: f64,
@@ -85,14 +85,14 @@ pub struct HydronicState {
     pub time: f64,
 }
 
-#[derive(Drop)]
+#[derive(Clone, Copy)]
 pub struct HydronicTurn {
     pub state: HydronicState,
     pub next: Next,
     pub substeps: u32,
 }
 
-#[derive(Drop)]
+#[derive(Clone, Copy)]
 pub struct HydronicEnd {
     pub state: HydronicState,
     pub end: End,

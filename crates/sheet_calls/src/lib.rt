@@ -8,7 +8,7 @@ ghost use Rattle.sheet_records.specs.Cards.{card_length, services_at};
 use battery::{Call, Demand, Given, Hydronic};
 
 // What the bytes of a call are: bad ones are refused with 10 by A's entry, with 42 by the auditor.
-#[derive(Drop)]
+#[derive(Clone, Copy)]
 pub enum ReadCall {
     Good(Call),
     Bad,

@@ -8,7 +8,7 @@ use card::Card;
 use sheet_calls::ReadCall;
 
 // What a line's first bytes tell: its kind, the length of its call, and its own, which counts the two bytes that say it. All 0 where there is no such line.
-#[derive(Drop)]
+#[derive(Clone, Copy)]
 pub struct LineHead {
     pub kind: u8,
     pub call: usize,

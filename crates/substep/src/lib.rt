@@ -15,7 +15,7 @@ use zone_charging::Charged;
 use zone_water::{Mode, Shared, Transfer};
 
 // What a substep is asked, in the Rust's words.
-#[derive(Drop)]
+#[derive(Clone, Copy)]
 pub struct SubstepInput {
     pub mode: Mode,
     // °C entering the battery; of the surroundings in the losses mode
@@ -34,7 +34,7 @@ pub struct SubstepInput {
 }
 
 // What stays the same over the zones.
-#[derive(Drop)]
+#[derive(Clone, Copy)]
 pub struct Common {
     pub mode: Mode,
     pub shared: Shared,
@@ -46,7 +46,7 @@ pub struct Common {
 }
 
 // What a substep hands out besides its arrays.
-#[derive(Drop)]
+#[derive(Clone, Copy)]
 pub struct Outcome {
     pub outlet: f64,
     // the compensated sum of the energies
@@ -58,7 +58,7 @@ pub struct Outcome {
 }
 
 // One zone's part.
-#[derive(Drop)]
+#[derive(Clone, Copy)]
 pub struct ZoneStep {
     pub temperature: f64,
     pub energy: Kilojoules,
@@ -70,14 +70,14 @@ pub struct ZoneStep {
 }
 
 // Why a substep ends its call: refusals 23 and 24.
-#[derive(Drop)]
+#[derive(Clone, Copy)]
 pub enum Fault {
     Nothing,
     Logarithm,
     NotFinite,
 }
 
-#[derive(Drop)]
+#[derive(Clone, Copy)]
 pub struct Substep {
     pub zones: [f64; 64],
     pub energies: [f64; 64],

@@ -10,7 +10,7 @@ use std::num::wrapping_add_u64;
 const MOST_WORDS: u64 = 512;
 
 // What a file has shown so far.
-#[derive(Drop)]
+#[derive(Clone, Copy)]
 pub struct Run {
     // the place of the next record, from 0
     pub place: u64,
@@ -21,7 +21,7 @@ pub struct Run {
 }
 
 // A record's id and the bytes of its words, where `run` is going.
-#[derive(Drop)]
+#[derive(Clone, Copy)]
 pub struct Head {
     pub run: Run,
     pub id: u64,

@@ -7,11 +7,11 @@ ghost use Rattle.std.specs.Prelude.{◌≡◌};
 ghost use Rattle.zone.specs.Heat.{kilowatt_hours, kilojoules as kilojoules_of};
 
 // Heat within a substep. Positive where a zone gives it up.
-#[derive(Drop)]
+#[derive(Clone, Copy)]
 pub struct Kilojoules(pub f64);
 
 // Heat in an answer.
-#[derive(Drop)]
+#[derive(Clone, Copy)]
 pub struct KilowattHours(pub f64);
 
 impl Kilojoules {
@@ -31,7 +31,7 @@ impl KilowattHours {
 }
 
 // A salt: its melting range in °C, and a layer's capacity below, during and above it in kJ/K.
-#[derive(Drop)]
+#[derive(Clone, Copy)]
 pub struct Salt {
     pub lower: f64,
     pub upper: f64,
@@ -41,7 +41,7 @@ pub struct Salt {
 }
 
 // What `calc_state_of_charge` answers: a level of at most 1, or above 1.0 + 1e-10, which 25 refuses.
-#[derive(Drop)]
+#[derive(Clone, Copy)]
 pub enum StateOfCharge {
     Level(f64),
     Above,

@@ -9,7 +9,7 @@ ghost use Rattle.zone_charging.specs.Charging.{counted as counted_of, charging_w
 use zone::{Kilojoules, KilowattHours, Salt};
 
 // A zone's part of a charge: the charger's heat left (negative), the energy charged so far, the heat that the zone gives up.
-#[derive(Drop)]
+#[derive(Clone, Copy)]
 pub struct Charged {
     pub left: Kilojoules,
     pub charged: KilowattHours,

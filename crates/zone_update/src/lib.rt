@@ -7,7 +7,7 @@ ghost use Rattle.zone_update.specs.Update.{delivering_from_above, delivering as 
 use zone::{Kilojoules, Salt};
 
 // Falls of a zone's temperature above, within and below the melting range.
-#[derive(Drop)]
+#[derive(Clone, Copy)]
 pub struct Deltas {
     pub above: f64,
     pub during: f64,
@@ -15,7 +15,7 @@ pub struct Deltas {
 }
 
 // A zone after an energy transfer.
-#[derive(Drop)]
+#[derive(Clone, Copy)]
 pub struct ZoneUpdate {
     pub temperature: f64,
 }

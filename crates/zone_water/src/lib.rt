@@ -8,7 +8,7 @@ use floats::Log;
 use zone::Kilojoules;
 
 // The Rust's HeatBatteryPcmOperationMode.
-#[derive(Drop)]
+#[derive(Clone, Copy)]
 pub enum Mode {
     OnlyCharging,
     Losses,
@@ -16,7 +16,7 @@ pub enum Mode {
 }
 
 // What all zones of a substep share.
-#[derive(Drop)]
+#[derive(Clone, Copy)]
 pub struct Shared {
     // their number
     pub layers: u8,
@@ -32,7 +32,7 @@ pub struct Shared {
     pub seconds: f64,
 }
 
-#[derive(Drop)]
+#[derive(Clone, Copy)]
 pub struct ZoneProperties {
     pub energy: Kilojoules,
     pub outlet: f64,
@@ -41,7 +41,7 @@ pub struct ZoneProperties {
 }
 
 // A heat transfer in kW/K, and the logarithms that were taken for it.
-#[derive(Drop)]
+#[derive(Clone, Copy)]
 pub struct Transfer {
     pub value: Log,
     pub logarithms: u32,
