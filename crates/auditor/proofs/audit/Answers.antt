@@ -1,0 +1,55 @@
+use mathlib.Core.Path.{refl, sym, ◌∙◌}
+use native.Mathlib.Omega.{arith}
+use lib.ListN.{drop}
+use borrow.Author.Rules.{rules}
+use Rattle.logic.proofs.Branch.{via_true, via_false}
+use Rattle.sheet_records.proofs.CardLaws.{fields_accepted}
+use Rattle.auditor.specs.Audit.{card_part, audit_card, audit_of}
+use Rattle.auditor.proofs.Opening.{opening_is, card_slice, card_whole, card_line_lem, card_line_fit, card_line_unfit}
+use Rattle.auditor.proofs.Turns.{rest_of}
+use Rattle.auditor.proofs.audit.Goals as goal
+
+pub returns-in-Unfit : goal.returns-in-Unfit
+unfolding audit_of
+returns-in-Unfit c =
+    let bs = c.args.sheet.now in
+    let first = c.byte_or_zero-version in
+    let unfit = card_line_unfit first.result bs (sym c.enum_told-1.given.1 ∙ c.card_line.ensures) in
+    rw (← first.ensures) (via_true _ _ (sym c.known_version.ensures ∙ c.if-known_version.true) (via_false _ _ unfit refl))
+
+pub slice_bounds-audit_lines-start : goal.slice_bounds-audit_lines-start
+slice_bounds-audit_lines-start c =
+    let bs = c.args.sheet.now in
+    let version = c.byte_or_zero-version.result in
+    let fit = card_line_fit version bs _ _ (sym c.card-1.given.1 ∙ c.card_line.ensures) in
+    omega (arith, fit.2, opening_is version (drop 3 bs), (card_line_lem version bs fit.0).long)
+
+pub slice_bounds-audit_lines-end : goal.slice_bounds-audit_lines-end
+slice_bounds-audit_lines-end c =
+    let bs = c.args.sheet.now in
+    let version = c.byte_or_zero-version.result in
+    let fit = card_line_fit version bs _ _ (sym c.card-1.given.1 ∙ c.card_line.ensures) in
+    omega (arith, fit.2, opening_is version (drop 3 bs), (card_line_lem version bs fit.0).long)
+
+pub audit_lines-requires : goal.audit_lines-requires
+audit_lines-requires c =
+    let bs = c.args.sheet.now in
+    let version = c.byte_or_zero-version.result in
+    let fit = card_line_fit version bs _ _ (sym c.card-1.given.1 ∙ c.card_line.ensures) in
+    let line = card_line_lem version bs fit.0 in (
+      rw fit.1 (fields_accepted version (card_part version bs) line.accepted),
+      card_whole version bs _ fit.2 (omega (arith, fit.2, opening_is version (drop 3 bs), line.long)),
+    )
+
+pub returns-in-Fit : goal.returns-in-Fit
+unfolding audit_of audit_card
+returns-in-Fit c =
+    let bs = c.args.sheet.now in
+    let first = c.byte_or_zero-version in
+    let fit = card_line_fit first.result bs _ _ (sym c.card-1.given.1 ∙ c.card_line.ensures) in
+    c.audit_lines.ensures
+    ∙ rw (rest_of, card_slice first.result bs _ fit.2, fit.1, fit.2, ← first.ensures) (via_true _ _ (sym c.known_version.ensures ∙ c.if-known_version.true) (via_true _ _ fit.0 refl))
+
+pub returns : goal.returns
+unfolding audit_of
+returns c = rw (← c.byte_or_zero-version.ensures) (via_false _ _ (sym c.known_version.ensures ∙ c.if-known_version.false) refl)

@@ -1,0 +1,7 @@
+use mathlib.Core.Path.{◌∙◌, ap}
+use borrow.Author.Rules.{rules}
+use Rattle.auditor.specs.Audit.{verdict_fields}
+use Rattle.auditor.proofs.audit_fields.Goals as goal
+
+pub returns : goal.returns
+returns c = c.verdict_fields.ensures ∙ ap verdict_fields c.audit.ensures

@@ -1,0 +1,122 @@
+use mathlib.Core.Path.{sym, ◌∙◌, ap}
+use Prim.Native.Nat.{◌≤◌, ◌+◌}
+use native.Mathlib.Omega.{arith}
+use borrow.Author.Rules.{rules}
+use lib.ListN.{length}
+use lib.Dec.{T}
+use lib.Ieee.{fits, binary64}
+use Rattle.card.proofs.Accepted.{accepted_layers}
+use Rattle.battery.specs.declared.Answer.{Answer}
+use Rattle.auditor.specs.Audit.{audit_lines}
+use Rattle.sheet_lines.specs.Answers.{same_number, agrees, answer_at}
+use Rattle.sheet_records.specs.Cards.{services_at}
+use Rattle.sheet_records.specs.Records.{state_at}
+use Rattle.auditor.proofs.Turns.{turn_bad, turn_out, turn_differs, turn_next, at_end, head_read, rest_less, Walked, walked_on}
+use Rattle.auditor.proofs.Walks.{Own, own_fresh, advanced_own}
+use Rattle.auditor.proofs.lines.audit_lines.Goals as goal
+
+pub fresh-b-requires : goal.fresh-b-requires
+fresh-b-requires c = (accepted_layers _ _ c.requires.0).1
+
+pub loop-rest-init : goal.loop-rest-init
+unfolding audit_lines
+loop-rest-init c =
+    let r = c in
+    let f : T (fits binary64 r.args.card.start) = search (rules, r.well-formed.1.0.1.1.1.1.1.1.1.1.1.1.1.1.1.1.1.1.1.1.1.1.1.1.1.0) in (
+      (omega arith, record { most = length r.args.bytes.now; enough = omega arith; gives = rw c.fresh-b.ensures }),
+      rw c.fresh-b.ensures (own_fresh r.args.version r.args.card r.requires.0 f),
+    )
+
+pub line_call-requires : goal.line_call-requires
+line_call-requires c = (c.line_head-head.ensures, c.requires.1)
+
+pub returns-in-Bad : goal.returns-in-Bad
+returns-in-Bad c =
+    let a = c.args in
+    let l = c.loop-rest in
+    let read = sym c.line_call.ensures ∙ c.enum_told-1.given.1 in
+    sym (turn_bad same_number a.version (services_at a.version a.line0.now) a.card l.b l.k l.rest.now _ c.loop-rest-test.true l.invariant.0.1 read)
+
+pub advance-own-requires : goal.advance-own-requires
+advance-own-requires c = c.loop-rest.invariant.1.good.accepted
+
+pub returns-then-own-eq-BAD_CALL : goal.returns-then-own-eq-BAD_CALL
+returns-then-own-eq-BAD_CALL c =
+    let a = c.args in
+    let l = c.loop-rest in
+    let own = c.advance-own in
+    let read = sym c.line_call.ensures ∙ c.call-1.given.1 in
+    sym (turn_out same_number a.version (services_at a.version a.line0.now) a.card l.b l.k l.rest.now _ c.loop-rest-test.true l.invariant.0.1 _ read own.result own.ensures c.if-own-eq-BAD_CALL.true)
+
+pub line_answer-seen-requires : goal.line_answer-seen-requires
+line_answer-seen-requires c =
+    let a = c.args in
+    let front = c.line_head-head in
+    let read = sym c.line_call.ensures ∙ c.call-1.given.1 in
+    ((accepted_layers _ _ c.requires.0).1, front.ensures, (head_read a.version (services_at a.version a.line0.now) a.card c.loop-rest.rest.now front.result front.ensures _ read).ok)
+
+pub answers_agree-requires : goal.answers_agree-requires
+unfolding answer_at state_at
+answers_agree-requires c = rw c.line_answer-seen.ensures (accepted_layers _ _ c.requires.0).1
+
+pub slice_bounds-rest-start : goal.slice_bounds-rest-start
+slice_bounds-rest-start c =
+    let a = c.args in
+    let front = c.line_head-head in
+    let read = sym c.line_call.ensures ∙ c.call-1.given.1 in
+    let head = head_read a.version (services_at a.version a.line0.now) a.card c.loop-rest.rest.now front.result front.ensures _ read in
+    omega (arith, head.inside)
+
+pub slice_bounds-rest-end : goal.slice_bounds-rest-end
+slice_bounds-rest-end c =
+    let a = c.args in
+    let front = c.line_head-head in
+    let read = sym c.line_call.ensures ∙ c.call-1.given.1 in
+    let head = head_read a.version (services_at a.version a.line0.now) a.card c.loop-rest.rest.now front.result front.ensures _ read in
+    omega (arith, head.inside)
+
+pub overflow_add-k : goal.overflow_add-k
+overflow_add-k c =
+    let l = c.loop-rest in
+    let k : l.k + 1 ≤ length c.args.bytes.now = omega (arith, l.invariant.0.0, c.loop-rest-test.true) in
+    omega (arith, k, c.well-formed)
+
+pub loop-rest-smaller : goal.loop-rest-smaller
+loop-rest-smaller c =
+    let a = c.args in
+    let t = c.loop-rest.rest.now in
+    let front = c.line_head-head in
+    let read = sym c.line_call.ensures ∙ c.call-1.given.1 in
+    let head = head_read a.version (services_at a.version a.line0.now) a.card t front.result front.ensures _ read in
+    rest_less t front.result.size (omega (arith, head.inside)) head.inside.1
+
+pub loop-rest-preserved : goal.loop-rest-preserved
+loop-rest-preserved c =
+    let a = c.args in
+    let l = c.loop-rest in
+    let own = c.advance-own in
+    let front = c.line_head-head in
+    let read = sym c.line_call.ensures ∙ c.call-1.given.1 in
+    let head = head_read a.version (services_at a.version a.line0.now) a.card l.rest.now front.result front.ensures _ read in (
+      walked_on same_number a.version (services_at a.version a.line0.now) a.card a.bytes.now l.rest.now _ l.b _ l.k front.result.size
+          l.invariant.0 (omega (arith, head.inside)) head.inside.1 head.follows
+          (turn_next same_number a.version (services_at a.version a.line0.now) a.card l.b l.k l.rest.now _ c.loop-rest-test.true l.invariant.0.1 _ read own.result own.ensures c.if-own-eq-BAD_CALL.false
+          (ap (λ (x : Answer). agrees same_number x own.result) (sym c.line_answer-seen.ensures) ∙ sym c.answers_agree.ensures ∙ c.if-answers_agree.true)),
+      rw own.ensures (advanced_own a.version a.card l.b l.invariant.1 _),
+    )
+
+pub returns-else-answers_agree : goal.returns-else-answers_agree
+returns-else-answers_agree c =
+    let a = c.args in
+    let l = c.loop-rest in
+    let own = c.advance-own in
+    let read = sym c.line_call.ensures ∙ c.call-1.given.1 in
+    sym
+    (turn_differs same_number a.version (services_at a.version a.line0.now) a.card l.b l.k l.rest.now _ c.loop-rest-test.true l.invariant.0.1 _ read own.result own.ensures c.if-own-eq-BAD_CALL.false
+    (ap (λ (x : Answer). agrees same_number x own.result) (sym c.line_answer-seen.ensures) ∙ sym c.answers_agree.ensures ∙ c.if-answers_agree.false))
+
+pub returns : goal.returns
+returns c =
+    let a = c.args in
+    let l = c.loop-rest in
+    sym (at_end same_number a.version (services_at a.version a.line0.now) a.card l.b l.k l.rest.now _ (omega arith) l.invariant.0.1)

@@ -1,0 +1,19 @@
+use native.Mathlib.Omega.{arith}
+use borrow.Author.Rules.{rules}
+use Rattle.auditor.specs.Audit.{limit, verdict_word}
+use Rattle.auditor.proofs.Bounds.{below_accepted, below_refused}
+use Rattle.auditor.proofs.verdict_word.Goals as goal
+
+pub overflow_mul-result : goal.overflow_mul-result
+overflow_mul-result c = omega (arith, below_accepted _ limit _ c.verdict-1.given.1 c.requires)
+
+pub overflow_add-result : goal.overflow_add-result
+overflow_add-result c = omega (arith, below_refused _ limit _ _ c.verdict-in-Refused-1.given.1 c.requires)
+
+pub returns-in-Accepted : goal.returns-in-Accepted
+unfolding verdict_word
+returns-in-Accepted c = rw c.verdict-1.given.1
+
+pub returns-in-Refused : goal.returns-in-Refused
+unfolding verdict_word
+returns-in-Refused c = rw c.verdict-in-Refused-1.given.1

@@ -1,0 +1,7 @@
+use Rattle.battery.specs.Call.{is_level}
+use borrow.Author.Rules.{rules}
+use Rattle.battery.proofs.call_ranges.is_level.Goals as goal
+
+pub returns : goal.returns
+unfolding is_level
+returns c = rw (← c.within.ensures)

@@ -1,0 +1,7 @@
+use borrow.Author.Rules.{rules}
+use Rattle.card.specs.Services.{service_ok}
+use Rattle.card.proofs.services.service_ok.Goals as goal
+
+pub returns : goal.returns
+unfolding service_ok
+returns c = c.All-three.ensures

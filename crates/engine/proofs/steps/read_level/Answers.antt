@@ -1,0 +1,18 @@
+use mathlib.Core.List.{[]}
+use Rattle.engine_replies.specs.Replies.{checked}
+use Rattle.engine.specs.Steps.{read_level}
+use Rattle.engine_replies.proofs.Settled.{settled_refusal, plain_refusal, plain-with}
+use mathlib.Core.Path.{refl, ◌∙◌, ap}
+use borrow.Author.Rules.{rules}
+use Rattle.engine.proofs.steps.read_level.Goals as goal
+
+pub checked-requires : goal.checked-requires
+checked-requires c = (c.requires, plain_refusal c.args.ledger [] [] _ _ _ c.plain_reply-a.ensures)
+
+pub returns-in-Above : goal.returns-in-Above
+unfolding read_level
+returns-in-Above c = rw c.enum_told-1.given.1 (settled_refusal _ _ _ _ 25 c.refused_reply.ensures refl)
+
+pub returns-in-Level : goal.returns-in-Level
+unfolding read_level
+returns-in-Level c = rw c.level-1.given.1 (c.checked.ensures _ ∙ ap (checked _) (plain-with c.args.ledger [] _ _ _ _ c.plain_reply-a.ensures))

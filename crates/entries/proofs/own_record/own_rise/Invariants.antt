@@ -1,0 +1,14 @@
+use mathlib.Core.Path.{◌≡◌, refl, sym, ◌∙◌, ap}
+use Prim.Native.Nat.{ℕ, ◌≤◌, ◌<◌, ◌-◌, ◌+◌}
+use native.Mathlib.Omega.{arith}
+use borrow.Author.Rules.{rules}
+use Rattle.card.specs.Services.{listed, rising_from}
+use Rattle.card.proofs.Listed.{rising_stops, rising_further, rising_done}
+use Rattle.entries.specs.Record.{own_service}
+use Rattle.entries.proofs.own_record.own_rise.Given as goal
+
+abbrev pub invariant-loop-k : goal.invariant-loop-k
+invariant-loop-k l = (l.k ≤ l.n) × (rising_from l.least (listed (own_service l.numbers l.classes) l.k (l.n - l.k)) ≡ rising_from 4 (listed (own_service l.numbers l.classes) 0 l.n))
+
+abbrev pub decreases-loop-k : goal.decreases-loop-k
+decreases-loop-k l = l.n - l.k

@@ -1,0 +1,8 @@
+use mathlib.Core.Path.{refl}
+use Rattle.floats.specs.Ln.{exponent}
+use borrow.Author.Rules.{rules}
+use Rattle.floats.proofs.bits.exponent.Goals as goal
+
+pub returns : goal.returns
+unfolding exponent
+returns c = refl

@@ -1,0 +1,40 @@
+use mathlib.Core.Path.{◌≡◌, refl, sym, ◌∙◌}
+use mathlib.Core.Bool.{false}
+use native.Mathlib.Omega.{arith}
+use Rattle.card.proofs.Accepted.{accepted_layers}
+use Rattle.battery.specs.Battery.{battery_accepted}
+use Rattle.sheet_records.specs.Cards.{card_at, services_at}
+use Rattle.sheet_records.proofs.CardLaws.{fields_accepted}
+use Rattle.sheet_records.specs.Records.{record_of, state_at}
+use Rattle.sheet_calls.specs.Calls.{call_of}
+use Rattle.entries.proofs.Entering.{record_laid_lem}
+use Rattle.heat_battery.proofs.Calling.{read_not_accepted}
+use borrow.Author.Rules.{rules}
+use Rattle.heat_battery.proofs.with_card.Goals as goal
+
+pub read_record-b-requires : goal.read_record-b-requires
+read_record-b-requires c =
+    let r = c in
+    let rec = r.args.«record».now in
+    let l = record_laid_lem r.args.version rec r.requires.0 in
+    (r.requires.1, rw r.requires.1 (accepted_layers r.args.version (card_at r.args.version rec) (fields_accepted r.args.version rec l.card_accepted)).1, omega (arith, l.long))
+
+pub record_accepted-requires : goal.record_accepted-requires
+unfolding record_of state_at
+record_accepted-requires c =
+    let r = c in
+    rw c.read_record-b.ensures (fields_accepted r.args.version r.args.«record».now (record_laid_lem r.args.version r.args.«record».now r.requires.0).card_accepted, refl)
+
+pub advance-requires : goal.advance-requires
+advance-requires c = (c.requires.0, c.read_record-b.ensures, sym c.record_accepted.ensures ∙ c.if-record_accepted.true)
+
+pub returns-then-record_accepted : goal.returns-then-record_accepted
+returns-then-record_accepted c = c.advance.ensures
+
+pub returns : goal.returns
+returns c =
+    let a = c.args in
+    let n : battery_accepted a.version (record_of a.version a.«record».now) ≡ false =
+    rw (← c.read_record-b.ensures) (sym c.record_accepted.ensures ∙ c.if-record_accepted.false) in
+    rw (read_not_accepted a.version a.«record».now a.call.now a.sheet.now n (call_of a.version (services_at a.version a.«record».now) a.call.now))
+    (record { code_is = refl; record_is = refl; sheet_is = refl })

@@ -1,0 +1,16 @@
+use mathlib.Core.Path.{refl, sym, ◌∙◌}
+use Rattle.entries.proofs.Checked.{good_card, bad_card_lem}
+use Rattle.heat_battery.specs.Entries.{entry_known}
+use borrow.Author.Rules.{rules}
+use Rattle.heat_battery.proofs.with_version.Goals as goal
+
+pub with_card-requires : goal.with_card-requires
+with_card-requires c = good_card _ _ _ (sym c.record_card-read.ensures ∙ c.read-1.given.1)
+
+pub returns-in-Bad : goal.returns-in-Bad
+unfolding entry_known
+returns-in-Bad c = rw (bad_card_lem _ _ (sym c.record_card-read.ensures ∙ c.enum_told-1.given.1)) (record { code_is = refl; record_is = refl; sheet_is = refl })
+
+pub returns-in-Good : goal.returns-in-Good
+unfolding entry_known
+returns-in-Good c = rw (good_card _ _ _ (sym c.record_card-read.ensures ∙ c.read-1.given.1)).0 c.with_card.ensures

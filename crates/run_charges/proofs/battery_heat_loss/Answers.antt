@@ -1,0 +1,20 @@
+use mathlib.Core.Path.{ap}
+use Rattle.substep.specs.declared.SubstepInput.{SubstepInput}
+use Rattle.runs.specs.Charge.{loss_ended, loss_input, battery_heat_loss}
+use Rattle.runs.proofs.InPlace.{one-substep}
+use Rattle.zone.proofs.Salts.{salts_at}
+use borrow.Author.Rules.{rules}
+use Rattle.run_charges.proofs.battery_heat_loss.Goals as goal
+
+pub lose_in_place-u-requires : goal.lose_in_place-u-requires
+unfolding loss_input
+lose_in_place-u-requires c =
+    let p = c.requires in
+    let e = c.loss_input-input.ensures in
+    (p.0, (p.1.0, (ap (λ (d : SubstepInput). d.mode) e, rw e p.2)))
+
+pub returns : goal.returns
+unfolding battery_heat_loss
+returns c =
+    let b = c in
+    rw (← (salts_at _ _ _ b.requires.1.1), ← c.derived-pcm.ensures, ← c.loss_input-input.ensures) (one-substep (loss_ended b.args.ledger) _ _ _ _ _ _ _ _ c.lose_in_place-u.ensures c.loss_ended.ensures)

@@ -1,0 +1,11 @@
+use Rattle.runs.specs.Charge.{charge_battery}
+use borrow.Author.Rules.{rules}
+use Rattle.run_charges.proofs.charge_battery.Goals as goal
+
+pub returns-in-Electric : goal.returns-in-Electric
+unfolding charge_battery
+returns-in-Electric c = rw c.source-1.given.1 c.charge_battery_electric.ensures
+
+pub returns-in-Wet : goal.returns-in-Wet
+unfolding charge_battery
+returns-in-Wet c = rw c.source-in-Wet-1.given.1 c.charge_battery_hydronic.ensures

@@ -1,0 +1,7 @@
+use Rattle.runs.specs.Charge.{hydronic_start}
+use borrow.Author.Rules.{rules}
+use Rattle.run_charges.proofs.hydronic_start.Goals as goal
+
+pub returns : goal.returns
+unfolding hydronic_start
+returns c = rw (← c.reynold_between-reynold.ensures)

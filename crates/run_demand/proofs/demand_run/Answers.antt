@@ -1,0 +1,30 @@
+use Rattle.zone.specs.Lent.{zone_salt}
+use Rattle.run_demand.proofs.Turns.{demand_no_step, demand_over_budget, run_on, run-stops}
+use Rattle.runs.proofs.InPlace.{as_defined}
+use native.Mathlib.Nat.{sub-zero}
+use Rattle.runs.specs.Zoned.{zoned}
+use Rattle.run_demand.specs.Demand.{demand_run}
+use mathlib.Core.Path.{◌≡◌, ◌∙◌}
+use Prim.Native.Nat.{◌≤◌, ◌-◌}
+use native.Mathlib.Omega.{arith}
+use borrow.Author.Rules.{rules}
+use Rattle.run_demand.proofs.demand_run.Goals as goal
+
+pub loop-state-init : goal.loop-state-init
+loop-state-init c = (omega arith, simp sub-zero)
+
+pub loop-state-preserved : goal.loop-state-preserved
+loop-state-preserved c =
+    let l = c.loop-state in
+    (omega arith, run_on c.args.task _ _ _ _ _ _ l.invariant.0 c.if-substeps-budget.false c.if-not-state.false c.demand_substep-turn.ensures c.enum_told-1.given.1 ∙ l.invariant.1)
+
+pub returns-then-not-state : goal.returns-then-not-state
+returns-then-not-state c = (as_defined _ _ _ _ (demand_no_step _ _ _ _ _ c.if-not-state.true ∙ c.loop-state.invariant.1), omega arith)
+
+pub returns-then-substeps-budget : goal.returns-then-substeps-budget
+returns-then-substeps-budget c = (as_defined _ _ _ _ (demand_over_budget _ _ _ _ _ c.if-substeps-budget.true c.if-not-state.false ∙ c.loop-state.invariant.1), omega arith)
+
+pub returns-in-Stop : goal.returns-in-Stop
+returns-in-Stop c =
+    let l = c.loop-state in
+    (run-stops c.args.task _ _ _ _ _ _ l.invariant.0 c.if-substeps-budget.false c.if-not-state.false c.demand_substep-turn.ensures _ _ c.next-1.given.1 l.invariant.1, omega arith)

@@ -1,0 +1,41 @@
+use Rattle.zone.specs.Lent.{zone_salt}
+use Rattle.runs.proofs.InPlace.{as_defined}
+use native.Mathlib.Nat.{sub-zero}
+use Rattle.runs.specs.Zoned.{zoned}
+use Rattle.runs.specs.Hydronic.{hydronic_run}
+use Rattle.runs.proofs.Runs.{hydronic_time, hydronic_over_budget, wet_took, wet_on, wet-stop}
+use mathlib.Core.Path.{◌≡◌, ◌∙◌}
+use Prim.Native.Nat.{◌≤◌, ◌-◌, ◌+◌}
+use native.Mathlib.Omega.{arith}
+use borrow.Author.Rules.{rules}
+use Rattle.run_hydronic.proofs.hydronic_run.Goals as goal
+
+pub loop-substeps-init : goal.loop-substeps-init
+loop-substeps-init c = (omega arith, omega arith, simp sub-zero)
+
+pub hydronic_step-turn-requires : goal.hydronic_step-turn-requires
+hydronic_step-turn-requires c =
+    let p = c.requires in
+    (p.0, (search rules, p.1))
+
+took : (c : goal.After-enum-told) → c.hydronic_step-turn.result.substeps ≡ c.loop-substeps.substeps + 1
+took c =
+    wet_took c.args.task _ _ _ _ c.loop-substeps.invariant.0 c.if-substeps-steps.false _ _ c.if-substeps-budget.false c.hydronic_step-turn.ensures c.enum_told-1.given.1
+
+pub loop-substeps-smaller : goal.loop-substeps-smaller
+loop-substeps-smaller c = let n = took c in omega arith
+
+pub loop-substeps-preserved : goal.loop-substeps-preserved
+loop-substeps-preserved c =
+    let n = took c in
+    (omega arith, omega arith, wet_on c.args.task _ _ _ _ c.loop-substeps.invariant.0 c.if-substeps-steps.false _ _ c.if-substeps-budget.false c.hydronic_step-turn.ensures c.enum_told-1.given.1 ∙ c.loop-substeps.invariant.2)
+
+pub returns-then-substeps-steps : goal.returns-then-substeps-steps
+returns-then-substeps-steps c = as_defined _ _ _ _ (hydronic_time _ _ _ _ _ c.if-substeps-steps.true ∙ c.loop-substeps.invariant.2)
+
+pub returns-then-substeps-budget : goal.returns-then-substeps-budget
+returns-then-substeps-budget c = as_defined _ _ _ _ (hydronic_over_budget _ _ _ _ _ c.loop-substeps.invariant.0 c.if-substeps-steps.false c.if-substeps-budget.true ∙ c.loop-substeps.invariant.2)
+
+pub returns-in-Stop : goal.returns-in-Stop
+returns-in-Stop c =
+    wet-stop c.args.task _ _ _ _ c.loop-substeps.invariant.0 c.if-substeps-steps.false _ _ c.if-substeps-budget.false c.hydronic_step-turn.ensures _ _ c.next-1.given.1 c.loop-substeps.invariant.2

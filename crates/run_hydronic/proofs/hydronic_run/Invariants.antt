@@ -1,0 +1,18 @@
+use Rattle.zone.specs.Lent.{zone_salt}
+use Rattle.runs.proofs.InPlace.{as_defined}
+use native.Mathlib.Nat.{sub-zero}
+use Rattle.runs.specs.Zoned.{zoned}
+use Rattle.runs.specs.Hydronic.{hydronic_run}
+use Rattle.runs.proofs.Runs.{hydronic_time, hydronic_over_budget, wet_took, wet_on, wet-stop}
+use mathlib.Core.Path.{◌≡◌, ◌∙◌}
+use Prim.Native.Nat.{◌≤◌, ◌-◌, ◌+◌}
+use native.Mathlib.Omega.{arith}
+use borrow.Author.Rules.{rules}
+use Rattle.run_hydronic.proofs.hydronic_run.Given as goal
+
+abbrev pub invariant-loop-substeps : goal.invariant-loop-substeps
+invariant-loop-substeps l =
+    (l.substeps ≤ l.steps) × (l.substeps ≤ l.task.card.budget) × (hydronic_run l.task (zone_salt l.salts l.step) (l.steps - l.substeps) l.substeps (zoned l.state l.zones) ≡ hydronic_run l.task (zone_salt l.salts l.step) l.steps 0 (zoned l.initial.state l.initial.zones))
+
+abbrev pub decreases-loop-substeps : goal.decreases-loop-substeps
+decreases-loop-substeps l = l.steps - l.substeps

@@ -1,0 +1,25 @@
+use Rattle.runs.proofs.InPlace.{as_defined}
+use Rattle.runs.proofs.HydronicTurns.{replayed-turn}
+use Rattle.substep.proofs.Charger.{idle_charges_none}
+use Rattle.logic.proofs.Branch.{via_true}
+use borrow.Author.Tests.{eq-eqb}
+use Rattle.runs.specs.Hydronic.{replayed, wet_input}
+use mathlib.Core.Path.{refl, ap}
+use Rattle.substep.specs.declared.SubstepInput.{SubstepInput}
+use borrow.Author.Rules.{rules}
+use Rattle.run_hydronic.proofs.replayed.Goals as goal
+
+pub returns-then-n-card : goal.returns-then-n-card
+unfolding replayed
+returns-then-n-card c = as_defined _ _ _ _ (via_true _ _ (eq-eqb _ _ c.if-n-card.true) refl)
+
+pub process_in_place-u-requires : goal.process_in_place-u-requires
+unfolding wet_input
+process_in_place-u-requires c =
+    let p = c.requires in
+    let e = c.wet_input-input.ensures in
+    (p.0, (p.1.1, (ap (λ (d : SubstepInput). d.mode) e, idle_charges_none _ (ap (λ (d : SubstepInput). d.power) e))))
+
+pub returns : goal.returns
+returns c =
+    replayed-turn c.args.task _ _ _ _ _ _ _ _ _ c.process_in_place-u.ensures refl _ _ c.if-n-card.false c.wet_input-input.ensures (c.replay_by.ensures _ _)

@@ -1,0 +1,23 @@
+use Rattle.codec.proofs.Puts.{nothing_written, then_sized, written}
+use Rattle.sheet_lines.specs.Answers.{head_bytes, answer_length, answer_bytes}
+use Rattle.sheet_records.specs.Records.{state_bytes}
+use Rattle.sheet_records.proofs.Lengths.{length_state_bytes}
+use Rattle.sheet_lines.proofs.Lengths.{length_head_bytes, length_answer_bytes}
+use borrow.Author.Rules.{rules}
+use Rattle.sheet_lines.proofs.answers.put_answer.Goals as goal
+
+pub put_head-p-requires : goal.put_head-p-requires
+unfolding answer_length
+put_head-p-requires c = search rules
+
+pub put_state-requires : goal.put_state-requires
+unfolding answer_length
+put_state-requires c = search rules
+
+pub returns : goal.returns
+unfolding answer_bytes
+returns c =
+    let a = c.args in
+    let w1 = then_sized (head_bytes a.answer) (length_head_bytes a.version a.answer) (nothing_written a.bytes.now a.at) c.put_head-p.ensures in
+    let w2 = then_sized (state_bytes a.version a.answer.battery) (length_state_bytes _ _) w1 c.put_state.ensures in
+    written w2 (length_answer_bytes a.version a.answer)

@@ -1,0 +1,7 @@
+use Rattle.substep.specs.Substep.{common_of}
+use borrow.Author.Rules.{rules}
+use Rattle.substep.proofs.common_of.Goals as goal
+
+pub returns : goal.returns
+unfolding common_of
+returns c = rw (c.requires, ← c.mass_flow-mass.ensures)

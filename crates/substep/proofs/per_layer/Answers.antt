@@ -1,0 +1,11 @@
+use Rattle.substep.specs.Substep.{per_layer}
+use borrow.Author.Rules.{rules}
+use Rattle.substep.proofs.per_layer.Goals as goal
+
+pub returns-in-Value : goal.returns-in-Value
+unfolding per_layer
+returns-in-Value c = rw c.whole-1.given.1
+
+pub returns-in-Refused : goal.returns-in-Refused
+unfolding per_layer
+returns-in-Refused c = rw c.enum_told-1.given.1

@@ -1,0 +1,52 @@
+use lib.Ieee.{of_bits, add}
+use Rattle.floats.specs.Constants.{zero}
+use Rattle.zone.specs.Lent.{zone_salt}
+use Rattle.zone.proofs.Salts.{one_salt}
+use Rattle.substep.specs.declared.ZoneStep.{ZoneStep}
+use Rattle.substep.proofs.OneLoop.{Underway, start_of, underway-start, underway-end, zone_takes_none, no-more-logarithms}
+use Rattle.floats.proofs.Sum2Laws.{no_sum}
+use Rattle.substep_loops.proofs.ChargingSteps.{charging-more}
+use mathlib.Core.Path.{◌≡◌, refl, ◌∙◌, ap}
+use Prim.Native.Nat.{◌≤◌, ◌-◌}
+use native.Mathlib.Omega.{arith}
+use borrow.Author.Tests.{eqb-true}
+use borrow.Author.Rules.{rules}
+use Rattle.substep_loops.proofs.charging_alone.charge_zones.Goals as goal
+
+pub loop-k-init : goal.loop-k-init
+loop-k-init c = (omega arith, (refl, underway-start _ _ _ _ _ _ _))
+
+pub own_salt-salt-requires : goal.own_salt-salt-requires
+own_salt-salt-requires c = (c.requires.1.0.1 _ c.zone_index-j.ensures.1, c.zone_salt-first.ensures)
+
+pub charging_step-z-requires : goal.charging_step-z-requires
+charging_step-z-requires c =
+    let b = c in
+    let p = b.requires in
+    (p.1.1.0, λ e. rw (c.own_salt-salt.ensures, one_salt _ _ _ (eqb-true b.args.step 0 e)) p.1.1.1)
+
+pub overflow_add-logarithms : goal.overflow_add-logarithms
+overflow_add-logarithms c =
+    let none = ap (λ (z : ZoneStep). z.logarithms) (c.charging_step-z.ensures zero) ∙ zone_takes_none _ _ _ _ _ _ in
+    let same = c.loop-k.invariant.1.0 in
+    search rules
+
+pub loop-k-preserved : goal.loop-k-preserved
+loop-k-preserved c =
+    let i = c in
+    let b = i in
+    let p = b.requires in
+    let step = c.charging_step-z.ensures _ in (
+      omega arith,
+      (
+        no-more-logarithms _ _ _ _ _ _ _ _ _ step i.loop-k.invariant.1.0,
+        charging-more b.args.common _ _ _ refl p.0 _ i.loop-k-test.true _ _ _ _ _ _ _ _ _ i.zone_index-j.ensures.0 c.own_salt-salt.ensures step c.finite_step-spread.ensures p.1.1.0 i.loop-k.invariant.1.1,
+      ),
+    )
+
+-- the sum of nothing is 0
+pub returns : goal.returns
+unfolding of_bits add
+returns c =
+    let l = c.loop-k in
+    underway-end _ _ _ _ _ _ c.requires.0 _ _ _ _ _ no_sum _ _ _ _ l.invariant.1.0 c.charger_heat-left.ensures l.invariant.0 c.loop-k-test.false l.invariant.1.1 c.progress_fault-fault.ensures

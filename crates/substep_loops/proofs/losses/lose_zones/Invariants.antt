@@ -1,0 +1,17 @@
+use Rattle.floats.specs.Constants.{zero}
+use Rattle.zone.specs.Lent.{zone_salt}
+use Rattle.substep.specs.declared.ZoneStep.{ZoneStep}
+use Rattle.substep.proofs.OneLoop.{Underway, start_of, underway-start, underway-end, zone_takes_none, no-more-logarithms}
+use Rattle.substep_loops.proofs.LossSteps.{upward, losing-more}
+use mathlib.Core.Path.{◌≡◌, refl, ◌∙◌, ap}
+use Prim.Native.Nat.{◌≤◌, ◌-◌}
+use native.Mathlib.Omega.{arith}
+use borrow.Author.Rules.{rules}
+use Rattle.substep_loops.proofs.losses.lose_zones.Given as goal
+
+abbrev pub invariant-loop-k : goal.invariant-loop-k
+invariant-loop-k l =
+    (l.k ≤ l.n) × ((l.logarithms ≡ l.initial.logarithms) × Underway l.common (zone_salt l.salts l.step) l.n l.k (start_of l.initial.zones l.initial.outlet l.left l.charged) l.zones l.outlet l.left l.charged l.sum l.spread)
+
+abbrev pub decreases-loop-k : goal.decreases-loop-k
+decreases-loop-k l = l.n - l.k

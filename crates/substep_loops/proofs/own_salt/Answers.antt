@@ -1,0 +1,7 @@
+use Rattle.zone.proofs.Salts.{one_salt}
+use mathlib.Core.Path.{sym, ◌∙◌}
+use borrow.Author.Rules.{rules}
+use Rattle.substep_loops.proofs.own_salt.Goals as goal
+
+pub returns-then-step-eq0 : goal.returns-then-step-eq0
+returns-then-step-eq0 c = let p = c.requires in p.1 ∙ sym (one_salt _ _ _ c.if-step-eq0.true)

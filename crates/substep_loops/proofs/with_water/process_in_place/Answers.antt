@@ -1,0 +1,29 @@
+use Rattle.substep.specs.Substep.{zone_transfer, logarithms_of, without_logarithm, outcome_of}
+use Rattle.zone_water.specs.declared.Mode.{Mode}
+use Rattle.substep.specs.declared.Substep.{Substep}
+use Rattle.substep.proofs.SubstepLaws.{passed, refused-here, transfer_value, transfer_count, common-level}
+use mathlib.Core.Path.{sym, ◌∙◌, ap}
+use borrow.Author.Rules.{rules}
+use Rattle.substep_loops.proofs.with_water.process_in_place.Goals as goal
+
+pub returns-in_default : goal.returns-in_default
+unfolding without_logarithm
+returns-in_default c =
+    let b = c in
+    let e = sym (refused-here b.args.card b.args.pcm _ b.args.input b.args.zones.now _ (transfer_value _ _ _ _ c.zone_transfer-transfer.ensures ∙ ap (λ (m : Mode). zone_transfer m b.args.card b.args.input) (sym b.requires.1.1.0)) c.enum_told-1.given.1) in
+    (ap (λ (v : Substep). v.zones) e, c.without_logarithm.ensures _ ∙ ap outcome_of e)
+
+pub common_of-common-requires : goal.common_of-common-requires
+common_of-common-requires c = sym c.requires.1.1.0
+
+pub zones_in_place-requires : goal.zones_in_place-requires
+zones_in_place-requires c =
+    let p = c.requires in
+    (p.0, (p.1.0, λ h e j l. p.1.1.1 h j l ∙ sym (common-level _ _ _ _ _ _ c.common_of-common.ensures)))
+
+pub returns : goal.returns
+returns c =
+    let b = c in
+    let shared = c.zone_transfer-transfer.ensures in
+    let t = transfer_value _ _ _ _ shared ∙ ap (λ (m : Mode). zone_transfer m b.args.card b.args.input) (sym b.requires.1.1.0) in
+    rw (passed b.args.card b.args.pcm _ b.args.input b.args.zones.now _ _ _ _ t c.share-1.given.1 c.common_of-common.ensures (transfer_count _ _ _ _ shared ∙ ap logarithms_of (sym b.requires.1.1.0))) c.zones_in_place.ensures

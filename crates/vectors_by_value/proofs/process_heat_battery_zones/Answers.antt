@@ -1,0 +1,28 @@
+use Rattle.substep.specs.Substep.{without_logarithm, substep_from}
+use Rattle.substep.proofs.SubstepLaws.{passed, refused-here, transfer_value, transfer_count, whole, not_alike}
+use mathlib.Core.Path.{refl, sym, ◌∙◌}
+use borrow.Author.Rules.{rules}
+use Rattle.vectors_by_value.proofs.process_heat_battery_zones.Goals as goal
+
+pub returns-in_default : goal.returns-in_default
+unfolding without_logarithm
+returns-in_default c =
+    let b = c in
+    let e = refused-here b.args.card b.args.pcm _ b.args.input b.args.zones _ (transfer_value _ _ _ _ c.zone_transfer-transfer.ensures) c.enum_told-1.given.1 in
+    c.bare.ensures ∙ (whole _ _ _ (without_logarithm b.args.zones) (refl, c.without_logarithm-o.ensures _) refl ∙ sym e)
+
+pub common_of-common-requires : goal.common_of-common-requires
+common_of-common-requires c = refl
+
+pub zones_in_place-o-requires : goal.zones_in_place-o-requires
+zones_in_place-o-requires c =
+    let p = c.requires in
+    (p.0, (p.1, λ h e. not_alike e))
+
+pub returns : goal.returns
+unfolding substep_from
+returns c =
+    let b = c in
+    let shared = c.zone_transfer-transfer.ensures in
+    let e = passed b.args.card b.args.pcm _ b.args.input b.args.zones _ _ _ _ (transfer_value _ _ _ _ shared) c.share-1.given.1 c.common_of-common.ensures (transfer_count _ _ _ _ shared) in
+    c.with_arrays.ensures ∙ (whole _ _ _ _ c.zones_in_place-o.ensures c.zone_energies-energies.ensures ∙ sym e)

@@ -1,0 +1,14 @@
+use Rattle.zone.proofs.Sums.{stored_more, stored_end}
+use Rattle.zone.specs.Layer.{stored_energy}
+use Rattle.zone.specs.Lent.{zone_salt}
+use mathlib.Core.Path.{◌≡◌, refl}
+use Prim.Native.Nat.{◌≤◌, ◌-◌}
+use native.Mathlib.Omega.{arith}
+use borrow.Author.Rules.{rules}
+use Rattle.zone.proofs.layer.stored_energy.Given as goal
+
+abbrev pub invariant-loop-k : goal.invariant-loop-k
+invariant-loop-k l = (l.k ≤ l.n) × (l.sum ≡ stored_energy (zone_salt l.salts l.step) l.reference l.zones l.k)
+
+abbrev pub decreases-loop-k : goal.decreases-loop-k
+decreases-loop-k l = l.n - l.k

@@ -1,0 +1,11 @@
+use Rattle.zone_water.specs.Water.{transfer_of}
+use borrow.Author.Rules.{rules}
+use Rattle.zone_water.proofs.transfer_of.Goals as goal
+
+pub returns-in-Value : goal.returns-in-Value
+unfolding transfer_of
+returns-in-Value c = rw c.log-1.given.1
+
+pub returns-in-Refused : goal.returns-in-Refused
+unfolding transfer_of
+returns-in-Refused c = rw c.enum_told-1.given.1
