@@ -13,13 +13,13 @@ not_nan nan h = no_both (sym h)
 not_nan (inf s) h = tt
 not_nan (fin s m e) h = tt
 
-is_nan : (x : Float) → eq x x ≡ false → x ≡ nan
+nan_is : (x : Float) → eq x x ≡ false → x ≡ nan
 unfolding ne eq
-is_nan x h = differs_from_itself x (rw h tt)
+nan_is x h = differs_from_itself x (rw h tt)
 
 pub float_to_bits-result : goal.float_to_bits-result
 float_to_bits-result c = not_nan _ c.if-x.true
 
 pub returns-else-x : goal.returns-else-x
 unfolding to_bits
-returns-else-x c = sym (ap (to_bits binary64) (is_nan c.args.x c.if-x.false))
+returns-else-x c = sym (ap (to_bits binary64) (nan_is c.args.x c.if-x.false))

@@ -18,12 +18,12 @@ nan_of nan h = refl
 nan_of (inf s) h = no_both (sym h)
 nan_of (fin s m e) h = no_both (sym h)
 
-is_nan : (n : ℕ) → 9218868437227405312 < n % 9223372036854775808 → nan ≡ of_bits binary64 n
-is_nan n h = nan_of (of_bits binary64 n) (sym (nan_bits_is binary64 n) ∙ nan_bits_above binary64 n ∙ lt-ltb _ _ h)
+nan_is : (n : ℕ) → 9218868437227405312 < n % 9223372036854775808 → nan ≡ of_bits binary64 n
+nan_is n h = nan_of (of_bits binary64 n) (sym (nan_bits_is binary64 n) ∙ nan_bits_above binary64 n ∙ lt-ltb _ _ h)
 
 pub float_from_bits-result : goal.float_from_bits-result
 float_from_bits-result c = not_nan _ c.if-n-le9218868437227405312.true
 
 pub returns-else-n-le9218868437227405312 : goal.returns-else-n-le9218868437227405312
 unfolding div of_bits
-returns-else-n-le9218868437227405312 c = is_nan _ c.if-n-le9218868437227405312.false
+returns-else-n-le9218868437227405312 c = nan_is _ c.if-n-le9218868437227405312.false

@@ -14,4 +14,4 @@ unfolding finite64
 tests s x g f = rw (zero_literal, f) (spread_is binary64 s x (rw g tt))
 
 pub returns : goal.returns
-returns c = tests c.args.spread c.args.x c.well-formed.0.1 c.well-formed.1.0.1
+returns c = tests c.args.spread c.args.x c.well_formed.0.1 c.well_formed.1.0.1

@@ -13,4 +13,4 @@ unfolding finite64
 tests x f = rw (zero_literal, f) (sub_self_is binary64 x)
 
 pub returns : goal.returns
-returns c = tests c.args.x c.well-formed.0.1
+returns c = tests c.args.x c.well_formed.0.1

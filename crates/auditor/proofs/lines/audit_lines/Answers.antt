@@ -22,7 +22,7 @@ pub loop-rest-init : goal.loop-rest-init
 unfolding audit_lines
 loop-rest-init c =
     let r = c in
-    let f : T (fits binary64 r.args.card.start) = search (rules, r.well-formed.1.0.1.1.1.1.1.1.1.1.1.1.1.1.1.1.1.1.1.1.1.1.1.1.1.0) in (
+    let f : T (fits binary64 r.args.card.start) = search (rules, r.well_formed.1.0.1.1.1.1.1.1.1.1.1.1.1.1.1.1.1.1.1.1.1.1.1.1.1.0) in (
       (omega arith, record { most = length r.args.bytes.now; enough = omega arith; gives = rw c.fresh-b.ensures }),
       rw c.fresh-b.ensures (own_fresh r.args.version r.args.card r.requires.0 f),
     )
@@ -79,7 +79,7 @@ pub overflow_add-k : goal.overflow_add-k
 overflow_add-k c =
     let l = c.loop-rest in
     let k : l.k + 1 ≤ length c.args.bytes.now = omega (arith, l.invariant.0.0, c.loop-rest-test.true) in
-    omega (arith, k, c.well-formed)
+    omega (arith, k, c.well_formed)
 
 pub loop-rest-smaller : goal.loop-rest-smaller
 loop-rest-smaller c =
