@@ -2,9 +2,6 @@ use Rattle.card.proofs.Figures.{figures_salts}
 use borrow.Author.Rules.{rules}
 use Rattle.vectors_replays.proofs.levels.energy.Goals as goal
 
-slice-aggregate-calculate-charge-energy-demand :
-    tie.Need-slice-aggregate-calculate-charge-energy-demand
-slice-aggregate-calculate-charge-energy-demand c = search rules
 
 pub calculate_charge_energy_demand-r-requires : goal.calculate_charge_energy_demand-r-requires
 calculate_charge_energy_demand-r-requires c =

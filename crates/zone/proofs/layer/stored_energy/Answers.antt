@@ -10,15 +10,9 @@ use Rattle.zone.proofs.layer.stored_energy.Goals as goal
 pub loop-k-init : goal.loop-k-init
 unfolding stored_energy
 loop-k-init c = (omega arith, refl)
-array-read-calculate-layer-energy-stored :
-    tie.Need-array-read-calculate-layer-energy-stored invariant_loop decreases_loop
-array-read-calculate-layer-energy-stored c = search rules
 
 pub zone_salt-requires : goal.zone_salt-requires
 zone_salt-requires c = c.requires.1.1 _ c.loop-k-test.true
-calculate_layer_energy_stored_requires :
-    tie.Need-calculate-layer-energy-stored-requires invariant_loop decreases_loop
-calculate_layer_energy_stored_requires c κs = search rules
 
 pub loop-k-preserved : goal.loop-k-preserved
 loop-k-preserved c = (
