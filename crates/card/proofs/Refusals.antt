@@ -40,3 +40,4 @@ card_refusal_own r (inr (inl e)) = (λ z. omega arith, λ z. omega arith, λ z. 
 card_refusal_own r (inr (inr (inl e))) = (λ z. omega arith, λ z. omega arith, λ z. omega arith, λ z. omega arith)
 card_refusal_own r (inr (inr (inr (inl e)))) = (λ z. omega arith, λ z. omega arith, λ z. omega arith, λ z. omega arith)
 card_refusal_own r (inr (inr (inr (inr (inl e))))) = (λ z. omega arith, λ z. omega arith, λ z. omega arith, λ z. omega arith)
+card_refusal_own r (inr (inr (inr (inr (inr x5))))) = elim x5 [ ]

@@ -14,7 +14,7 @@ unfolding audit_of
 returns-in-Unfit c =
     let bs = c.args.sheet.now in
     let first = c.byte_or_zero-version in
-    let unfit = card_line_unfit first.result bs (sym c.enum_told-1.given.1 ∙ c.card_line.ensures) in
+    let unfit = card_line_unfit first.result bs (sym c.in-Unfit.is ∙ c.card_line.ensures) in
     rw (← first.ensures) (via_true _ _ (sym c.known_version.ensures ∙ c.if-known_version.true) (via_false _ _ unfit refl))
 
 pub slice_bounds-audit_lines-start : goal.slice_bounds-audit_lines-start
@@ -46,7 +46,7 @@ unfolding audit_of audit_card
 returns-in-Fit c =
     let bs = c.args.sheet.now in
     let first = c.byte_or_zero-version in
-    let fit = card_line_fit first.result bs _ _ (sym c.card-1.given.1 ∙ c.card_line.ensures) in
+    let fit = card_line_fit first.result bs _ _ (sym c.in-Fit.is ∙ c.card_line.ensures) in
     c.audit_lines.ensures
     ∙ rw (rest_of, card_slice first.result bs _ fit.2, fit.1, fit.2, ← first.ensures) (via_true _ _ (sym c.known_version.ensures ∙ c.if-known_version.true) (via_true _ _ fit.0 refl))
 

@@ -8,12 +8,12 @@ pub overflow_mul-result : goal.overflow_mul-result
 overflow_mul-result c = omega (arith, below_accepted _ limit _ c.verdict-1.given.1 c.requires)
 
 pub overflow_add-result : goal.overflow_add-result
-overflow_add-result c = omega (arith, below_refused _ limit _ _ c.verdict-in-Refused-1.given.1 c.requires)
+overflow_add-result c = omega (arith, below_refused _ limit _ _ c.in-Refused.is c.requires)
 
 pub returns-in-Accepted : goal.returns-in-Accepted
 unfolding verdict_word
-returns-in-Accepted c = rw c.verdict-1.given.1
+returns-in-Accepted c = rw c.in-Accepted.is
 
 pub returns-in-Refused : goal.returns-in-Refused
 unfolding verdict_word
-returns-in-Refused c = rw c.verdict-in-Refused-1.given.1
+returns-in-Refused c = rw c.in-Refused.is

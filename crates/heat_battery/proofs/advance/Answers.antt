@@ -64,12 +64,12 @@ pub returns-in-Bad : goal.returns-in-Bad
 unfolding entry_read
 returns-in-Bad c =
     let a = c.args in
-    rw (← (read_by_kind a.version (services_at a.version a.«record».now) a.call.now _ _ _ c.kind_of-kind.ensures c.demand_class-class.ensures c.call_by-read.ensures), c.enum_told-1.given.1) (record { code_is = refl; record_is = refl; sheet_is = refl })
+    rw (← (read_by_kind a.version (services_at a.version a.«record».now) a.call.now _ _ _ c.kind_of-kind.ensures c.demand_class-class.ensures c.call_by-read.ensures), c.in-Bad.is) (record { code_is = refl; record_is = refl; sheet_is = refl })
 
 pub returns-in-Good : goal.returns-in-Good
 unfolding entry_read
 returns-in-Good c =
     let r = c in
     let a = r.args in
-    rw (← (read_by_kind a.version (services_at a.version a.«record».now) a.call.now _ _ _ c.kind_of-kind.ensures c.demand_class-class.ensures c.call_by-read.ensures), c.read-1.given.1, ← (answer_is a.version a.«record».now a.battery c.advance-a.result _ r.requires.1 c.advance-a.ensures))
+    rw (← (read_by_kind a.version (services_at a.version a.«record».now) a.call.now _ _ _ c.kind_of-kind.ensures c.demand_class-class.ensures c.call_by-read.ensures), c.in-Good.is, ← (answer_is a.version a.«record».now a.battery c.advance-a.result _ r.requires.1 c.advance-a.ensures))
     c.enter.ensures

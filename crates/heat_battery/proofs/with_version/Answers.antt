@@ -9,8 +9,8 @@ with_card-requires c = good_card _ _ _ (sym c.record_card-read.ensures ∙ c.rea
 
 pub returns-in-Bad : goal.returns-in-Bad
 unfolding entry_known
-returns-in-Bad c = rw (bad_card_lem _ _ (sym c.record_card-read.ensures ∙ c.enum_told-1.given.1)) (record { code_is = refl; record_is = refl; sheet_is = refl })
+returns-in-Bad c = rw (bad_card_lem _ _ (sym c.record_card-read.ensures ∙ c.in-Bad.is)) (record { code_is = refl; record_is = refl; sheet_is = refl })
 
 pub returns-in-Good : goal.returns-in-Good
 unfolding entry_known
-returns-in-Good c = rw (good_card _ _ _ (sym c.record_card-read.ensures ∙ c.read-1.given.1)).0 c.with_card.ensures
+returns-in-Good c = rw (good_card _ _ _ (sym c.record_card-read.ensures ∙ c.in-Good.is)).0 c.with_card.ensures

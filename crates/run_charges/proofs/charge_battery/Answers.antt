@@ -4,8 +4,8 @@ use Rattle.run_charges.proofs.charge_battery.Goals as goal
 
 pub returns-in-Electric : goal.returns-in-Electric
 unfolding charge_battery
-returns-in-Electric c = rw c.source-1.given.1 c.charge_battery_electric.ensures
+returns-in-Electric c = rw c.in-Electric.is c.charge_battery_electric.ensures
 
 pub returns-in-Wet : goal.returns-in-Wet
 unfolding charge_battery
-returns-in-Wet c = rw c.source-in-Wet-1.given.1 c.charge_battery_hydronic.ensures
+returns-in-Wet c = rw c.in-Wet.is c.charge_battery_hydronic.ensures

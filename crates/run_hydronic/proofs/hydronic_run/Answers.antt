@@ -38,4 +38,4 @@ returns-then-substeps-budget c = as_defined _ _ _ _ (hydronic_over_budget _ _ _ 
 
 pub returns-in-Stop : goal.returns-in-Stop
 returns-in-Stop c =
-    wet-stop c.args.task _ _ _ _ c.loop-substeps.invariant.0 c.if-substeps-steps.false _ _ c.if-substeps-budget.false c.hydronic_step-turn.ensures _ _ c.next-1.given.1 c.loop-substeps.invariant.2
+    wet-stop c.args.task _ _ _ _ c.loop-substeps.invariant.0 c.if-substeps-steps.false _ _ c.if-substeps-budget.false c.hydronic_step-turn.ensures _ _ c.in-Stop.is c.loop-substeps.invariant.2

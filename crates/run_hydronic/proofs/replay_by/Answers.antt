@@ -6,12 +6,12 @@ use Rattle.run_hydronic.proofs.replay_by.Goals as goal
 
 pub returns-in-Nothing : goal.returns-in-Nothing
 unfolding replay_by
-returns-in-Nothing c before zones = rw c.enum_told-1.given.1 (refl, λ h. refl)
+returns-in-Nothing c before zones = rw c.in-Nothing.is (refl, λ h. refl)
 
 pub returns-in-Logarithm : goal.returns-in-Logarithm
 unfolding replay_by
-returns-in-Logarithm c before zones = rw c.enum_told-in-Logarithm-1.given.1 (refl, λ h. absurd (log_refused h))
+returns-in-Logarithm c before zones = rw c.in-Logarithm.is (refl, λ h. absurd (log_refused h))
 
 pub returns-in-NotFinite : goal.returns-in-NotFinite
 unfolding replay_by
-returns-in-NotFinite c before zones = rw c.enum_told-in-NotFinite-1.given.1 (refl, λ h. absurd (finite_refused h))
+returns-in-NotFinite c before zones = rw c.in-NotFinite.is (refl, λ h. absurd (finite_refused h))

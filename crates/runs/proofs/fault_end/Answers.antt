@@ -4,12 +4,12 @@ use Rattle.runs.proofs.fault_end.Goals as goal
 
 pub returns-in-Nothing : goal.returns-in-Nothing
 unfolding fault_end
-returns-in-Nothing c = rw c.enum_told-1.given.1
+returns-in-Nothing c = rw c.in-Nothing.is
 
 pub returns-in-Logarithm : goal.returns-in-Logarithm
 unfolding fault_end
-returns-in-Logarithm c = rw c.enum_told-in-Logarithm-1.given.1
+returns-in-Logarithm c = rw c.in-Logarithm.is
 
 pub returns-in-NotFinite : goal.returns-in-NotFinite
 unfolding fault_end
-returns-in-NotFinite c = rw c.enum_told-in-NotFinite-1.given.1
+returns-in-NotFinite c = rw c.in-NotFinite.is

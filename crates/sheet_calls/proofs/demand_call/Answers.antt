@@ -17,8 +17,8 @@ mark_ok-requires c = omega (arith, demand_fits _ _ c.requires, c.commit_place-co
 
 pub returns-then-all_three : goal.returns-then-all_three
 unfolding demand_call
-returns-then-all_three c = rw (← c.commit_place-commit.ensures, ← c.mark_ok.ensures, ← c.All-three.ensures, ← c.read_demand.ensures) (via_true _ _ c.if-all_three.true refl)
+returns-then-all_three c = rw (← c.commit_place-commit.ensures, ← c.mark_ok.ensures, ← c.all_three.ensures, ← c.read_demand.ensures) (via_true _ _ c.if-all_three.true refl)
 
 pub returns : goal.returns
 unfolding demand_call
-returns c = rw (← c.commit_place-commit.ensures, ← c.mark_ok.ensures, ← c.All-three.ensures) (via_false _ _ c.if-all_three.false refl)
+returns c = rw (← c.commit_place-commit.ensures, ← c.mark_ok.ensures, ← c.all_three.ensures) (via_false _ _ c.if-all_three.false refl)

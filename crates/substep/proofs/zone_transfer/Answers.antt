@@ -5,12 +5,12 @@ use Rattle.substep.proofs.zone_transfer.Goals as goal
 
 pub returns-in-OnlyCharging : goal.returns-in-OnlyCharging
 unfolding zone_transfer logarithms_of shared_transfer
-returns-in-OnlyCharging c = rw c.enum_told-1.given.1
+returns-in-OnlyCharging c = rw c.in-OnlyCharging.is
 
 pub returns-in-Losses : goal.returns-in-Losses
 unfolding zone_transfer logarithms_of shared_transfer
-returns-in-Losses c = rw c.enum_told-in-Losses-1.given.1
+returns-in-Losses c = rw c.in-Losses.is
 
 pub returns-in-Normal : goal.returns-in-Normal
 unfolding zone_transfer logarithms_of shared_transfer counted_transfer
-returns-in-Normal c = rw (c.enum_told-in-Normal-1.given.1, c.per_layer-value.ensures, c.calculate_heat_transfer_kw_per_k-whole.ensures)
+returns-in-Normal c = rw (c.in-Normal.is, c.per_layer-value.ensures, c.calculate_heat_transfer_kw_per_k-whole.ensures)

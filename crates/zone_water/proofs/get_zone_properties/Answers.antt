@@ -4,12 +4,12 @@ use Rattle.zone_water.proofs.get_zone_properties.Goals as goal
 
 pub returns-in-OnlyCharging : goal.returns-in-OnlyCharging
 unfolding zone_properties
-returns-in-OnlyCharging c = rw c.enum_told-1.given.1
+returns-in-OnlyCharging c = rw c.in-OnlyCharging.is
 
 pub returns-in-Losses : goal.returns-in-Losses
 unfolding zone_properties
-returns-in-Losses c = rw (c.enum_told-in-Losses-1.given.1, ← c.max_zero-energy.ensures)
+returns-in-Losses c = rw (c.in-Losses.is, ← c.max_zero-energy.ensures)
 
 pub returns-in-Normal : goal.returns-in-Normal
 unfolding zone_properties
-returns-in-Normal c = rw (c.enum_told-in-Normal-1.given.1, ← c.calculate_outlet_temp_c-outlet.ensures)
+returns-in-Normal c = rw (c.in-Normal.is, ← c.calculate_outlet_temp_c-outlet.ensures)

@@ -34,7 +34,7 @@ pub returns-in-Bad : goal.returns-in-Bad
 returns-in-Bad c =
     let a = c.args in
     let l = c.loop-rest in
-    let read = sym c.line_call.ensures ∙ c.enum_told-1.given.1 in
+    let read = sym c.line_call.ensures ∙ c.in-Bad.is in
     sym (turn_bad same_number a.version (services_at a.version a.line0.now) a.card l.b l.k l.rest.now _ c.loop-rest-test.true l.invariant.0.1 read)
 
 pub advance-own-requires : goal.advance-own-requires

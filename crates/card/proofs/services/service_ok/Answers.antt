@@ -4,4 +4,4 @@ use Rattle.card.proofs.services.service_ok.Goals as goal
 
 pub returns : goal.returns
 unfolding service_ok
-returns c = c.All-three.ensures
+returns c = c.all_three.ensures

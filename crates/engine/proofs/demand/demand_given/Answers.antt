@@ -6,8 +6,8 @@ use Rattle.engine.proofs.demand.demand_given.Goals as goal
 
 pub returns-in-Absent : goal.returns-in-Absent
 unfolding demand_given
-returns-in-Absent c = rw c.enum_told-1.given.1 (settled_refusal _ _ _ _ 20 c.refused_reply.ensures refl)
+returns-in-Absent c = rw c.in-Absent.is (settled_refusal _ _ _ _ 20 c.refused_reply.ensures refl)
 
 pub returns-in-Value : goal.returns-in-Value
 unfolding demand_given
-returns-in-Value c = rw c.given-1.given.1 c.demand_from.ensures
+returns-in-Value c = rw c.in-Value.is c.demand_from.ensures

@@ -11,8 +11,8 @@ checked-requires c = (c.requires.0, plain_refusal c.args.ledger [] [] _ _ _ c.pl
 
 pub returns-in-Above : goal.returns-in-Above
 unfolding demand_to_level
-returns-in-Above c = rw c.enum_told-1.given.1 (settled_refusal _ _ _ _ 25 c.refused_reply.ensures refl)
+returns-in-Above c = rw c.in-Above.is (settled_refusal _ _ _ _ 25 c.refused_reply.ensures refl)
 
 pub returns-in-Level : goal.returns-in-Level
 unfolding demand_to_level
-returns-in-Level c = rw (c.level-1.given.1, ← c.calculate_charge_energy_demand-energy.ensures) (c.checked.ensures _ ∙ ap (checked _) (plain-with c.args.ledger [] _ _ _ _ c.plain_reply-a.ensures))
+returns-in-Level c = rw (c.in-Level.is, ← c.calculate_charge_energy_demand-energy.ensures) (c.checked.ensures _ ∙ ap (checked _) (plain-with c.args.ledger [] _ _ _ _ c.plain_reply-a.ensures))

@@ -11,8 +11,8 @@ checked-requires c = (c.requires, plain_refusal c.args.ledger [] [] _ _ _ c.plai
 
 pub returns-in-Above : goal.returns-in-Above
 unfolding read_level
-returns-in-Above c = rw c.enum_told-1.given.1 (settled_refusal _ _ _ _ 25 c.refused_reply.ensures refl)
+returns-in-Above c = rw c.in-Above.is (settled_refusal _ _ _ _ 25 c.refused_reply.ensures refl)
 
 pub returns-in-Level : goal.returns-in-Level
 unfolding read_level
-returns-in-Level c = rw c.level-1.given.1 (c.checked.ensures _ ∙ ap (checked _) (plain-with c.args.ledger [] _ _ _ _ c.plain_reply-a.ensures))
+returns-in-Level c = rw c.in-Level.is (c.checked.ensures _ ∙ ap (checked _) (plain-with c.args.ledger [] _ _ _ _ c.plain_reply-a.ensures))

@@ -4,16 +4,16 @@ use Rattle.engine_replies.proofs.totals.direct_after.Goals as goal
 
 pub returns-in-Combi : goal.returns-in-Combi
 unfolding direct_after
-returns-in-Combi c = rw c.enum_told-1.given.1
+returns-in-Combi c = rw c.in-Combi.is
 
 pub returns-in-Regular : goal.returns-in-Regular
 unfolding direct_after
-returns-in-Regular c = rw c.enum_told-in-Regular-1.given.1
+returns-in-Regular c = rw c.in-Regular.is
 
 pub returns-in-Space : goal.returns-in-Space
 unfolding direct_after
-returns-in-Space c = rw c.enum_told-in-Space-1.given.1
+returns-in-Space c = rw c.in-Space.is
 
 pub returns-in-Direct : goal.returns-in-Direct
 unfolding direct_after
-returns-in-Direct c = rw c.enum_told-in-Direct-1.given.1
+returns-in-Direct c = rw c.in-Direct.is

@@ -28,7 +28,7 @@ returns-in-Bad c =
     let services = own_services a.version a.count a.numbers.now a.classes.now in
     let good = both_hold c.both.ensures c.is_accepted.ensures c.own_ok.ensures c.if-both.true in
     let read = read_by_kind a.version services a.call.now _ _ _ c.kind_of-kind.ensures c.own_demand_class-class.ensures c.call_by-read.ensures in
-    settled_refusal _ _ _ _ 10 c.refused_reply.ensures refl ∙ ap (advance_read _ _) (sym (sym read ∙ c.enum_told-1.given.1))
+    settled_refusal _ _ _ _ 10 c.refused_reply.ensures refl ∙ ap (advance_read _ _) (sym (sym read ∙ c.in-Bad.is))
     ∙ sym (accepted_listed a.version services (whole a.ledger a.zones.now) a.call.now good.1)
 
 pub returns-in-Good : goal.returns-in-Good
@@ -38,7 +38,7 @@ returns-in-Good c =
     let services = own_services a.version a.count a.numbers.now a.classes.now in
     let good = both_hold c.both.ensures c.is_accepted.ensures c.own_ok.ensures c.if-both.true in
     let read = read_by_kind a.version services a.call.now _ _ _ c.kind_of-kind.ensures c.own_demand_class-class.ensures c.call_by-read.ensures in
-    c.advance_accepted.ensures ∙ ap (advance_read _ _) (sym (sym read ∙ c.read-1.given.1))
+    c.advance_accepted.ensures ∙ ap (advance_read _ _) (sym (sym read ∙ c.in-Good.is))
     ∙ sym (accepted_listed a.version services (whole a.ledger a.zones.now) a.call.now good.1)
 
 pub returns-else-both : goal.returns-else-both
