@@ -15,7 +15,7 @@ import re
 import sys
 
 W = r"[^\s(){}.;,@\"«»\[\]\\:]+"
-SIGNATURE = re.compile(r"\s*((?:pub |abbrev |unfoldable )*)((?:" + W + r" )*" + W + r") : ")
+SIGNATURE = re.compile(r"\s*((?:pub |abbrev |unfoldable )*)((?:" + W + r" )*" + W + r") :(?: |$)")
 RULESET = re.compile(r"\s*(?:pub )?ruleset (" + W + r")")
 TOKEN = re.compile(r"--[^\n]*|" + W)
 
@@ -48,7 +48,7 @@ def declared(paths):
         for line in read(path).split("\n"):
             line = re.sub(r"--.*", "", line)
             m = SIGNATURE.match(line)
-            if m and not line.strip().startswith(("let ", "λ", "in ")):
+            if m and ": goal." not in line and not line.strip().startswith(("let ", "λ", "in ")):
                 into.update(m[2].split())
             m = RULESET.match(line)
             if m:

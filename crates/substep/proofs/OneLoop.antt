@@ -136,14 +136,14 @@ module _ (x : Common) (s : ℕ → Salt) (n : ℕ) (p : Progress) (none : p.ener
         Underway x s n (k + 1) p (set zones j z.temperature) z.outlet z.left z.charged more next
     unfolding zones_after zone_at
     underway-more zones outlet left charged sum more spread next j own z u d r e a t =
-        let g : z ≡ stepped x s n k p = rw (e, r, d, u.same-zones, u.same_outlet, u.same_left, u.same_charged) in
+        let g : z ≡ stepped x s n k p = rw (e, r, d, u.same_zones_lem, u.same_outlet, u.same_left, u.same_charged) in
         record {
-          same_zones_lem = rw (add-one, g, d, u.same-zones);
+          same_zones_lem = rw (add-one, g, d, u.same_zones_lem);
           same_outlet = rw (add-one, g);
           same_left = rw (add-one, g);
           same_charged = rw (add-one, g);
           same_sum = rw (add-one, a, g, u.same_sum) sum_more;
-          same_test = rw (add-one, t, g, d, u.same-zones, u.same_test) tests-more;
+          same_test = rw (add-one, t, g, d, u.same_zones_lem, u.same_test) tests-more;
         }
 
 -- the loop's start from the zones alone, with no energies yet
@@ -188,7 +188,7 @@ module _ (c : Card) (x : Common) (s : ℕ → Salt) (k : ℕ) (d : SubstepInput)
         f ≡ cond (eq spread Constants.zero && (finite64 outlet && (finite64 (sum.s ⊕ sum.c) && finite64 charged.0))) Nothing NotFinite →
         (zones ≡ end.zones) × (◌≡◌ {A = Outcome} (record { outlet = outlet; delivered = kj (sum.s ⊕ sum.c); charged = charged; fault = f; logarithms = logarithms }) (outcome_of (substep_from c taken end)))
     unfolding end outcome_of substep_from progress_fault progress_finite sum2
-    handed_out u g = (u.same-zones, rw (same, g, u.same_test, tests_end, u.same_sum, sum_end, u.same_outlet, u.same_charged))
+    handed_out u g = (u.same_zones_lem, rw (same, g, u.same_test, tests_end, u.same_sum, sum_end, u.same_outlet, u.same_charged))
 
     pub underway-end :
         heat ≡ charger_heat d →

@@ -12,7 +12,7 @@ pub loop-k-init : goal.loop-k-init
 loop-k-init c = (omega arith, unfold zones_after in refl)
 
 pub zone_salt-salt-requires : goal.zone_salt-salt-requires
-zone_salt-salt-requires c = c.requires.1.1 _ c.zone_index-j.ensures.1
+zone_salt-salt-requires c = c.requires.1.1 _ c.zone_index-j.ensures.upper_bound
 
 pub zone_step-z-requires : goal.zone_step-z-requires
 zone_step-z-requires c h e = not_alike e
@@ -20,7 +20,7 @@ zone_step-z-requires c h e = not_alike e
 pub loop-k-preserved : goal.loop-k-preserved
 loop-k-preserved c = (
   omega arith,
-  zones_more _ _ _ _ _ _ _ _ _ c.loop-k.invariant.1 c.zone_index-j.ensures.0 c.zone_salt-salt.ensures c.zone_step-z.ensures,
+  zones_more _ _ _ _ _ _ _ _ _ c.loop-k.invariant.1 c.zone_index-j.ensures.value c.zone_salt-salt.ensures c.zone_step-z.ensures,
 )
 
 pub returns : goal.returns

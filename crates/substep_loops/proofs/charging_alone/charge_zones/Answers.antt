@@ -17,7 +17,7 @@ pub loop-k-init : goal.loop-k-init
 loop-k-init c = (omega arith, (refl, underway-start _ _ _ _ _ _ _))
 
 pub own_salt-salt-requires : goal.own_salt-salt-requires
-own_salt-salt-requires c = (c.requires.1.0.1 _ c.zone_index-j.ensures.1, c.zone_salt-first.ensures)
+own_salt-salt-requires c = (c.requires.1.0.1 _ c.zone_index-j.ensures.upper_bound, c.zone_salt-first.ensures)
 
 pub charging_step-z-requires : goal.charging_step-z-requires
 charging_step-z-requires c =
@@ -40,7 +40,7 @@ loop-k-preserved c =
       omega arith,
       (
         no-more-logarithms _ _ _ _ _ _ _ _ _ step i.loop-k.invariant.1.0,
-        charging-more b.args.common _ _ _ refl p.0 _ i.loop-k-test.true _ _ _ _ _ _ _ _ _ i.zone_index-j.ensures.0 c.own_salt-salt.ensures step c.finite_step-spread.ensures p.1.1.0 i.loop-k.invariant.1.1,
+        charging-more b.args.common _ _ _ refl p.0 _ i.loop-k-test.true _ _ _ _ _ _ _ _ _ i.zone_index-j.ensures.value c.own_salt-salt.ensures step c.finite_step-spread.ensures p.1.1.0 i.loop-k.invariant.1.1,
       ),
     )
 

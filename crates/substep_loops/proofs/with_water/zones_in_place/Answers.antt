@@ -15,7 +15,7 @@ pub loop-k-init : goal.loop-k-init
 loop-k-init c = (omega arith, (refl, underway-start _ _ _ _ _ _ _))
 
 pub own_salt-salt-requires : goal.own_salt-salt-requires
-own_salt-salt-requires c = (c.requires.1.0.1 _ c.zone_index-j.ensures.1, c.zone_salt-first.ensures)
+own_salt-salt-requires c = (c.requires.1.0.1 _ c.zone_index-j.ensures.upper_bound, c.zone_salt-first.ensures)
 
 pub zone_step-z-requires : goal.zone_step-z-requires
 zone_step-z-requires c h e =
@@ -23,17 +23,17 @@ zone_step-z-requires c h e =
     let b = i in
     let first = left_at_first _ _ _ _ _ (ap (λ (q : Kilojoules). lt q.0 zero) (sym i.loop-k.invariant.1.1.same_left) ∙ h) in
     rw c.own_salt-salt.ensures
-    (b.requires.1.1 (ap (λ (q : Kilojoules). lt q.0 zero) (sym i.charger_heat-left.ensures) ∙ first) e _ c.zone_index-j.ensures.1)
+    (b.requires.1.1 (ap (λ (q : Kilojoules). lt q.0 zero) (sym i.charger_heat-left.ensures) ∙ first) e _ c.zone_index-j.ensures.upper_bound)
 
 pub bounds-zones-j-in-loop-k : goal.bounds-zones-j-in-loop-k
 bounds-zones-j-in-loop-k c =
-    let below = c.zone_index-j.ensures.1 in
+    let below = c.zone_index-j.ensures.upper_bound in
     let few = c.requires.0 in
     search rules
 
 pub bounds-zones-j-in-loop-k-2 : goal.bounds-zones-j-in-loop-k-2
 bounds-zones-j-in-loop-k-2 c =
-    let below = c.zone_index-j.ensures.1 in
+    let below = c.zone_index-j.ensures.upper_bound in
     let few = c.requires.0 in
     search rules
 
@@ -51,7 +51,7 @@ loop-k-preserved c =
       omega arith,
       (
         no-more-logarithms _ _ _ _ _ _ _ _ _ step i.loop-k.invariant.1.0,
-        underway-more _ _ _ _ refl i.requires.0 _ i.loop-k-test.true _ _ _ _ _ _ _ _ _ _ _ i.loop-k.invariant.1.1 c.zone_index-j.ensures.0 c.own_salt-salt.ensures step c.sum2_step-sum.ensures c.finite_step-spread.ensures,
+        underway-more _ _ _ _ refl i.requires.0 _ i.loop-k-test.true _ _ _ _ _ _ _ _ _ _ _ i.loop-k.invariant.1.1 c.zone_index-j.ensures.value c.own_salt-salt.ensures step c.sum2_step-sum.ensures c.finite_step-spread.ensures,
       ),
     )
 
