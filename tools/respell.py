@@ -66,7 +66,7 @@ def names(paths):
     new = {}
     for to, olds in taken.items():
         # A definition has the name: in camel case before, or the only one of specs/.
-        first = sorted(olds, key=lambda it: (it not in specs, not re.search(r"[a-z][A-Z]", it), "-" not in it, it))[0]
+        first = sorted(olds, key=lambda it: (it not in specs, not re.search(r"[a-z][A-Z]", it), ("-" in it) == (it in specs), it))[0]
         for it in olds:
             new[it] = to if it == first else to + "_lem"
     fixed = {it: to for it, to in new.items() if it != to}

@@ -32,10 +32,10 @@ module _ (version : ℕ) (b : Battery) where
   battery_accepted_lem a = rw (eq-eqb _ _ a.card, eq-eqb _ _ a.count, true_and a.zones a.totals)
 
 -- a battery of the same card and count, and the same zones above it, is good where its zones and totals are finite
-pub stays-good :
+pub stays_good :
     (version : ℕ) (b c : Battery) → GoodBattery version b → c.card ≡ b.card → c.count ≡ b.count → SameAbove b.card.layers b.zones c.zones →
     zones_finite c.zones c.card.layers ≡ true → totals_finite (totals_of c) ≡ true → GoodBattery version c
-stays-good version b c g same count kept zones totals =
+stays_good version b c g same count kept zones totals =
     let a = accepted_battery version b g.accepted in
     let layers : c.card.layers ≡ b.card.layers = ap (λ k. k.layers) same in
     record {

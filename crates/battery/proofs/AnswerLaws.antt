@@ -62,7 +62,7 @@ unfolding answer_finite numbers_finite refused_with
 refused_finite version r b a = true_and (true_and zero_finite (true_and zero_finite (true_and zero_finite a.totals))) a.zones
 
 -- with finite zones an answer is finite where its other numbers are
-pub numbers-decide :
+pub numbers_decide :
     (l : Ledger) (r : Reply) (zones : List Float) → zones_finite zones l.card.layers ≡ true → answer_finite (answer_with l r zones) ≡ numbers_finite r
 unfolding answer_finite
-numbers-decide l r zones h = rw h (and_with_true (numbers_finite r))
+numbers_decide l r zones h = rw h (and_with_true (numbers_finite r))

@@ -50,12 +50,12 @@ in_range c h =
     let t = and_true (exchanger_in_range c) (powers_in_range c) s.1 in
     (p.0, q.0, r.0, s.0, t.0, t.1)
 
-pub each-temperature :
+pub each_temperature :
     (c : Card) → temperatures_in_range c ≡ true →
     (is_temperature c.inlet ≡ true) × (is_temperature c.outlet ≡ true) × (is_temperature c.max ≡ true) × (is_temperature c.reference ≡ true)
     × (is_temperature c.lower ≡ true) × (is_temperature c.upper ≡ true) × (is_temperature c.start ≡ true)
 unfolding temperatures_in_range
-each-temperature c h =
+each_temperature c h =
     let p = and_true (is_temperature c.inlet) _ h in
     let q = and_true (is_temperature c.outlet) _ p.1 in
     let r = and_true (is_temperature c.max) _ q.1 in

@@ -14,7 +14,7 @@ use Rattle.card.specs.Ranges.{hottest}
 use Rattle.card.specs.declared.Card.{Card}
 use Rattle.card.specs.declared.CardVerdict.TheVariants.{Accepted, OutOfRange, LowerAboveUpper, MaxTooLow, NothingToStore}
 use Rattle.card.specs.Card.{card_in_range, card_verdict, verdict_number, card_refusal}
-use Rattle.card.proofs.Accepted.{in_range, each-temperature}
+use Rattle.card.proofs.Accepted.{in_range, each_temperature}
 use Rattle.card.proofs.Within.{temperature_finite, temperature_magnitude}
 
 number_0 : (a b c d e : Bool) →
@@ -40,12 +40,12 @@ relative_small = tt
 
 module _ (c : Card) (max-fits : T (fits binary64 c.max)) (reference-fits : T (fits binary64 c.reference)) where
   -- above 20, not below ref and not nearly equal to it: two comparisons
-  stores-is :
+  stores_is :
       card_in_range c ≡ true →
       (not (le c.max rated_ambient) && (not (lt c.max c.reference) && not (nearly_equal c.max c.reference tolerance max_relative)))
       ≡ (lt rated_ambient c.max && lt tolerance (c.max ⊖ c.reference))
-  stores-is h =
-      let t = each-temperature c (in_range c h).2 in
+  stores_is h =
+      let t = each_temperature c (in_range c h).2 in
       let m = temperature_finite c.max t.2 max-fits in
       rw (
         clearly_above_is c.max c.reference hottest tolerance max_relative m (temperature_finite c.reference t.3 reference-fits)
@@ -59,4 +59,4 @@ module _ (c : Card) (max-fits : T (fits binary64 c.max)) (reference-fits : T (fi
   unfolding card_refusal card_verdict
   accepted_is version =
       number_0 (card_in_range c) (le c.lower c.upper) (le c.max rated_ambient) (lt c.max c.reference) (nearly_equal c.max c.reference tolerance max_relative)
-      ∙ where_in_range (card_in_range c) (le c.lower c.upper) _ _ stores-is
+      ∙ where_in_range (card_in_range c) (le c.lower c.upper) _ _ stores_is

@@ -24,7 +24,7 @@ use Rattle.card.specs.Derived.{salt_of, salts_of}
 use Rattle.card.specs.Fits.{CardFits}
 use Rattle.card.specs.declared.Card.{Card}
 use Rattle.logic.proofs.Tests.{and_true, holds}
-use Rattle.card.proofs.Accepted.{each-temperature, accepted, accepted_layers}
+use Rattle.card.proofs.Accepted.{each_temperature, accepted, accepted_layers}
 use Rattle.card.proofs.Within.{within_low, within_high, temperature_finite}
 
 -- 0.001 / 64 is above 0, 1e6 / 1 is finite
@@ -90,14 +90,14 @@ capacities c h =
     (p.0, q.0, q.1)
 
 pub start_finite : (version : ℕ) (c : Card) → card_refusal version c ≡ 0 → T (fits binary64 c.start) → T (finite64 c.start)
-start_finite version c h f = temperature_finite c.start (each-temperature c (accepted version c h).temperatures).6 f
+start_finite version c h f = temperature_finite c.start (each_temperature c (accepted version c h).temperatures).6 f
 
 salt_good : (version : ℕ) (c : Card) → card_refusal version c ≡ 0 → CardFits c → GoodSalt (salt_of c)
 unfolding salt_of
 salt_good version c h f =
     let a = accepted version c h in
     let n = accepted_layers version c h in
-    let m = each-temperature c a.temperatures in
+    let m = each_temperature c a.temperatures in
     let k = capacities c a.capacities in
     record {
       lower_finite = temperature_finite c.lower m.4 f.lower;

@@ -24,7 +24,7 @@ use Rattle.battery.proofs.AnswerLaws.{refused_finite}
 use Rattle.battery.proofs.Zones.{same_above}
 use Rattle.engine.specs.Steps.{step_of, advance_of}
 use Rattle.engine.proofs.Promises.{refusal_line, refused_number}
-use Rattle.engine.proofs.StepKeeps.{step_refusals, step_mark, answer_shape, step_keeps_card, step_keeps_above, refused_line_lem, asking_keeps_state, answered_finite, charge-adds-energy, charged_stays, step_keeps_good, answer_finite_lem, count_within_budget}
+use Rattle.engine.proofs.StepKeeps.{step_refusals, step_mark, answer_shape, step_keeps_card, step_keeps_above, refused_line_lem, asking_keeps_state, answered_finite, charge_adds_energy, charged_stays, step_keeps_good, answer_finite_lem, count_within_budget}
 
 module _ (version : ℕ) (b : Battery) (call : Call) where
   -- the step, where 10 accepts the battery and the call
@@ -58,10 +58,10 @@ module _ (version : ℕ) (b : Battery) (call : Call) where
   line : RefusalLine b (refused_with 10 b)
   line = refusal_line 10 b (refused_with 10 b) refl
 
-  pub advance-refusals :
+  pub advance_refusals :
       ((advance_of version b call).refusal ≡ 0) ⊎ (((advance_of version b call).refusal ≡ 10) ⊎ ((20 ≤ (advance_of version b call).refusal) × ((advance_of version b call).refusal ≤ 25)))
   unfolding refused_with
-  advance-refusals =
+  advance_refusals =
       by_step (λ (a : Answer). (a.refusal ≡ 0) ⊎ ((a.refusal ≡ 10) ⊎ ((20 ≤ a.refusal) × (a.refusal ≤ 25)))) (on (step_refusals version b call)) (inr (inl refl))
     where
       on :
@@ -117,11 +117,11 @@ module _ (version : ℕ) (b : Battery) (call : Call) where
       let e = advance_answered h in
       ap answer_finite e ∙ answered_finite version b call (sym (ap (λ (a : Answer). a.refusal) e) ∙ h)
 
-  pub advance-charge-adds-energy :
+  pub advance_charge_adds_energy :
       is_charge call ≡ true → (advance_of version b call).refusal ≡ 0 → (advance_of version b call).battery.charged ≡ b.charged ⊕ (advance_of version b call).energy
-  advance-charge-adds-energy c h =
+  advance_charge_adds_energy c h =
       let e = advance_answered h in
-      rw e (charge-adds-energy version b call c (sym (ap (λ (a : Answer). a.refusal) e) ∙ h))
+      rw e (charge_adds_energy version b call c (sym (ap (λ (a : Answer). a.refusal) e) ∙ h))
 
   pub advance_charged_stays : (is_charge call ≡ true → (advance_of version b call).refusal ≡ 0 → ⊥) → (advance_of version b call).battery.charged ≡ b.charged
   advance_charged_stays =

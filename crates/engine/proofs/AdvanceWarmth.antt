@@ -22,7 +22,7 @@ use Rattle.engine.specs.Steps.{advance_of}
 use Rattle.engine.proofs.AdvanceKeeps.{by_step}
 use Rattle.engine.proofs.OverBudget.{over_budget_only}
 use Rattle.engine.proofs.Promises.{refused_number}
-use Rattle.engine.proofs.Warmth.{as_before, loss_warms_none, electric-cools-none}
+use Rattle.engine.proofs.Warmth.{as_before, loss_warms_none, electric_cools_none}
 
 module _ (version : ℕ) (b : Battery) (g : GoodBattery version b) (f : CardFits b.card) (i : ℕ) (l : i < b.card.layers) where
   pub advance_loss_warms_none : T (le (get_or (advance_of version b HeatLoss).battery.zones i nan) (get_or b.zones i nan))
@@ -36,7 +36,7 @@ module _ (version : ℕ) (b : Battery) (g : GoodBattery version b) (f : CardFits
   advance_electric_cools_none power target =
       let call = ChargeElectric power target in
       by_test (λ (a : Answer). T (le (get_or b.zones i nan) (get_or a.battery.zones i nan))) (battery_accepted version b && call_in_range version b.card call) _ _
-      (λ t. electric-cools-none version b g f power target (and_true (battery_accepted version b) (call_in_range version b.card call) (is_true _ t)).1 i l)
+      (λ t. electric_cools_none version b g f power target (and_true (battery_accepted version b) (call_in_range version b.card call) (is_true _ t)).1 i l)
       (λ t. as_before version b g f i l)
 
 pub advance_over_budget_only : (version : ℕ) (b : Battery) (call : Call) → (advance_of version b call).refusal ≡ 22 → BudgetUsed b call

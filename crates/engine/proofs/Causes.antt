@@ -89,11 +89,11 @@ module _ (n : ℕ) (l : 22 ≤ n) (b : Battery) where
   level_refuses (inl w) = rw w.1 (refused_number 25 b ∙ sym w.0)
   level_refuses (inr w) = rw w.1.read (checked_refuses (plain_answer w.1.soc b) w.0 w.1.found)
 
-  to-level-refuses :
+  to_level_refuses :
       (most : Given) (target : Float) → LevelWhy n b (λ soc. (charge_energy_demand b.card most target soc).0) → (demand_to_level b most target (level b)).refusal ≡ n
   unfolding demand_to_level
-  to-level-refuses most target (inl w) = rw w.1 (refused_number 25 b ∙ sym w.0)
-  to-level-refuses most target (inr w) =
+  to_level_refuses most target (inl w) = rw w.1 (refused_number 25 b ∙ sym w.0)
+  to_level_refuses most target (inr w) =
       rw w.1.read (checked_refuses (plain_answer (charge_energy_demand b.card most target w.1.soc).0 b) w.0 w.1.found)
 
   charge_refuses : (version : ℕ) (source : Source) (target : Float) → ChargeWhy n version b source target → (charge version b source target).refusal ≡ n
@@ -116,7 +116,7 @@ why_refuses n l version b (ChargeHydronic h) i runs w = charge_refuses n l b ver
 why_refuses n l version b HeatLoss i runs w = loss_refuses n l b w
 why_refuses n l version b CloseTimestep i runs w = checked_refuses n l b (plain_answer zero (closed_battery b)) w.0 w.1
 why_refuses n l version b ReadStateOfCharge i runs w = level_refuses n l b w
-why_refuses n l version b (ChargeEnergyDemand most target) i runs w = to-level-refuses n l b most target w
+why_refuses n l version b (ChargeEnergyDemand most target) i runs w = to_level_refuses n l b most target w
 
 -- ---- from the case to the cause
 

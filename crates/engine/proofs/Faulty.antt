@@ -174,9 +174,9 @@ unfolding demand_substep outcome_of
 demand_told x salts s = told_by x s (demand_from_run x salts s) (demand_from_run x salts s).fault refl
 
 module _ (x : DemandTask) (salts : ℕ → Salt) where
-  demand-stops :
+  demand_stops :
       (s : Zoned DemandState) (e : End) → (demand_substep x salts s).part.next ≡ Stop e → (end_fault e ≡ Nothing → ⊥) → (demand_from_run x salts (on_part turn_state (demand_substep x salts s))).fault ≡ end_fault e
-  demand-stops s e h q =
+  demand_stops s e h q =
       let k = demand_told x salts s in
       let r : next_fault (demand_substep x salts s).part.next ≡ Nothing → ⊥ = λ z. q (sym (ap next_fault h) ∙ z) in
       subst (λ (v : Zoned DemandState). (demand_from_run x salts v).fault ≡ end_fault e) (sym (k.same r)) (k.fault r ∙ ap next_fault h)
@@ -186,7 +186,7 @@ module _ (x : DemandTask) (salts : ℕ → Salt) where
       demand_induction x salts (λ k n s d. (end_fault d.part.end ≡ Nothing → ⊥) → (demand_from_run x salts (on_part end_state d)).fault ≡ end_fault d.part.end)
       (λ k n s q. absurd (q refl))
       (λ n s h q. absurd (q refl))
-      (λ k n s e h q. demand-stops s e h q)
+      (λ k n s e h q. demand_stops s e h q)
       (λ k n s d h r q. r q)
 
 record HydronicTold (x : HydronicTask) (salts : ℕ → Salt) (s : Zoned HydronicState) (u : Substep) (t : Zoned HydronicTurn) : Type 0 where
@@ -204,11 +204,11 @@ module _ (x : HydronicTask) (salts : ℕ → Salt) (n : ℕ) (s : Zoned Hydronic
     told_replay Logarithm h = record { same = λ q. refl; fault = λ q. inr (record { due = w; fault = h }) }
     told_replay NotFinite h = record { same = λ q. refl; fault = λ q. inr (record { due = w; fault = h }) }
 
-  told-replayed :
+  told_replayed :
       FractionDue x s.part u →
       Told (replayed x salts n s (fraction_seconds x (absorbed_with s.part u) (heat_of u)) (reynold_between x.wet.inlet u.outlet x.wet.velocity x.wet.diameter))
   unfolding replayed outcome_of
-  told-replayed w =
+  told_replayed w =
       by_test Told (eqb n x.card.budget) _ _
       (λ h. record { same = λ q. absurd (q refl); fault = λ q. absurd (q refl) })
       (λ h. told_replay w _ _ (fraction_from x salts s u).fault refl)
@@ -219,7 +219,7 @@ module _ (x : HydronicTask) (salts : ℕ → Salt) (n : ℕ) (s : Zoned Hydronic
       by_test Told (clearly_below u.outlet x.wet.inlet) _ _
       (λ a. by_test Told (limit_reached (absorbed_with s.part u) x.limit) _ _
       (λ b. by_test Told (lt Constants.zero (heat_of u).0) _ _
-      (λ c. told-replayed (record { worked = w; below = a; passed = b; heat = c }))
+      (λ c. told_replayed (record { worked = w; below = a; passed = b; heat = c }))
       (λ c. record { same = λ q. absurd (q refl); fault = λ q. absurd (q refl) }))
       (λ b. record { same = λ q. absurd (q refl); fault = λ q. absurd (q refl) }))
       (λ a. record { same = λ q. absurd (q refl); fault = λ q. absurd (q refl) })
@@ -258,6 +258,6 @@ module _ (x : HydronicTask) (salts : ℕ → Salt) where
   at_test s f q (inr w) =
       inr (record { due = w.due; fault = substep_fault x.card x.pcm salts (fraction_input x s.part (whole_from x salts s)) s.zones f q w.fault })
 
-  pub hydronic-run-faults :
+  pub hydronic_run_faults :
       (k n : ℕ) (s : Zoned HydronicState) → (end_fault (hydronic_run x salts k n s).part.end ≡ Nothing → ⊥) → HydronicFault (end_fault (hydronic_run x salts k n s).part.end) x salts (on_part hydronic_end_state (hydronic_run x salts k n s))
-  hydronic-run-faults k n s q = at_test (on_part hydronic_end_state (hydronic_run x salts k n s)) (end_fault (hydronic_run x salts k n s).part.end) q (hydronic_ends k n s q)
+  hydronic_run_faults k n s q = at_test (on_part hydronic_end_state (hydronic_run x salts k n s)) (end_fault (hydronic_run x salts k n s).part.end) q (hydronic_ends k n s q)

@@ -114,13 +114,13 @@ module _ (x : HydronicTask) (salts : ℕ → Salt) (n : ℕ) (s : Zoned Hydronic
   abbrev WetFinite : Zoned HydronicTurn → Type 0
   WetFinite t = Finite x.card.layers t.zones
 
-  replay-by-finite :
+  replay_by_finite :
       (m : ℕ) (seconds reynold : Float) (u : Substep) → (u.fault ≡ Nothing → Finite x.card.layers u.zones) → (f : Fault) → u.fault ≡ f →
       WetFinite (replay_by x m s seconds reynold (outcome u) f)
   unfolding replay_by
-  replay-by-finite m seconds reynold u g Nothing e = g e
-  replay-by-finite m seconds reynold u g Logarithm e = h
-  replay-by-finite m seconds reynold u g NotFinite e = h
+  replay_by_finite m seconds reynold u g Nothing e = g e
+  replay_by_finite m seconds reynold u g Logarithm e = h
+  replay_by_finite m seconds reynold u g NotFinite e = h
 
   replay_finite : (seconds reynold : Float) → WetFinite (replayed x salts n s seconds reynold)
   unfolding replayed outcome_of
@@ -128,7 +128,7 @@ module _ (x : HydronicTask) (salts : ℕ → Salt) (n : ℕ) (s : Zoned Hydronic
       let u = process_heat_battery_zones x.card x.pcm salts (wet_input x seconds reynold) s.zones in
       by_test WetFinite (eqb n x.card.budget) _ _
       (λ b. h)
-      (λ b. replay-by-finite (n + 1) seconds reynold u (substep_finite x.card x.pcm salts (wet_input x seconds reynold) s.zones) u.fault refl)
+      (λ b. replay_by_finite (n + 1) seconds reynold u (substep_finite x.card x.pcm salts (wet_input x seconds reynold) s.zones) u.fault refl)
 
   whole_finite : (u : Substep) → Finite x.card.layers u.zones → WetFinite (hydronic_whole x salts n s (outcome u))
   unfolding hydronic_whole outcome_of
@@ -148,21 +148,21 @@ module _ (x : HydronicTask) (salts : ℕ → Salt) (n : ℕ) (s : Zoned Hydronic
   hydronic_by_finite u g Logarithm e = h
   hydronic_by_finite u g NotFinite e = h
 
-hydronic-turn-finite :
+hydronic_turn_finite :
     (x : HydronicTask) (salts : ℕ → Salt) (n : ℕ) (s : Zoned HydronicState) → Finite x.card.layers s.zones → Finite x.card.layers (hydronic_step x salts n s).zones
 unfolding hydronic_step outcome_of
-hydronic-turn-finite x salts n s h =
+hydronic_turn_finite x salts n s h =
     hydronic_by_finite x salts (n + 1) s h (whole_from x salts s)
     (substep_finite x.card x.pcm salts (wet_input x x.card.substep s.part.reynold) s.zones) (whole_from x salts s).fault refl
 
-pub hydronic-run-finite :
+pub hydronic_run_finite :
     (x : HydronicTask) (salts : ℕ → Salt) (k n : ℕ) (s : Zoned HydronicState) → Finite x.card.layers s.zones → Finite x.card.layers (hydronic_run x salts k n s).zones
-hydronic-run-finite x salts =
+hydronic_run_finite x salts =
     hydronic_induction x salts (λ k n s d. Finite x.card.layers s.zones → Finite x.card.layers d.zones)
     (λ n s h. h)
     (λ k n s p h. h)
-    (λ k n s e q p h. hydronic-turn-finite x salts n s h)
-    (λ k n s d q p r h. r (hydronic-turn-finite x salts n s h))
+    (λ k n s e q p h. hydronic_turn_finite x salts n s h)
+    (λ k n s d q p r h. r (hydronic_turn_finite x salts n s h))
 
 -- the calls' runs
 
@@ -180,14 +180,14 @@ module _ (b : Battery) where
     unfolding charge_hydronic hydronic_ended hydronic_task hydronic_start
     hydronic_finite wet target =
         let x = hydronic_task b.card wet target in
-        hydronic-run-finite x (salt_at (salts_of b.card)) (whole_substeps x) 0 (zoned (hydronic_start b.card wet) b.zones) h
+        hydronic_run_finite x (salt_at (salts_of b.card)) (whole_substeps x) 0 (zoned (hydronic_start b.card wet) b.zones) h
 
-    pub charge-leaves-finite :
+    pub charge_leaves_finite :
         (source : Source) (target : Float) → end_refusal (charge_battery b source target).part.end ≡ 0 →
         zones_finite (charge_battery b source target).zones b.card.layers ≡ true
     unfolding charge_battery
-    charge-leaves-finite (Electric power) target e = electric_finite power target e
-    charge-leaves-finite (Wet wet) target e = hydronic_finite wet target
+    charge_leaves_finite (Electric power) target e = electric_finite power target e
+    charge_leaves_finite (Wet wet) target e = hydronic_finite wet target
 
     -- however it ended
     pub demand_leaves_finite : (d : Demand) (feed : Float) → zones_finite (demand_ran b d feed).zones b.card.layers ≡ true
@@ -195,7 +195,7 @@ module _ (b : Battery) where
     demand_leaves_finite d feed = demand_run_finite (demand_task (ledger_of b) d feed) (salt_at (salts_of b.card)) b.card.budget 0 (zoned (demand_start (ledger_of b)) b.zones) h
 
 -- where the run's zones lie apart, those that it left
-pub left-finite :
+pub left_finite :
     (n : ℕ) (zones : List Float) (s : Stopped) (e : Zoned Stopped) → AsDefined (end_refusal s.end) s zones e → (end_refusal e.part.end ≡ 0 → zones_finite e.zones n ≡ true) →
     end_refusal s.end ≡ 0 → zones_finite zones n ≡ true
-left-finite n zones s e same f h = rw (same.1 h) (f (ap end_refusal (run_end zones s e same) ∙ h))
+left_finite n zones s e same f h = rw (same.1 h) (f (ap end_refusal (run_end zones s e same) ∙ h))

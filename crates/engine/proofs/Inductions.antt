@@ -28,18 +28,18 @@ module _
     (over : (n : ℕ) (s : Zoned DemandState) → T (lt Constants.zero s.part.step) → P zero n s (demand_end s OverBudget n))
     (stop : (k n : ℕ) (s : Zoned DemandState) (e : End) → (demand_substep x salts s).part.next ≡ Stop e → P (suc k) n s (demand_end (on_part turn_state (demand_substep x salts s)) e (n + 1)))
     (on : (k n : ℕ) (s : Zoned DemandState) (d : Zoned DemandEnd) → (demand_substep x salts s).part.next ≡ On → P k (n + 1) (on_part turn_state (demand_substep x salts s)) d → P (suc k) n s d) where
-  demand-turned :
+  demand_turned :
       (k n : ℕ) (s : Zoned DemandState) → P k (n + 1) (on_part turn_state (demand_substep x salts s)) (demand_run x salts k (n + 1) (on_part turn_state (demand_substep x salts s))) →
       (e : Next) → (demand_substep x salts s).part.next ≡ e → P (suc k) n s (demand_then (demand_run x salts k (n + 1)) (n + 1) (on_part turn_state (demand_substep x salts s)) e)
-  demand-turned k n s r On h = on k n s _ h r
-  demand-turned k n s r (Stop e) h = stop k n s e h
+  demand_turned k n s r On h = on k n s _ h r
+  demand_turned k n s r (Stop e) h = stop k n s e h
 
   pub demand_induction : (k n : ℕ) (s : Zoned DemandState) → P k n s (demand_run x salts k n s)
   unfolding demand_run
   demand_induction zero n s = by_test (P zero n s) (lt Constants.zero s.part.step) _ _ (over n s) (λ h. no_step zero n s)
   demand_induction (suc k) n s =
       by_test (P (suc k) n s) (lt Constants.zero s.part.step) _ _
-      (λ h. demand-turned k n s (demand_induction k (n + 1) (on_part turn_state (demand_substep x salts s))) (demand_substep x salts s).part.next refl)
+      (λ h. demand_turned k n s (demand_induction k (n + 1) (on_part turn_state (demand_substep x salts s))) (demand_substep x salts s).part.next refl)
       (λ h. no_step (suc k) n s)
 
 -- of the whole substeps left, the substeps done, the run and its end
@@ -51,12 +51,12 @@ module _
     P (suc k) n s (hydronic_end (on_part hydronic_state (hydronic_step x salts n s)) e (hydronic_step x salts n s).part.substeps))
     (on : (k n : ℕ) (s : Zoned HydronicState) (d : Zoned HydronicEnd) → (n ≡ x.card.budget → ⊥) → (hydronic_step x salts n s).part.next ≡ On →
     P k (hydronic_step x salts n s).part.substeps (on_part hydronic_state (hydronic_step x salts n s)) d → P (suc k) n s d) where
-  hydronic-turned :
+  hydronic_turned :
       (k n : ℕ) (s : Zoned HydronicState) → (n ≡ x.card.budget → ⊥) →
       P k (hydronic_step x salts n s).part.substeps (on_part hydronic_state (hydronic_step x salts n s)) (hydronic_run x salts k (hydronic_step x salts n s).part.substeps (on_part hydronic_state (hydronic_step x salts n s))) →
       (e : Next) → (hydronic_step x salts n s).part.next ≡ e → P (suc k) n s (hydronic_then (hydronic_run x salts k) (on_part hydronic_state (hydronic_step x salts n s)) e (hydronic_step x salts n s).part.substeps)
-  hydronic-turned k n s q r On h = on k n s _ q h r
-  hydronic-turned k n s q r (Stop e) h = stop k n s e q h
+  hydronic_turned k n s q r On h = on k n s _ q h r
+  hydronic_turned k n s q r (Stop e) h = stop k n s e q h
 
   pub hydronic_induction : (k n : ℕ) (s : Zoned HydronicState) → P k n s (hydronic_run x salts k n s)
   unfolding hydronic_run
@@ -64,5 +64,5 @@ module _
   hydronic_induction (suc k) n s =
       by_test (P (suc k) n s) (eqb n x.card.budget) _ _
       (λ h. over k n s (eqb→eq n x.card.budget h))
-      (λ h. hydronic-turned k n s (eqb-false n x.card.budget h)
+      (λ h. hydronic_turned k n s (eqb-false n x.card.budget h)
       (hydronic_induction k (hydronic_step x salts n s).part.substeps (on_part hydronic_state (hydronic_step x salts n s))) (hydronic_step x salts n s).part.next refl)

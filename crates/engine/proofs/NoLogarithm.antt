@@ -33,7 +33,7 @@ use Rattle.engine.specs.Steps.{demand_run_of, demand_ran, demand_task, wet_sourc
 use Rattle.engine.specs.Budget.{hydronic_task_of, hydronic_run_of}
 use Rattle.engine.specs.Faults.{DemandFaulted, HydronicFaulted, NoLogarithmTaken}
 use Rattle.engine.proofs.Turns.{never}
-use Rattle.engine.proofs.Faulty.{logarithm_only, substep_fault, demand_from_run, end_fault, demand_run_faults, hydronic-run-faults}
+use Rattle.engine.proofs.Faulty.{logarithm_only, substep_fault, demand_from_run, end_fault, demand_run_faults, hydronic_run_faults}
 use Rattle.engine.proofs.Refused.{RunWhy, LevelWhy, Why, refused_why}
 
 -- the ends of the two faults, by their numbers
@@ -84,29 +84,29 @@ module _ (f : Fault) (some : f ≡ Nothing → ⊥) where
   end_of_fault NoLogarithm h = ap fault_end h
   end_of_fault NotFiniteRun h = ap fault_end h
 
-  demand-faulty :
+  demand_faulty :
       (b : Battery) (d : Demand) (feed : Float) → end_fault (demand_ran b d feed).part.end ≡ f →
       (demand_from_run (demand_task (ledger_of b) d feed) (salt_at (salts_of b.card)) (on_part end_state (demand_run_of b d feed))).fault ≡ f
   unfolding demand_ended
-  demand-faulty b d feed h =
+  demand_faulty b d feed h =
       demand_run_faults (demand_task (ledger_of b) d feed) (salt_at (salts_of b.card)) b.card.budget 0 (zoned (demand_start (ledger_of b)) b.zones) (λ z. some (sym h ∙ z)) ∙ h
 
   demand_ended_lem : (b : Battery) (d : Demand) (feed : Float) → end_fault (demand_ran b d feed).part.end ≡ f → (demand_run_of b d feed).part.end ≡ fault_end f
   unfolding demand_ended
   demand_ended_lem b d feed h = end_of_fault (demand_run_of b d feed).part.end h
 
-  pub demand-faults :
+  pub demand_faults :
       (b : Battery) (d : Demand) → le d.required tolerance ≡ false → (feed : Float) → d.feed ≡ Value feed →
       end_fault (demand_ran b d feed).part.end ≡ f → DemandFaulted f b d
   unfolding demand_task
-  demand-faults b d asked feed given h =
+  demand_faults b d asked feed given h =
       let e = demand_run_of b d feed in
       record {
         asked = asked;
         feed = feed;
         given = given;
         ended = demand_ended_lem b d feed h;
-        fault = substep_fault b.card (derived b.card) (salt_at (salts_of b.card)) (demand_input (demand_task (ledger_of b) d feed) e.part.state) e.zones f some (demand-faulty b d feed h);
+        fault = substep_fault b.card (derived b.card) (salt_at (salts_of b.card)) (demand_input (demand_task (ledger_of b) d feed) e.part.state) e.zones f some (demand_faulty b d feed h);
       }
 
   pub hydronic_faults : (b : Battery) (h : Hydronic) → end_fault (charge_battery b (wet_source h) h.target).part.end ≡ f → HydronicFaulted f b h
@@ -115,7 +115,7 @@ module _ (f : Fault) (some : f ≡ Nothing → ⊥) where
       let x = hydronic_task_of b h in
       record {
         ended = end_of_fault (hydronic_run_of b h).part.end e;
-        fault = rw e at (hydronic-run-faults x (salt_at (salts_of b.card)) (whole_substeps x) 0 (zoned (hydronic_start b.card (wet_of h)) b.zones) (λ z. some (sym e ∙ z)));
+        fault = rw e at (hydronic_run_faults x (salt_at (salts_of b.card)) (whole_substeps x) 0 (zoned (hydronic_start b.card (wet_of h)) b.zones) (λ z. some (sym e ∙ z)));
       }
 
 pub some_logarithm : Logarithm ≡ Nothing → ⊥
@@ -135,7 +135,7 @@ run_24 end a (inr w) = let n = w.0 in absurd (omega arith)
 demand_24 : (version : ℕ) (b : Battery) (d : Demand) → Why 24 version b (DemandEnergy d) → DemandFaulted Logarithm b d
 demand_24 version b d (inl w) = let n = w.0 in absurd (omega arith)
 demand_24 version b d (inr w) =
-    demand-faults Logarithm some_logarithm b d w.asked w.feed w.given (run_24 _ _ w.why)
+    demand_faults Logarithm some_logarithm b d w.asked w.feed w.given (run_24 _ _ w.why)
 
 level_24 : (b : Battery) (energy : Float → Float) → LevelWhy 24 b energy → ⊥
 level_24 b energy (inl w) = let n = w.0 in omega arith

@@ -22,7 +22,7 @@ use Rattle.engine.specs.Steps.{demand_ran, step_of}
 use Rattle.engine.specs.Faults.{SubstepFault, AnswerNotFinite, LevelNotFinite, NotFiniteFound}
 use Rattle.engine.proofs.Turns.{never}
 use Rattle.engine.proofs.Faulty.{substep_fault, end_fault}
-use Rattle.engine.proofs.NoLogarithm.{end_fault_23, fault_of_end, demand-faults, hydronic_faults}
+use Rattle.engine.proofs.NoLogarithm.{end_fault_23, fault_of_end, demand_faults, hydronic_faults}
 use Rattle.engine.proofs.Refused.{RunWhy, DemandWhy, LevelWhy, Why, refused_why}
 
 some_not_finite : NotFinite ≡ Nothing → ⊥
@@ -39,22 +39,22 @@ level_23 b energy (inr w) = w.1
 
 module _ (version : ℕ) (b : Battery) where
   module _ (d : Demand) (w : DemandWhy 23 b d) where
-    demand-run-23 :
+    demand_run_23 :
         RunWhy 23 (demand_ran b d w.feed).part.end (demand_answer b d (demand_ran b d w.feed)) → NotFiniteFound version b (DemandEnergy d)
-    demand-run-23 (inl h) =
+    demand_run_23 (inl h) =
         let e = end_fault_23 (demand_ran b d w.feed).part.end h in
-        inl (demand-faults NotFinite some_not_finite b d w.asked w.feed w.given e)
-    demand-run-23 (inr v) = inr (inl (record { asked = w.asked; feed = w.feed; given = w.given; answer = v.1 }))
+        inl (demand_faults NotFinite some_not_finite b d w.asked w.feed w.given e)
+    demand_run_23 (inr v) = inr (inl (record { asked = w.asked; feed = w.feed; given = w.given; answer = v.1 }))
 
   demand_23 : (d : Demand) → Why 23 version b (DemandEnergy d) → NotFiniteFound version b (DemandEnergy d)
   demand_23 d (inl w) = inr (inr w.1)
-  demand_23 d (inr w) = demand-run-23 d w w.why
+  demand_23 d (inr w) = demand_run_23 d w w.why
 
-  electric-23 :
+  electric_23 :
       (power target : Float) → end_fault (charge_battery b (Electric power) target).part.end ≡ NotFinite →
       SubstepFault NotFinite b.card (derived b.card) (salt_at (salts_of b.card)) (electric_input (ledger_of b) power target) b.zones
   unfolding charge_battery charge_electric electric_ended outcome_of
-  electric-23 power target h =
+  electric_23 power target h =
       substep_fault b.card (derived b.card) (salt_at (salts_of b.card)) (electric_input (ledger_of b) power target) b.zones NotFinite some_not_finite (sym (fault_of_end _) ∙ h)
 
   loss_23 : end_fault (battery_heat_loss b).part.end ≡ NotFinite → SubstepFault NotFinite b.card (derived b.card) (salt_at (salts_of b.card)) (loss_input b.card) b.zones
@@ -63,7 +63,7 @@ module _ (version : ℕ) (b : Battery) where
 
 why_23 : (version : ℕ) (b : Battery) (call : Call) → Why 23 version b call → NotFiniteFound version b call
 why_23 version b (DemandEnergy d) w = demand_23 version b d w
-why_23 version b (ChargeElectric power target) w = run_23 _ _ (electric-23 version b power target) w
+why_23 version b (ChargeElectric power target) w = run_23 _ _ (electric_23 version b power target) w
 why_23 version b (ChargeHydronic h) w = run_23 _ _ (hydronic_faults NotFinite some_not_finite b h) w
 why_23 version b HeatLoss w = run_23 _ _ (loss_23 version b) w
 why_23 version b CloseTimestep w = w.1

@@ -12,7 +12,7 @@ use Rattle.battery.specs.Shape.{RefusalLine}
 use Rattle.battery.specs.Places.{SameAbove}
 use Rattle.battery.specs.declared.Battery.{Battery}
 use Rattle.battery.specs.declared.Answer.{Answer}
-use Rattle.battery.proofs.Accepted.{accepted_battery, stays-good}
+use Rattle.battery.proofs.Accepted.{accepted_battery, stays_good}
 use Rattle.battery.proofs.AnswerLaws.{finite_answer, refused_finite}
 use Rattle.battery.proofs.Zones.{same_above}
 use Rattle.engine.proofs.Outcomes.{Outcome, refused, answered}
@@ -87,7 +87,7 @@ module _ (b : Battery) (charges asks : Bool) (a : Answer) where
     outcome_good (refused r low high e) = rw (refusal_line r b a e).battery g
     outcome_good (answered f k) =
         let n = finite_answer a f in
-        stays-good version b a.battery g k.state.card k.state.count k.state.above n.zones n.totals
+        stays_good version b a.battery g k.state.card k.state.count k.state.above n.zones n.totals
 
     pub outcome_all_finite : Outcome b charges asks a → answer_finite a ≡ true
     outcome_all_finite (refused r low high e) = rw e (refused_finite version r b (accepted_battery version b g.accepted))

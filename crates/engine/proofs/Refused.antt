@@ -114,12 +114,12 @@ module _ (n : ℕ) (l : 22 ≤ n) (b : Battery) where
       let w = checked_why (plain_answer soc b) (plain_answers soc b) h in
       inr (w.0, record { soc = soc; read = e; found = w.1 })
 
-  to-level-why :
+  to_level_why :
       (most : Given) (target : Float) (s : StateOfCharge) → level b ≡ s → (demand_to_level b most target s).refusal ≡ n →
       LevelWhy n b (λ soc. (charge_energy_demand b.card most target soc).0)
   unfolding demand_to_level
-  to-level-why most target Above e h = inl (sym h ∙ refused_number 25 b, e)
-  to-level-why most target (Level soc) e h =
+  to_level_why most target Above e h = inl (sym h ∙ refused_number 25 b, e)
+  to_level_why most target (Level soc) e h =
       let g = (charge_energy_demand b.card most target soc).0 in
       let w = checked_why (plain_answer g b) (plain_answers g b) h in
       inr (w.0, record { soc = soc; read = e; found = w.1 })
@@ -132,4 +132,4 @@ refused_why n l version b (ChargeHydronic w) h = charge_why n l b version (wet_s
 refused_why n l version b HeatLoss h = loss_why n l b h
 refused_why n l version b CloseTimestep h = checked_why n l b (plain_answer zero (closed_battery b)) (plain_answers zero (closed_battery b)) h
 refused_why n l version b ReadStateOfCharge h = level_why n l b (level b) refl h
-refused_why n l version b (ChargeEnergyDemand most target) h = to-level-why n l b most target (level b) refl h
+refused_why n l version b (ChargeEnergyDemand most target) h = to_level_why n l b most target (level b) refl h

@@ -58,9 +58,9 @@ module _ (version : ℕ) (b : Battery) (call : Call) where
   answered_finite = outcome_finite b (is_charge call) (only_asks call) (step_of version b call) outcome
 
   -- 'An answered charge line adds its energy, as written, to the charged total in one f64 addition', and nothing else changes it
-  pub charge-adds-energy :
+  pub charge_adds_energy :
       is_charge call ≡ true → (step_of version b call).refusal ≡ 0 → (step_of version b call).battery.charged ≡ b.charged ⊕ (step_of version b call).energy
-  charge-adds-energy = outcome_charged b (is_charge call) (only_asks call) (step_of version b call) outcome
+  charge_adds_energy = outcome_charged b (is_charge call) (only_asks call) (step_of version b call) outcome
 
   pub charged_stays : (is_charge call ≡ true → (step_of version b call).refusal ≡ 0 → ⊥) → (step_of version b call).battery.charged ≡ b.charged
   charged_stays = outcome_uncharged b (is_charge call) (only_asks call) (step_of version b call) outcome

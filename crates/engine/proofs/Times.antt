@@ -43,7 +43,7 @@ use Rattle.engine.specs.Times.{added_up, after_turns, whole_after, DueAfter, fra
 use Rattle.engine.proofs.Inductions.{hydronic_induction}
 use Rattle.engine.proofs.Promises.{refused_number}
 use Rattle.engine.proofs.Turns.{never}
-use Rattle.engine.proofs.Warmth.{by-refusal}
+use Rattle.engine.proofs.Warmth.{by_refusal}
 
 -- an end that refuses
 refuses_22 : end_refusal OverBudget ≡ 0 → ⊥
@@ -225,6 +225,6 @@ module _ (version : ℕ) (b : Battery) (w : Hydronic) where
       × ((step_of version b (ChargeHydronic w)).battery.direct ≡ b.direct)
   unfolding step_of charge run_answer charged_battery refused_with
   running_stays =
-      by-refusal (λ (a : Answer). (a.battery.total ≡ b.total) × (a.battery.pump ≡ b.pump) × (a.battery.direct ≡ b.direct)) b r.part.end (charged_answer version b r)
+      by_refusal (λ (a : Answer). (a.battery.total ≡ b.total) × (a.battery.pump ≡ b.pump) × (a.battery.direct ≡ b.direct)) b r.part.end (charged_answer version b r)
       (refl, refl, refl)
       (λ n. (refl, refl, refl))

@@ -91,9 +91,9 @@ module _ (x : HydronicTask) (salts : ℕ → Salt) (n : ℕ) (s : Zoned Hydronic
 
   module _ (u : Substep) where
     -- a turn of n substeps that does not end for the budget's sake
-    n-substeps :
+    n_substeps :
         (t : Zoned HydronicTurn) → SameAbove x.card.layers s.zones t.zones → t.part.substeps ≡ n → (t.part.next ≡ Stop OverBudget → ⊥) → HydronicKeeps x n s u t
-    n-substeps t h m q = record { above = h; count = λ b. omega arith; used = λ e. absurd (q e); same = λ e. absurd (q e); due = λ e. absurd (q e) }
+    n_substeps t h m q = record { above = h; count = λ b. omega arith; used = λ e. absurd (q e); same = λ e. absurd (q e); due = λ e. absurd (q e) }
 
     hydronic_whole_lem : SameAbove x.card.layers s.zones u.zones → u.fault ≡ Nothing → HydronicKeeps x n s u (hydronic_whole x salts n s (outcome u))
     unfolding hydronic_whole outcome_of
@@ -105,15 +105,15 @@ module _ (x : HydronicTask) (salts : ℕ → Salt) (n : ℕ) (s : Zoned Hydronic
         (λ a. by_test (HydronicKeeps x n s u) (limit_reached absorbed x.limit) _ _
         (λ b. by_test (HydronicKeeps x n s u) (lt Constants.zero this.0) _ _
         (λ c. replay_keeps u (record { worked = w; below = a; passed = b; heat = c }) (fraction_seconds x absorbed this) reynold)
-        (λ c. n-substeps _ h refl (λ e. never (cc))))
-        (λ b. n-substeps _ h refl (λ e. never (cc))))
-        (λ a. n-substeps _ h refl (λ e. never (cc)))
+        (λ c. n_substeps _ h refl (λ e. never (cc))))
+        (λ b. n_substeps _ h refl (λ e. never (cc))))
+        (λ a. n_substeps _ h refl (λ e. never (cc)))
 
     hydronic_by_lem : SameAbove x.card.layers s.zones u.zones → (f : Fault) → u.fault ≡ f → HydronicKeeps x n s u (hydronic_by x salts n s (outcome u) f)
     unfolding hydronic_by
     hydronic_by_lem h Nothing w = hydronic_whole_lem h w
-    hydronic_by_lem h Logarithm w = n-substeps _ (same_above x.card.layers s.zones) refl (λ e. never (cc))
-    hydronic_by_lem h NotFinite w = n-substeps _ (same_above x.card.layers s.zones) refl (λ e. never (cc))
+    hydronic_by_lem h Logarithm w = n_substeps _ (same_above x.card.layers s.zones) refl (λ e. never (cc))
+    hydronic_by_lem h NotFinite w = n_substeps _ (same_above x.card.layers s.zones) refl (λ e. never (cc))
 
 pub hydronic_keeps : (x : HydronicTask) (salts : ℕ → Salt) (n : ℕ) (s : Zoned HydronicState) → HydronicKeeps x (n + 1) s (whole_from x salts s) (hydronic_step x salts n s)
 unfolding hydronic_step outcome_of

@@ -40,10 +40,10 @@ use Rattle.engine.proofs.Losses.{seconds_nonneg, losses_nonneg, timestep_nonneg}
 use Rattle.runs.specs.declared.Source.TheVariants.{Electric}
 
 -- what holds of the answer and of every refusal line
-pub by-refusal :
+pub by_refusal :
     (P : Answer → Type 0) (b : Battery) (end : End) (a : Answer) → P a → ((n : ℕ) → P (refused_with n b)) → P (unless_refused b end a)
 unfolding unless_refused checked
-by-refusal P b end a h k =
+by_refusal P b end a h k =
     by_test P (eqb (end_refusal end) 0) _ _
     (λ t. by_test P (answer_finite a) _ _ (λ u. h) (λ u. k 23))
     (λ t. k (end_refusal end))
@@ -70,17 +70,17 @@ module _ (version : ℕ) (b : Battery) (g : GoodBattery version b) (f : CardFits
   unfolding step_of heat_loss battery_heat_loss loss_ended run_answer cooled_battery refused_with loss_input of_bits
   loss_warms_none i l =
       let c = accepted version b.card battery_accepted_lem.card in
-      by-refusal (λ (a : Answer). T (le (get_or a.battery.zones i nan) (get_or b.zones i nan))) b (battery_heat_loss b).part.end _
+      by_refusal (λ (a : Answer). T (le (get_or a.battery.zones i nan) (get_or b.zones i nan))) b (battery_heat_loss b).part.end _
       (losses_warm_none b.card (derived b.card) (salt_at (salts_of b.card)) (loss_input b.card) b.zones salts
       (seconds_nonneg b.card.timestep (timestep_nonneg b.card c.times)) places finite refl (neg_nonpos b.card.losses (losses_nonneg b.card c.powers)) i l)
       (λ n. as_before i l)
 
-  pub electric-cools-none :
+  pub electric_cools_none :
       (power target : Float) → call_in_range version b.card (ChargeElectric power target) ≡ true → (i : ℕ) → i < b.card.layers →
       T (le (get_or b.zones i nan) (get_or (step_of version b (ChargeElectric power target)).battery.zones i nan))
   unfolding step_of charge charge_battery charge_electric electric_ended run_answer charged_battery refused_with electric_input call_in_range of_bits
-  electric-cools-none power target h i l =
-      by-refusal (λ (a : Answer). T (le (get_or b.zones i nan) (get_or a.battery.zones i nan))) b (charge_battery b (Electric power) target).part.end _
+  electric_cools_none power target h i l =
+      by_refusal (λ (a : Answer). T (le (get_or b.zones i nan) (get_or a.battery.zones i nan))) b (charge_battery b (Electric power) target).part.end _
       (charging_cools_none b.card (derived b.card) (salt_at (salts_of b.card)) (electric_input (ledger_of b) power target) b.zones salts
       (seconds_nonneg (max_zero (time_available (ledger_of b) zero)) (max_zero_nonneg (time_available (ledger_of b) zero))) places finite refl
       (power_nonneg power (and_true (is_power power) (is_level target) h).0) i l)

@@ -42,17 +42,17 @@ module _ (l : Ledger) (before zones : List Float) (r : Reply) where
   pub plain_refusal : (energy : Float) (totals : Totals) → r ≡ plain_reply energy totals → r.refusal ≡ 0
   plain_refusal energy totals e = ap (λ (x : Reply). x.refusal) e
 
-  pub plain-with :
+  pub plain_with :
       (energy : Float) (totals : Totals) → r ≡ plain_reply energy totals →
       answer_with l r zones ≡ plain_answer energy (renewed_battery l totals zones)
   unfolding plain_answer
-  plain-with energy totals e = rw e
+  plain_with energy totals e = rw e
 
-  pub closed-with :
+  pub closed_with :
       (energy : Float) (totals : Totals) → totals ≡ closed_totals l → r ≡ plain_reply energy totals →
       answer_with l r zones ≡ plain_answer energy (closed_battery (whole l zones))
   unfolding plain_answer closed_battery
-  closed-with energy totals t e = rw (e, t)
+  closed_with energy totals t e = rw (e, t)
 
 -- an answer to a run is no refusal
 pub run_answers : (time : Float) (s : Stopped) (b : Battery) → (run_answer time s b).refusal ≡ 0
@@ -82,31 +82,31 @@ module _ (l : Ledger) (before zones : List Float) (s : Stopped) (e : Zoned Stopp
       by false g = refl
 
   module _ (r : Reply) where
-    pub charged-with :
+    pub charged_with :
         (version : ℕ) (time : Float) (totals : Totals) → time ≡ charged_time version s → totals ≡ charged_totals l s → r ≡ run_reply time s totals →
         unless_refused (whole l before) s.end (answer_with l r zones) ≡ unless_refused (whole l before) e.part.end (charged_answer version (whole l before) e)
     unfolding run_answer charged_battery
-    charged-with version time totals shown t g = answered _ _ (λ z. rw (g, shown, t, z, same.0))
+    charged_with version time totals shown t g = answered _ _ (λ z. rw (g, shown, t, z, same.0))
 
-    pub cooled-with :
+    pub cooled_with :
         r ≡ run_reply zero s l.totals →
         unless_refused (whole l before) s.end (answer_with l r zones) ≡ unless_refused (whole l before) e.part.end (cooled_answer (whole l before) e)
     unfolding run_answer cooled_battery
-    cooled-with g = answered _ _ (λ z. rw (g, z, same.0))
+    cooled_with g = answered _ _ (λ z. rw (g, z, same.0))
 
-    pub committed-with :
+    pub committed_with :
         (d : Demand) (class : ServiceClass) (totals : Totals) → d.commit ≡ true → class ≡ service_class l.card d.service →
         totals ≡ served_totals l class s → r ≡ demand_reply l s totals →
         unless_refused (whole l before) s.end (answer_with l r zones) ≡ unless_refused (whole l before) e.part.end (demand_answer (whole l before) d e)
     unfolding demand_answer demand_kept served
-    committed-with d class totals h k t g = answered _ _ (λ z. rw (g, t, k, z, same.0, h))
+    committed_with d class totals h k t g = answered _ _ (λ z. rw (g, t, k, z, same.0, h))
 
     -- a trial's zones stay
     trial_answer : (d : Demand) → d.commit ≡ false → r ≡ demand_reply l s l.totals → answer_with l r before ≡ demand_answer (whole l before) d e
     unfolding demand_answer demand_kept
     trial_answer d h g = rw (g, same.0, h)
 
-    pub trial-with :
+    pub trial_with :
         (d : Demand) → d.commit ≡ false → r ≡ demand_reply l s l.totals →
         unless_refused (whole l before) s.end (answer_with l r before) ≡ unless_refused (whole l before) e.part.end (demand_answer (whole l before) d e)
-    trial-with d h g = by_definition _ ∙ ap (unless_refused (whole l before) e.part.end) (trial_answer d h g)
+    trial_with d h g = by_definition _ ∙ ap (unless_refused (whole l before) e.part.end) (trial_answer d h g)

@@ -13,7 +13,7 @@ pub by_le :
 by_le P x y {a} {b} p q h k = by_test P (le x y) a b h (λ n. k (le_false→lt x y p q n))
 
 -- x < y, or y ≤ x
-pub by-lt :
+pub by_lt :
     {A : Type 0} (P : A → Type 0) (x y : Float) {a b : A} → T (number x) → T (number y) →
     (T (lt x y) → P a) → (T (le y x) → P b) → P (cond (lt x y) a b)
-by-lt P x y {a} {b} p q h k = by_test P (lt x y) a b h (λ n. k (lt_false→le x y p q n))
+by_lt P x y {a} {b} p q h k = by_test P (lt x y) a b h (λ n. k (lt_false→le x y p q n))

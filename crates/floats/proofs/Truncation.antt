@@ -155,17 +155,17 @@ module _ (x : Float) (fit : fits binary64 x ≡ true) where
     pub trunc_small : to_bits binary64 x / 4503599627370496 < 1023 → 0 ≡ to_unsigned 64 x
     trunc_small q = at_fields (small _ _ digits q)
 
-    pub trunc-right :
+    pub trunc_right :
         1023 ≤ to_bits binary64 x / 4503599627370496 →
         to_bits binary64 x / 4503599627370496 < 1075 →
         (to_bits binary64 x % 4503599627370496 + 4503599627370496) / 2 ^ (1075 - to_bits binary64 x / 4503599627370496) ≡ to_unsigned 64 x
-    trunc-right q r = at_fields (right _ _ digits q r)
+    trunc_right q r = at_fields (right _ _ digits q r)
 
-    pub trunc-left :
+    pub trunc_left :
         1075 ≤ to_bits binary64 x / 4503599627370496 →
         to_bits binary64 x / 4503599627370496 < 1087 →
         (to_bits binary64 x % 4503599627370496 + 4503599627370496) * 2 ^ (to_bits binary64 x / 4503599627370496 - 1075) % 2 ^ 64 ≡ to_unsigned 64 x
-    trunc-left q r = at_fields (left _ _ digits q r)
+    trunc_left q r = at_fields (left _ _ digits q r)
 
     pub trunc_top : 1087 ≤ to_bits binary64 x / 4503599627370496 → T (not (is_nan x)) → 2 ^ 64 - 1 ≡ to_unsigned 64 x
     trunc_top q n =

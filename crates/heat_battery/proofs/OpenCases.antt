@@ -155,7 +155,7 @@ module _ (version : ℕ) (known : known_version version ≡ true) (card rec free
       by x h (out_of_range k e) = absurd (omega arith)
       by x h (lower_above k l e) = absurd (omega arith)
       by x h (max_low k l m e) = absurd (omega arith)
-      by x h (nothing k l m s e) = record { in_range = record { long = x; fields = k }; ordered = l; warm = (max_above_is c k).0 m; nothing-to-store = s }
+      by x h (nothing k l m s e) = record { in_range = record { long = x; fields = k }; ordered = l; warm = (max_above_is c k).0 m; nothing_to_store = s }
       by x h (accepted e) = absurd (omega arith)
 
       on : o.code ≡ 4 → ((length card ≡ card_length version card → ⊥) × (o.code ≡ 1)) ⊎ ((length card ≡ card_length version card) × (refusal_at version card ≡ o.code)) → OpenCase4 version card
@@ -165,7 +165,7 @@ module _ (version : ℕ) (known : known_version version ≡ true) (card rec free
       back : OpenCase4 version card → o.code ≡ 4
       back x =
           let k = x.in_range.fields in
-          let r = (few 4 (omega arith) (omega arith)).1 (card_4 version c k x.ordered ((max_above_is c k).1 x.warm) x.nothing-to-store) in
+          let r = (few 4 (omega arith) (omega arith)).1 (card_4 version c k x.ordered ((max_above_is c k).1 x.warm) x.nothing_to_store) in
           card_code x.in_range.long (λ z. omega arith) ∙ r
 
   -- a refused card's number is a card's

@@ -46,7 +46,7 @@ pub record OpenCase4 (version : ℕ) (card : List ℕ) : Type 0 where
   pub in_range : InRange version card
   pub ordered : le (card_at version card).lower (card_at version card).upper ≡ true
   pub warm : lt rated_ambient (card_at version card).max ≡ true
-  pub nothing-to-store :
+  pub nothing_to_store :
       (lt (card_at version card).max (card_at version card).reference ≡ true)
       ⊎ (nearly_equal (card_at version card).max (card_at version card).reference tolerance max_relative ≡ true)
 

@@ -21,7 +21,7 @@ use Rattle.battery.specs.declared.Battery.{Battery}
 use Rattle.battery.specs.declared.Call.{Call}
 use Rattle.battery.specs.declared.Answer.{Answer}
 use Rattle.engine.specs.Steps.{step_of}
-use Rattle.engine.proofs.StepKeeps.{charge-adds-energy, charged_stays}
+use Rattle.engine.proofs.StepKeeps.{charge_adds_energy, charged_stays}
 use Rattle.sheet_records.specs.Cards.{card_at, services_at}
 use Rattle.sheet_lines.specs.Answers.{same_number, agrees}
 use Rattle.auditor.specs.Rules.{Rules, plain, NoLooser}
@@ -47,7 +47,7 @@ module _ (version : ℕ) (services : List Service) (c : Card) (b : Battery) (o :
   by_charge : (t : Bool) → (is_charge call && eqb own.refusal 0) ≡ t → T (eq (cond t (sum ⊕ (shown version c l).energy) sum) own.battery.charged)
   by_charge true h =
       let p = and_true (is_charge call) (eqb own.refusal 0) h in
-      let e : own.battery.charged ≡ b.charged ⊕ own.energy = charge-adds-energy version b call p.0 (eqb-true own.refusal 0 p.1) in
+      let e : own.battery.charged ≡ b.charged ⊕ own.energy = charge_adds_energy version b call p.0 (eqb-true own.refusal 0 p.1) in
       let n : T (number (b.charged ⊕ own.energy)) = rw e at (charged_number version b call o.good) in
       rw e
       (eq_sym (b.charged ⊕ own.energy) (sum ⊕ (shown version c l).energy)

@@ -24,7 +24,7 @@ use Rattle.battery.proofs.FreshGood.{fresh_below}
 use Rattle.battery.proofs.Zones.{zones_finite_at}
 use Rattle.engine.specs.Steps.{step_of}
 use Rattle.engine.proofs.StepKeeps.{refused_keeps_state, trial_keeps_state}
-use Rattle.engine.proofs.Warmth.{loss_warms_none, electric-cools-none}
+use Rattle.engine.proofs.Warmth.{loss_warms_none, electric_cools_none}
 use Rattle.sheet_records.specs.Cards.{card_at, services_at}
 use Rattle.sheet_lines.specs.Answers.{same_number, agrees}
 use Rattle.auditor.specs.Rules.{Rules, plain, NoLooser}
@@ -65,7 +65,7 @@ module _ (version : ℕ) (services : List Service) (c : Card) (f : CardFits c) (
       let x = get_or own.battery.zones i nan in
       let y = get_or b.zones i nan in
       let r : call_in_range version b.card (ChargeElectric power target) ≡ true = rw (o.card, ← e) laid.in_range in
-      let h : T (le y x) = rw e (electric-cools-none version b o.good fits power target r i (layers i k)) in
+      let h : T (le y x) = rw e (electric_cools_none version b o.good fits power target r i (layers i k)) in
       le_respects (before i) y (zones_in version c l i) x (was i k) (now i k) ∙ is_true (le y x) h
 
   alters_none : own.battery ≡ b → NoneAltered c before (zones_in version c l)

@@ -10,7 +10,7 @@ use Rattle.substep.specs.declared.SubstepInput.{SubstepInput}
 use Rattle.substep.specs.declared.Fault.{Fault}
 use Rattle.substep.specs.declared.Outcome.{Outcome}
 use Rattle.runs.specs.Runs.{end_refusal, next_refusal}
-use Rattle.runs.proofs.InPlace.{holds-as-defined, as-defined-on}
+use Rattle.runs.proofs.InPlace.{holds_as_defined, as_defined_on}
 use Rattle.runs.specs.declared.Stopped.{Stopped}
 use Rattle.runs.specs.Zoned.{Zoned, zoned, AsDefined, on_part}
 use Rattle.run_demand.specs.declared.DemandTask.{DemandTask}
@@ -19,16 +19,16 @@ use Rattle.run_demand.specs.declared.DemandTurn.{DemandTurn}
 use Rattle.run_demand.specs.declared.DemandEnd.{DemandEnd}
 use Rattle.run_demand.specs.Demand.{demand_ended, demand_input, demand_by, demand_substep}
 
-pub demand-turn :
+pub demand_turn_lem :
     (x : DemandTask) (salts : ℕ → Salt) (s : DemandState) (before zones : List Float) (d : SubstepInput) (o : Outcome) (t : DemandTurn) (f : Fault) →
     d ≡ demand_input x s → InPlace (process_heat_battery_zones x.card x.pcm salts d before) o zones →
     o.fault ≡ f → AsDefined (next_refusal t.next) t zones (demand_by x (zoned s before) (zoned o zones) f) → AsDefined (next_refusal t.next) t zones (demand_substep x salts (zoned s before))
 unfolding demand_substep
-demand-turn x salts s before zones d o t f h g e l =
-    rw (← h) (holds-as-defined (λ (u : Zoned Outcome) (v : Fault). AsDefined (next_refusal t.next) t zones (demand_by x (zoned s before) u v)) _ o zones f g e l)
+demand_turn_lem x salts s before zones d o t f h g e l =
+    rw (← h) (holds_as_defined (λ (u : Zoned Outcome) (v : Fault). AsDefined (next_refusal t.next) t zones (demand_by x (zoned s before) u v)) _ o zones f g e l)
 
 -- what the run hands out
 pub demand_ended_lem :
     (e : DemandEnd) (zones : List Float) (d : Zoned DemandEnd) (r : Stopped) → AsDefined (end_refusal e.end) e zones d → r ≡ demand_ended e → AsDefined (end_refusal r.end) r zones (on_part demand_ended d)
 unfolding demand_ended
-demand_ended_lem e zones d r l h = as-defined-on _ _ demand_ended e r zones d l h (λ z. sym (ap (λ (x : Stopped). end_refusal x.end) h) ∙ z)
+demand_ended_lem e zones d r l h = as_defined_on _ _ demand_ended e r zones d l h (λ z. sym (ap (λ (x : Stopped). end_refusal x.end) h) ∙ z)

@@ -47,8 +47,8 @@ module _ (x : DemandTask) (salts : ℕ → Salt) (b n : ℕ) (s : Zoned DemandSt
     pub run_on : t.next ≡ On → demand_run x salts (b - (n + 1)) (n + 1) (zoned t.state after) ≡ demand_run x salts (b - n) n s
     run_on g = rw (l.1 (ap next_refusal g)) (sym (demand_unfolds ∙ rw g))
 
-    pub run-stops :
+    pub run_stops :
         (k : End) (e : Zoned DemandEnd) → t.next ≡ Stop k → demand_run x salts (b - n) n s ≡ e → AsDefined (end_refusal k) (record { state = t.state; end = k; substeps = n + 1 }) after e
-    run-stops k e g d =
+    run_stops k e g d =
         let w : demand_end (zoned t.state (demand_substep x salts s).zones) k (n + 1) ≡ e = sym (demand_unfolds ∙ rw g) ∙ d in
         (ap (λ (v : Zoned DemandEnd). v.part) w, λ r. l.1 (ap next_refusal g ∙ r) ∙ ap (λ (v : Zoned DemandEnd). v.zones) w)

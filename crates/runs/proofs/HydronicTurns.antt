@@ -28,7 +28,7 @@ use Rattle.runs.specs.declared.HydronicEnd.{HydronicEnd}
 use Rattle.runs.specs.declared.Stopped.{Stopped}
 use Rattle.runs.specs.Zoned.{Zoned, zoned, AsDefined, on_part}
 use Rattle.runs.specs.Hydronic.{wet_input, clearly_below, limit_reached, hydronic_ended, replay_by, replayed, fraction_seconds, hydronic_whole, hydronic_by, hydronic_step}
-use Rattle.runs.proofs.InPlace.{holds-as-defined, as-defined-on}
+use Rattle.runs.proofs.InPlace.{holds_as_defined, as_defined_on}
 
 -- after the whole substep, whose tests come as they are found
 
@@ -53,42 +53,42 @@ module _ (x : HydronicTask) (salts : ℕ → Salt) (n : ℕ) (s : Zoned Hydronic
     whole_on f = rw (← r, ← b, ← l) (via_true _ _ t (via_false _ _ f refl))
 
     module _ (v : reached ≡ true) where
-      pub whole-limit :
+      pub whole_limit :
           lt Constants.zero (taken u.part).0 ≡ false →
           turn_to (sum_with s.part u.part) reynold (s.part.time ⊕ x.card.substep) (Stop Limit) n u.zones ≡ hydronic_whole x salts n s u
       unfolding hydronic_whole
-      whole-limit f = rw (← r, ← b, ← l) (via_true _ _ t (via_true _ _ v (via_false _ _ f refl)))
+      whole_limit f = rw (← r, ← b, ← l) (via_true _ _ t (via_true _ _ v (via_false _ _ f refl)))
 
-      pub whole-replayed :
+      pub whole_replayed :
           (seconds : Float) → lt Constants.zero (taken u.part).0 ≡ true → seconds ≡ fraction_seconds x (sum_with s.part u.part) (taken u.part) →
           replayed x salts n s seconds reynold ≡ hydronic_whole x salts n s u
       unfolding hydronic_whole
-      whole-replayed seconds f h = rw (← r, ← b, ← l, ← h) (via_true _ _ t (via_true _ _ v (via_true _ _ f refl)))
+      whole_replayed seconds f h = rw (← r, ← b, ← l, ← h) (via_true _ _ t (via_true _ _ v (via_true _ _ f refl)))
 
 -- the fractional substep, where the budget allows it, and the whole one
 
 module _ (x : HydronicTask) (salts : ℕ → Salt) (n : ℕ) (s : HydronicState) (before zones : List Float) (d : SubstepInput) (o : Outcome) (t : HydronicTurn) (f : Fault)
     (g : InPlace (process_heat_battery_zones x.card x.pcm salts d before) o zones) (e : o.fault ≡ f) where
-  pub replayed-turn :
+  pub replayed_turn :
       (seconds reynold : Float) → (n ≡ x.card.budget → ⊥) → d ≡ wet_input x seconds reynold →
       AsDefined (next_refusal t.next) t zones (replay_by x (n + 1) (zoned s before) seconds reynold (zoned o zones) f) →
       AsDefined (next_refusal t.next) t zones (replayed x salts n (zoned s before) seconds reynold)
   unfolding replayed
-  replayed-turn seconds reynold q h l =
+  replayed_turn seconds reynold q h l =
       rw (← h, ne_eqb _ _ q)
-      (holds-as-defined (λ (u : Zoned Outcome) (v : Fault). AsDefined (next_refusal t.next) t zones (replay_by x (n + 1) (zoned s before) seconds reynold u v)) _ o zones f g e l)
+      (holds_as_defined (λ (u : Zoned Outcome) (v : Fault). AsDefined (next_refusal t.next) t zones (replay_by x (n + 1) (zoned s before) seconds reynold u v)) _ o zones f g e l)
 
-  pub hydronic-turn :
+  pub hydronic_turn_lem :
       (after : List Float) → d ≡ wet_input x x.card.substep s.reynold →
       AsDefined (next_refusal t.next) t after (hydronic_by x salts (n + 1) (zoned s before) (zoned o zones) f) →
       AsDefined (next_refusal t.next) t after (hydronic_step x salts n (zoned s before))
   unfolding hydronic_step
-  hydronic-turn after h l =
-      rw (← h) (holds-as-defined (λ (u : Zoned Outcome) (v : Fault). AsDefined (next_refusal t.next) t after (hydronic_by x salts (n + 1) (zoned s before) u v)) _ o zones f g e l)
+  hydronic_turn_lem after h l =
+      rw (← h) (holds_as_defined (λ (u : Zoned Outcome) (v : Fault). AsDefined (next_refusal t.next) t after (hydronic_by x salts (n + 1) (zoned s before) u v)) _ o zones f g e l)
 
 -- what the run hands out
-pub wet-ended :
+pub wet_ended :
     (electric : KilowattHours) (e : HydronicEnd) (zones : List Float) (d : Zoned HydronicEnd) (r : Stopped) →
     AsDefined (end_refusal e.end) e zones d → r ≡ hydronic_ended electric e → AsDefined (end_refusal r.end) r zones (on_part (hydronic_ended electric) d)
 unfolding hydronic_ended
-wet-ended electric e zones d r l h = as-defined-on _ _ (hydronic_ended electric) e r zones d l h (λ z. sym (ap (λ (x : Stopped). end_refusal x.end) h) ∙ z)
+wet_ended electric e zones d r l h = as_defined_on _ _ (hydronic_ended electric) e r zones d l h (λ z. sym (ap (λ (x : Stopped). end_refusal x.end) h) ∙ z)

@@ -23,10 +23,10 @@ pub as_defined : {A : Type 0} (refusal : ℕ) (r : A) (zones : List Float) (d : 
 as_defined {A} refusal r zones d e = (ap (λ (x : Zoned A). x.part) e, λ h. ap (λ (x : Zoned A). x.zones) e)
 
 -- where what is handed out comes of what is known
-pub as-defined-on :
+pub as_defined_on :
     {A B : Type 0} (m n : ℕ) (f : A → B) (a : A) (b : B) (zones : List Float) (d : Zoned A) →
     AsDefined m a zones d → b ≡ f a → (n ≡ 0 → m ≡ 0) → AsDefined n b zones (on_part f d)
-as-defined-on m n f a b zones d l e g = (e ∙ ap f l.0, λ h. l.1 (g h))
+as_defined_on m n f a b zones d l e g = (e ∙ ap f l.0, λ h. l.1 (g h))
 
 -- a substep
 
@@ -34,16 +34,16 @@ put_together : (u : Substep) (o : Outcome) (zones : List Float) → InPlace u o 
 put_together u o zones h = rw (h.0, h.1)
 
 -- what holds of a substep in place with its fault f holds of the definition's
-pub holds-as-defined :
+pub holds_as_defined :
     (P : Zoned Outcome → Fault → Type 0) (u : Substep) (o : Outcome) (zones : List Float) (f : Fault) →
     InPlace u o zones → o.fault ≡ f → P (zoned o zones) f → P (outcome u) (outcome u).part.fault
-holds-as-defined P u o zones f g e h = subst (λ (v : Zoned Outcome). P v v.part.fault) (put_together u o zones g) (subst (P (zoned o zones)) (sym e) h)
+holds_as_defined P u o zones f g e h = subst (λ (v : Zoned Outcome). P v v.part.fault) (put_together u o zones g) (subst (P (zoned o zones)) (sym e) h)
 
 -- a run of one substep
-pub one-substep :
+pub one_substep :
     (f : Outcome → Stopped) (c : Card) (pcm : HeatBatteryPcm) (salts : ℕ → Salt) (d : SubstepInput) (before : List Float) (o : Outcome) (zones : List Float) (r : Stopped) →
     InPlace (process_heat_battery_zones c pcm salts d before) o zones → r ≡ f o → AsDefined (end_refusal r.end) r zones (on_part f (outcome (process_heat_battery_zones c pcm salts d before)))
-one-substep f c pcm salts d before o zones r g e = (e ∙ ap f g.1, λ h. g.0)
+one_substep f c pcm salts d before o zones r g e = (e ∙ ap f g.1, λ h. g.0)
 
 pub log_refused : end_refusal NoLogarithm ≡ 0 → ⊥
 unfolding end_refusal

@@ -54,13 +54,13 @@ replay_stops x salts n s seconds reynold h = at (eqb n x.card.budget) h
     at false h = by u.part.fault h
 
 -- three tests, of which one way stops
-one-of-four :
+one_of_four :
     (a b c : Bool) (stops limit on level : Zoned HydronicTurn) (n : ℕ) → (stops.part.next ≡ On → ⊥) → limit.part.substeps ≡ n → on.part.substeps ≡ n → level.part.substeps ≡ n →
     (cond a (cond b (cond c stops limit) on) level).part.next ≡ On → (cond a (cond b (cond c stops limit) on) level).part.substeps ≡ n
-one-of-four true true true stops limit on level n w p q r h = absurd (w h)
-one-of-four true true false stops limit on level n w p q r h = p
-one-of-four true false c stops limit on level n w p q r h = q
-one-of-four false b c stops limit on level n w p q r h = r
+one_of_four true true true stops limit on level n w p q r h = absurd (w h)
+one_of_four true true false stops limit on level n w p q r h = p
+one_of_four true false c stops limit on level n w p q r h = q
+one_of_four false b c stops limit on level n w p q r h = r
 
 whole_counts : (x : HydronicTask) (salts : ℕ → Salt) (n : ℕ) (s : Zoned HydronicState) (u : Zoned Outcome) → (hydronic_whole x salts n s u).part.next ≡ On → (hydronic_whole x salts n s u).part.substeps ≡ n
 unfolding hydronic_whole
@@ -69,7 +69,7 @@ whole_counts x salts n s u =
     let this = kj (neg u.part.delivered.0) in
     let absorbed = kj (s.part.absorbed.0 ⊕ this.0) in
     let time = s.part.time ⊕ x.card.substep in
-    one-of-four (clearly_below u.part.outlet x.wet.inlet) (limit_reached absorbed x.limit) (lt Constants.zero this.0)
+    one_of_four (clearly_below u.part.outlet x.wet.inlet) (limit_reached absorbed x.limit) (lt Constants.zero this.0)
     (replayed x salts n s (fraction_seconds x absorbed this) reynold)
     (hydronic_turn (zoned (record { absorbed = absorbed; reynold = reynold; time = time }) u.zones) (Stop Limit) n)
     (hydronic_turn (zoned (record { absorbed = absorbed; reynold = reynold; time = time }) u.zones) On n)
@@ -113,9 +113,9 @@ module _ (x : HydronicTask) (salts : ℕ → Salt) (steps n : ℕ) (s : Zoned Hy
       pub wet_on : t.next ≡ On → hydronic_run x salts (steps - t.substeps) t.substeps (zoned t.state after) ≡ hydronic_run x salts (steps - n) n s
       wet_on d = rw (l.1 (ap next_refusal d)) (sym (hydronic_unfolds ∙ rw d (ap (λ (k : ℕ). hydronic_run x salts (steps - k) t.substeps (zoned t.state (hydronic_step x salts n s).zones)) (sym (wet_took d)))))
 
-      pub wet-stop :
+      pub wet_stop :
           (k : End) (e : Zoned HydronicEnd) → t.next ≡ Stop k → hydronic_run x salts (steps - n) n s ≡ e →
           AsDefined (end_refusal k) (record { state = t.state; end = k; substeps = t.substeps }) after e
-      wet-stop k e d r =
+      wet_stop k e d r =
           let w : hydronic_end (zoned t.state (hydronic_step x salts n s).zones) k t.substeps ≡ e = sym (hydronic_unfolds ∙ rw d) ∙ r in
           (ap (λ (v : Zoned HydronicEnd). v.part) w, λ q. l.1 (ap next_refusal d ∙ q) ∙ ap (λ (v : Zoned HydronicEnd). v.zones) w)

@@ -37,7 +37,7 @@ use Rattle.substep.specs.declared.ZoneStep.{ZoneStep}
 use Rattle.substep.proofs.SubstepLaws.{index_below}
 use Rattle.substep.proofs.Stores.{stored_places, stored_elsewhere}
 use Rattle.substep.proofs.EachZone.{index_once}
-use Rattle.substep.proofs.Ordered.{in_order, and_finite, read_more, gathered_more, tests_all, sum-all}
+use Rattle.substep.proofs.Ordered.{in_order, and_finite, read_more, gathered_more, tests_all, sum_all}
 
 -- the k-th of n zones' step, and the sum and the tests up to it, in the mode's order
 abbrev stepped : Common → (ℕ → Salt) → ℕ → ℕ → Progress → ZoneStep
@@ -81,12 +81,12 @@ unfolding zone_step
 zone_takes_none x s t inlet q k = properties_take_none x.mode x.shared t inlet q
 
 -- so the logarithms after a zone more are those before it
-pub no-more-logarithms :
+pub no_more_logarithms :
     (x : Common) (s : Salt) (t inlet : Float) (q : Kilojoules) (k : KilowattHours) (z : ZoneStep) (taken logarithms : ℕ) →
     z ≡ zone_step x s t inlet q k →
     logarithms ≡ taken →
     logarithms + z.logarithms ≡ taken
-no-more-logarithms x s t inlet q k z taken logarithms e h =
+no_more_logarithms x s t inlet q k z taken logarithms e h =
     let none = ap (λ (y : ZoneStep). y.logarithms) e ∙ zone_takes_none x s t inlet q k in
     omega arith
 
@@ -119,13 +119,13 @@ module _ (x : Common) (s : ℕ → Salt) (n : ℕ) (p : Progress) (none : p.ener
         ap (λ (e : Float). sum2_step (summed x s n k p) (e ⊕ (stepped x s n k p).energy.0)) (sym (still_clear k h)) ∙
         sym (gathered_more x.mode n sum2_step no_sum (zones_after x s n k p).energies k _ h (omega arith))
 
-    tests-more :
+    tests_more :
         (tested x s n k p && finite64 (get_or (zones_after x s n (suc k) p).zones (zone_index x.mode n k) nan)) ≡ tested x s n (suc k) p
     unfolding zones_after zone_at
-    tests-more = sym (read_more x.mode n and_finite true (zones_after x s n k p).zones k _ h)
+    tests_more = sym (read_more x.mode n and_finite true (zones_after x s n k p).zones k _ h)
 
     -- one zone more
-    pub underway-more :
+    pub underway_more :
         (zones : List Float) (outlet : Float) (left : Kilojoules) (charged : KilowattHours) (sum more : Sum2) (spread next : Float) (j : ℕ) (own : Salt) (z : ZoneStep) →
         Underway x s n k p zones outlet left charged sum spread →
         j ≡ zone_index x.mode n k →
@@ -135,7 +135,7 @@ module _ (x : Common) (s : ℕ → Salt) (n : ℕ) (p : Progress) (none : p.ener
         eq next Constants.zero ≡ (eq spread Constants.zero && finite64 (get_or (set zones j z.temperature) j nan)) →
         Underway x s n (k + 1) p (set zones j z.temperature) z.outlet z.left z.charged more next
     unfolding zones_after zone_at
-    underway-more zones outlet left charged sum more spread next j own z u d r e a t =
+    underway_more zones outlet left charged sum more spread next j own z u d r e a t =
         let g : z ≡ stepped x s n k p = rw (e, r, d, u.same_zones_lem, u.same_outlet, u.same_left, u.same_charged) in
         record {
           same_zones_lem = rw (add-one, g, d, u.same_zones_lem);
@@ -143,18 +143,18 @@ module _ (x : Common) (s : ℕ → Salt) (n : ℕ) (p : Progress) (none : p.ener
           same_left = rw (add-one, g);
           same_charged = rw (add-one, g);
           same_sum = rw (add-one, a, g, u.same_sum) sum_more;
-          same_test = rw (add-one, t, g, d, u.same_zones_lem, u.same_test) tests-more;
+          same_test = rw (add-one, t, g, d, u.same_zones_lem, u.same_test) tests_more;
         }
 
 -- the loop's start from the zones alone, with no energies yet
 abbrev pub start_of : List Float → Float → Kilojoules → KilowattHours → Progress
 start_of zones outlet left charged = record { zones = zones; energies = replicate 64 Constants.zero; outlet = outlet; left = left; charged = charged }
 
-pub underway-start :
+pub underway_start :
     (x : Common) (s : ℕ → Salt) (n : ℕ) (zones : List Float) (outlet : Float) (left : Kilojoules) (charged : KilowattHours) →
     Underway x s n 0 (start_of zones outlet left charged) zones outlet left charged no_sum Constants.zero
 unfolding zones_after in_order
-underway-start x s n zones outlet left charged = record { same_zones_lem = refl; same_outlet = refl; same_left = refl; same_charged = refl; same_sum = refl; same_test = spread_start }
+underway_start x s n zones outlet left charged = record { same_zones_lem = refl; same_outlet = refl; same_left = refl; same_charged = refl; same_sum = refl; same_test = spread_start }
 
 -- after the last zone: the zones, and what a substep hands out besides
 module _ (c : Card) (x : Common) (s : ℕ → Salt) (k : ℕ) (d : SubstepInput) (start : List Float) (few : c.layers ≤ 64) where
@@ -164,7 +164,7 @@ module _ (c : Card) (x : Common) (s : ℕ → Salt) (k : ℕ) (d : SubstepInput)
   sum_end : summed x s c.layers c.layers (progress_from d start) ≡ sum2_after end.energies c.layers
   unfolding progress_from end
   sum_end =
-      sum-all x.mode c.layers end.energies
+      sum_all x.mode c.layers end.energies
       (λ m i h. ap (λ (l : List Float). get_or l i nan) (charging_energies x s c.layers (progress_from d start) refl few m c.layers (omega arith)) ∙ clear x s c.layers (progress_from d start) refl few i h)
 
   tests_end : tested x s c.layers c.layers (progress_from d start) ≡ zones_finite end.zones c.layers
@@ -173,13 +173,13 @@ module _ (c : Card) (x : Common) (s : ℕ → Salt) (k : ℕ) (d : SubstepInput)
 
   module _ (zones : List Float) (outlet : Float) (left heat : Kilojoules) (charged : KilowattHours) (sum : Sum2) (spread : Float) (f : Fault) (taken logarithms : ℕ)
       (same : logarithms ≡ taken) where
-    following-all :
+    following_all :
         heat ≡ charger_heat d →
         k ≡ c.layers →
         Underway x s c.layers k (start_of start d.inlet heat (kwh Constants.zero)) zones outlet left charged sum spread →
         Underway x s c.layers c.layers (progress_from d start) zones outlet left charged sum spread
     unfolding progress_from
-    following-all h e u =
+    following_all h e u =
         subst (λ (i : ℕ). Underway x s c.layers i (progress_from d start) zones outlet left charged sum spread) e
         (subst (λ (q : Kilojoules). Underway x s c.layers k (start_of start d.inlet q (kwh Constants.zero)) zones outlet left charged sum spread) h u)
 
@@ -190,7 +190,7 @@ module _ (c : Card) (x : Common) (s : ℕ → Salt) (k : ℕ) (d : SubstepInput)
     unfolding end outcome_of substep_from progress_fault progress_finite sum2
     handed_out u g = (u.same_zones_lem, rw (same, g, u.same_test, tests_end, u.same_sum, sum_end, u.same_outlet, u.same_charged))
 
-    pub underway-end :
+    pub underway_end :
         heat ≡ charger_heat d →
         k ≤ c.layers →
         c.layers ≤ k →
@@ -199,4 +199,4 @@ module _ (c : Card) (x : Common) (s : ℕ → Salt) (k : ℕ) (d : SubstepInput)
         InPlace (substep_from c taken (zones_after x s c.layers c.layers (progress_from d start)))
         (record { outlet = outlet; delivered = kj (sum.s ⊕ sum.c); charged = charged; fault = f; logarithms = logarithms }) zones
     unfolding end substep_from
-    underway-end h a b u g = handed_out (following-all h (omega arith) u) g
+    underway_end h a b u g = handed_out (following_all h (omega arith) u) g

@@ -111,11 +111,11 @@ module _ (n : ℕ) (l : List Float) (zeros : (i : ℕ) → i < n → get_or l i 
       (sym (gathered_none Losses n sum2_step no_sum l Constants.zero no_sum_more zeros n (omega arith)) ∙ sum_losses n l)
 
 -- the sum in the mode's order, of energies that are 0 where it is not upward
-pub sum-all :
+pub sum_all :
     (m : Mode) (n : ℕ) (l : List Float) →
     (m ≡ OnlyCharging → (i : ℕ) → i < n → get_or l i nan ≡ Constants.zero) →
     in_order m n sum2_step no_sum l n ≡ sum2_after l n
 unfolding zone_index
-sum-all OnlyCharging n l h = sum_zeros n l (h refl)
-sum-all Losses n l h = sum_losses n l
-sum-all Normal n l h = sum_upward Normal n l (λ i. refl) n
+sum_all OnlyCharging n l h = sum_zeros n l (h refl)
+sum_all Losses n l h = sum_losses n l
+sum_all Normal n l h = sum_upward Normal n l (λ i. refl) n

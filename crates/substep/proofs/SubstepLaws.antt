@@ -50,7 +50,7 @@ module _ (x : Common) (s : ℕ → Salt) (n k : ℕ) (p q : Progress) where
   pub zones_end : k ≤ n → n ≤ k → p ≡ zones_after x s n k q → p ≡ zones_after x s n n q
   zones_end a b e = let d : k ≡ n = omega arith in e ∙ ap (λ (i : ℕ). zones_after x s n i q) d
 
-pub energies-end :
+pub energies_end :
     (n : ℕ) (x : Common) (s : ℕ → Salt) (k : ℕ) (d : SubstepInput) (zones : List Float) (p : Progress) (heat : Kilojoules) →
     heat ≡ charger_heat d →
     k ≤ n →
@@ -58,7 +58,7 @@ pub energies-end :
     p ≡ zones_after x s n k (record { zones = zones; energies = replicate 64 Constants.zero; outlet = d.inlet; left = heat; charged = kwh Constants.zero }) →
     p.energies ≡ (zones_after x s n n (progress_from d zones)).energies
 unfolding progress_from
-energies-end n x s k d zones p heat h a b e = rw (← h) (ap (λ (q : Progress). q.energies) (zones_end x s n k p _ a b e))
+energies_end n x s k d zones p heat h a b e = rw (← h) (ap (λ (q : Progress). q.energies) (zones_end x s n k p _ a b e))
 
 -- what a pass over the zones of a card leaves
 pub passed :
@@ -71,13 +71,13 @@ pub passed :
 unfolding process_heat_battery_zones with_transfer
 passed c pcm s d zones l u x taken h g e f = rw (← h, g, ← e, f)
 
-pub refused-here :
+pub refused_here :
     (c : Card) (pcm : HeatBatteryPcm) (s : ℕ → Salt) (d : SubstepInput) (zones : List Float) (l : Log) →
     l ≡ zone_transfer d.mode c d →
     l ≡ Refused →
     process_heat_battery_zones c pcm s d zones ≡ without_logarithm zones
 unfolding process_heat_battery_zones with_transfer
-refused-here c pcm s d zones l h g = rw (← h, g)
+refused_here c pcm s d zones l h g = rw (← h, g)
 
 -- a substep from its parts
 pub whole :
@@ -132,10 +132,10 @@ pub common_mode : (c : Card) (pcm : HeatBatteryPcm) (d : SubstepInput) (u : Floa
 unfolding common_of
 common_mode c pcm d u x e = rw e
 
-pub common-level :
+pub common_level :
     (c : Card) (pcm : HeatBatteryPcm) (d : SubstepInput) (u : Float) (x : Common) (s : Salt) → x ≡ common_of c pcm d u → target_at x s ≡ target_of c s d.target
 unfolding common_of
-common-level c pcm d u x s e = rw e
+common_level c pcm d u x s e = rw e
 
 -- a step leaves heat of the charger only where there was some
 step_left : (x : Common) (s : Salt) (t inlet : Float) (q : Kilojoules) (k : KilowattHours) → lt (zone_step x s t inlet q k).left.0 Constants.zero ≡ true → lt q.0 Constants.zero ≡ true

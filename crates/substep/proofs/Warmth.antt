@@ -24,8 +24,8 @@ use Rattle.zone.specs.declared.KilowattHours.{KilowattHours}
 use Rattle.zone.specs.declared.Salt.{Salt}
 use Rattle.zone_water.specs.declared.Mode.TheVariants.{OnlyCharging, Losses}
 use Rattle.zone_update.proofs.Directions.{negative_never_lowers}
-use Rattle.zone_water.proofs.Exchanged.{loss-never-warms}
-use Rattle.zone_charging.proofs.Charges.{charge_never_cools, charging-left-nonpositive}
+use Rattle.zone_water.proofs.Exchanged.{loss_never_warms}
+use Rattle.zone_charging.proofs.Charges.{charge_never_cools, charging_left_nonpositive}
 use Rattle.card.specs.declared.Card.{Card}
 use Rattle.card.specs.declared.HeatBatteryPcm.{HeatBatteryPcm}
 use Rattle.substep.specs.Substep.{target_at, zone_charge, zone_step, zones_after, zone_transfer, common_of, progress_from, substep_from, with_transfer, process_heat_battery_zones}
@@ -43,7 +43,7 @@ module _ (x : Common) (s : Salt) (g : GoodSalt s) (t inlet : Float) (q : Kilojou
   module _ (m : x.mode ≡ Losses) (h : lt q.0 zero ≡ false) where
     loss_step : T (le (zone_step x s t inlet q k).temperature t)
     unfolding zone_step zone_charge
-    loss_step = rw (h, m) (loss-never-warms s g t F x.shared inlet q)
+    loss_step = rw (h, m) (loss_never_warms s g t F x.shared inlet q)
 
     loss_left : lt (zone_step x s t inlet q k).left.0 zero ≡ false
     unfolding zone_step zone_charge
@@ -64,7 +64,7 @@ module _ (x : Common) (s : Salt) (g : GoodSalt s) (t inlet : Float) (q : Kilojou
     charge_left =
         rw m
         (by_test (λ (c : Charged). T (number c.left.0) → T (le c.left.0 zero)) (lt q.0 zero) _ _
-        (λ l. charging-left-nonpositive s g t F (target_at x s) q (le_of_lt q.0 zero l) k)
+        (λ l. charging_left_nonpositive s g t F (target_at x s) q (le_of_lt q.0 zero l) k)
         (λ l. h))
 
 module _ (c : Card) (pcm : HeatBatteryPcm) (s : ℕ → Salt) (d : SubstepInput) (zones : List Float) (g : (j : ℕ) → j < c.layers → GoodSalt (s j)) (S : T (le zero d.seconds))

@@ -24,19 +24,19 @@ use Rattle.substep.specs.Substep.{zone_index, target_at, zone_charge, zone_step}
 use Rattle.substep.specs.declared.Common.{Common}
 use Rattle.substep.specs.Progress.{Progress}
 use Rattle.substep.specs.declared.ZoneStep.{ZoneStep}
-use Rattle.substep.proofs.OneLoop.{zone_step_of, Underway, no_energy, underway-more}
+use Rattle.substep.proofs.OneLoop.{zone_step_of, Underway, no_energy, underway_more}
 
 module _ (x : Common) (s : Salt) (t inlet : Float) (q : Kilojoules) (k : KilowattHours) where
   module _ (m : x.mode ≡ OnlyCharging) where
     -- with heat of the charger left
-    pub charging-on :
+    pub charging_on :
         (c : Charged) (u : ZoneUpdate) →
         lt q.0 zero ≡ true →
         c ≡ zone_simultaneous_charging s t (target_at x s) q (kj zero) k →
         u ≡ new_zone_temperature s t c.heat →
         zone_step_of u.temperature (kj zero) c.left c.charged ≡ zone_step x s t inlet q k
     unfolding zone_step zone_charge zone_properties
-    charging-on c u h g e = rw (e, g, m, h)
+    charging_on c u h g e = rw (e, g, m, h)
 
     -- with none
     pub charging_off : lt q.0 zero ≡ false → zone_step_of t (kj zero) q k ≡ zone_step x s t inlet q k
@@ -52,10 +52,10 @@ module _ (x : Common) (s : ℕ → Salt) (n : ℕ) (p : Progress) (none : p.ener
   nothing_more f g = rw (g, no_more, no_sum_more)
 
   -- no heat, no sum
-  pub charging-more :
+  pub charging_more :
       x.mode ≡ OnlyCharging →
       Underway x s n k p zones outlet left charged no_sum spread →
       Underway x s n (k + 1) p (set zones j z.temperature) z.outlet z.left z.charged no_sum next
-  charging-more m u =
-      underway-more x s n p none few k h zones outlet left charged no_sum no_sum spread next j own z u d r e
+  charging_more m u =
+      underway_more x s n p none few k h zones outlet left charged no_sum no_sum spread next j own z u d r e
       (nothing_more z.energy.0 (ap (λ (y : ZoneStep). y.energy.0) e ∙ no_energy x _ _ _ _ _ m)) t

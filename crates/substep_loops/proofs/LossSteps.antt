@@ -24,18 +24,18 @@ use Rattle.substep.specs.Substep.{zone_index, zone_charge, zone_step}
 use Rattle.substep.specs.declared.Common.{Common}
 use Rattle.substep.specs.Progress.{Progress}
 use Rattle.substep.specs.declared.ZoneStep.{ZoneStep}
-use Rattle.substep.proofs.OneLoop.{zone_step_of, Underway, underway-more}
+use Rattle.substep.proofs.OneLoop.{zone_step_of, Underway, underway_more}
 
 module _ (x : Common) (s : Salt) (t inlet : Float) (q : Kilojoules) (k : KilowattHours) where
   module _ (m : x.mode ≡ Losses) (h : lt q.0 zero ≡ false) where
-    pub loss-of :
+    pub loss_of :
         (share e : Float) (u : ZoneUpdate) →
         share ≡ q.0 ⊘ of_int binary64 (pos x.shared.layers) →
         e ≡ max_zero (share ⊗ (t ⊖ x.shared.inlet) ⊘ x.shared.rated) →
         u ≡ new_zone_temperature s t (kj e) →
         zone_step_of u.temperature (kj e) q k ≡ zone_step x s t inlet q k
     unfolding zone_step zone_charge zone_properties
-    loss-of share e u d g f = rw (f, g, d, m, h)
+    loss_of share e u d g f = rw (f, g, d, m, h)
 
     pub loss_leaves : ((zone_step x s t inlet q k).left ≡ q) × ((zone_step x s t inlet q k).charged ≡ k)
     unfolding zone_step zone_charge
@@ -52,15 +52,15 @@ module _ (x : Common) (s : ℕ → Salt) (n : ℕ) (p : Progress) (none : p.ener
     (d : j ≡ zone_index x.mode n k) (r : own ≡ s j) (e : z ≡ zone_step x own (get_or zones j nan) outlet left charged)
     (t : eq next zero ≡ (eq spread zero && finite64 (get_or (set zones j z.temperature) j nan))) where
   -- the charger's heat, which is not negative, and the energy charged stay
-  pub losing-more :
+  pub losing_more :
       (sum more : Sum2) →
       x.mode ≡ Losses →
       lt left.0 zero ≡ false →
       more ≡ sum2_step sum (zero ⊕ z.energy.0) →
       Underway x s n k p zones outlet left charged sum spread →
       Underway x s n (k + 1) p (set zones j z.temperature) z.outlet left charged more next
-  losing-more sum more m l a u =
+  losing_more sum more m l a u =
       let v = loss_leaves x own (get_or zones j nan) outlet left charged m l in
       subst (λ (q : Kilojoules). Underway x s n (k + 1) p (set zones j z.temperature) z.outlet q charged more next) (ap (λ (y : ZoneStep). y.left) e ∙ v.0)
       (subst (λ (c : KilowattHours). Underway x s n (k + 1) p (set zones j z.temperature) z.outlet z.left c more next) (ap (λ (y : ZoneStep). y.charged) e ∙ v.1)
-      (underway-more x s n p none few k h zones outlet left charged sum more spread next j own z u d r e a t))
+      (underway_more x s n p none few k h zones outlet left charged sum more spread next j own z u d r e a t))

@@ -5,7 +5,7 @@ use lib.Ieee.{Float, of_bits, neg, lt, le}
 use Rattle.floats.specs.F64.{◌⊕◌}
 use Rattle.floats.specs.Constants.{zero}
 use Rattle.floats.specs.Standins.{finite64}
-use Rattle.floats.proofs.Cases.{by_le, by-lt}
+use Rattle.floats.proofs.Cases.{by_le, by_lt}
 use Rattle.logic.proofs.Branch.{by_test}
 use Rattle.floats.proofs.Order.{lt_irrefl}
 use Rattle.floats.proofs.Parts.{number}
@@ -37,12 +37,12 @@ module _ (s : Salt) (g : GoodSalt s) (t : Float) (F : T (finite64 t)) (target : 
       by_le Nonpos s.upper t (search zones) (search zones)
       (λ a. search zones)
       (λ a. by_le Nonpos s.lower t (search zones) (search zones)
-      (λ b. by-lt Nonpos s.upper target (search zones) (search zones)
+      (λ b. by_lt Nonpos s.upper target (search zones) (search zones)
       (λ c. search zones)
       (λ c. search zones))
-      (λ b. by-lt Nonpos s.upper target (search zones) (search zones)
+      (λ b. by_lt Nonpos s.upper target (search zones) (search zones)
       (λ c. search zones)
-      (λ c. by-lt Nonpos s.lower target (search zones) (search zones)
+      (λ c. by_lt Nonpos s.lower target (search zones) (search zones)
       (λ d. search zones)
       (λ d. search zones))))
 
@@ -52,7 +52,7 @@ module _ (q : Kilojoules) (Q : T (le q.0 zero)) (k : KilowattHours) where
   withdrawn n N =
       let rest : T (le (q.0 ⊕ zero) zero) = search zones in
       by_test Charges (le zero (neg q.0)) _ _
-      (λ a. by-lt Charges n.0 (q.0 ⊕ zero) (search zones) (search zones)
+      (λ a. by_lt Charges n.0 (q.0 ⊕ zero) (search zones) (search zones)
       (λ b. search zones)
       (λ b. search zones))
       (λ a. search zones)
@@ -79,9 +79,9 @@ module _ (s : Salt) (g : GoodSalt s) (t : Float) (F : T (finite64 t)) (target : 
   pub charging_heat_nonpositive : T (le (zone_simultaneous_charging s t target q (kj zero) k).heat.0 zero)
   charging_heat_nonpositive = charges.heat
 
-  pub charging-left-nonpositive :
+  pub charging_left_nonpositive :
       T (number (zone_simultaneous_charging s t target q (kj zero) k).left.0) → T (le (zone_simultaneous_charging s t target q (kj zero) k).left.0 zero)
-  charging-left-nonpositive = charges.left
+  charging_left_nonpositive = charges.left
 
   pub charge_never_cools : T (le t (new_zone_temperature s t (zone_simultaneous_charging s t target q (kj zero) k).heat).temperature)
   charge_never_cools = negative_never_lowers s g t F _ charging_heat_nonpositive

@@ -21,8 +21,8 @@ unfolding zone_properties
 charging_alone_exchanges_nothing x t inlet q = refl
 
 -- a standing loss never warms a zone, whatever the surroundings, the rated losses and the charger's heat
-pub loss-never-warms :
+pub loss_never_warms :
     (s : Salt) → GoodSalt s → (t : Float) → T (finite64 t) → (x : Shared) (inlet : Float) (q : Kilojoules) →
     T (le (new_zone_temperature s t (zone_properties Losses x t inlet q).energy).temperature t)
 unfolding zone_properties
-loss-never-warms s g t F x inlet q = positive_never_raises s g t F _ (max_zero_nonneg _)
+loss_never_warms s g t F x inlet q = positive_never_raises s g t F _ (max_zero_nonneg _)

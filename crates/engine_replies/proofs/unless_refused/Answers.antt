@@ -1,5 +1,5 @@
 use Rattle.logic.proofs.Branch.{via_true, via_false}
-use Rattle.battery.proofs.AnswerLaws.{numbers-decide}
+use Rattle.battery.proofs.AnswerLaws.{numbers_decide}
 use borrow.Author.Tests.{eq-eqb, ne_eqb}
 use Rattle.engine_replies.specs.Replies.{checked, unless_refused}
 use Rattle.engine_replies.proofs.Settled.{settled_answer, settled_refusal}
@@ -14,7 +14,7 @@ returns-then-numbers_finite c l before zones f =
     let t = c.if-refusal-eq0.true in
     rw (← w)
     (via_true _ _ (eq-eqb _ _ t)
-    (via_true _ _ (numbers-decide l _ zones (f (sym w ∙ t)) ∙ sym c.numbers_finite.ensures ∙ c.if-numbers_finite.true)
+    (via_true _ _ (numbers_decide l _ zones (f (sym w ∙ t)) ∙ sym c.numbers_finite.ensures ∙ c.if-numbers_finite.true)
     (settled_answer l before zones _ c.requires)))
 
 pub returns-then-refusal-eq0 : goal.returns-then-refusal-eq0
@@ -24,7 +24,7 @@ returns-then-refusal-eq0 c l before zones f =
     let t = c.if-refusal-eq0.true in
     rw (← w)
     (via_true _ _ (eq-eqb _ _ t)
-    (via_false _ _ (numbers-decide l _ zones (f (sym w ∙ t)) ∙ sym c.numbers_finite.ensures ∙ c.if-numbers_finite.false)
+    (via_false _ _ (numbers_decide l _ zones (f (sym w ∙ t)) ∙ sym c.numbers_finite.ensures ∙ c.if-numbers_finite.false)
     (settled_refusal l before zones _ 23 c.refused_reply.ensures refl)))
 
 pub returns : goal.returns

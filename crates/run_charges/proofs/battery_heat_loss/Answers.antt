@@ -1,7 +1,7 @@
 use mathlib.Core.Path.{ap}
 use Rattle.substep.specs.declared.SubstepInput.{SubstepInput}
 use Rattle.runs.specs.Charge.{loss_ended, loss_input, battery_heat_loss}
-use Rattle.runs.proofs.InPlace.{one-substep}
+use Rattle.runs.proofs.InPlace.{one_substep}
 use Rattle.zone.proofs.Salts.{salts_at}
 use borrow.Author.Rules.{rules}
 use Rattle.run_charges.proofs.battery_heat_loss.Goals as goal
@@ -17,4 +17,4 @@ pub returns : goal.returns
 unfolding battery_heat_loss
 returns c =
     let b = c in
-    rw (← (salts_at _ _ _ b.requires.1.1), ← c.derived-pcm.ensures, ← c.loss_input-input.ensures) (one-substep (loss_ended b.args.ledger) _ _ _ _ _ _ _ _ c.lose_in_place-u.ensures c.loss_ended.ensures)
+    rw (← (salts_at _ _ _ b.requires.1.1), ← c.derived-pcm.ensures, ← c.loss_input-input.ensures) (one_substep (loss_ended b.args.ledger) _ _ _ _ _ _ _ _ c.lose_in_place-u.ensures c.loss_ended.ensures)

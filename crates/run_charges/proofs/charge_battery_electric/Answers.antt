@@ -1,7 +1,7 @@
 use mathlib.Core.Path.{ap}
 use Rattle.substep.specs.declared.SubstepInput.{SubstepInput}
 use Rattle.runs.specs.Charge.{electric_ended, electric_input, charge_electric}
-use Rattle.runs.proofs.InPlace.{one-substep}
+use Rattle.runs.proofs.InPlace.{one_substep}
 use Rattle.zone.proofs.Salts.{salts_at}
 use borrow.Author.Rules.{rules}
 use Rattle.run_charges.proofs.charge_battery_electric.Goals as goal
@@ -14,4 +14,4 @@ pub returns : goal.returns
 unfolding charge_electric
 returns c =
     let b = c in
-    rw (← (salts_at _ _ _ b.requires.1.1), ← c.derived-pcm.ensures, ← c.electric_input-input.ensures) (one-substep (electric_ended b.args.ledger) _ _ _ _ _ _ _ _ c.charge_in_place-u.ensures c.electric_ended.ensures)
+    rw (← (salts_at _ _ _ b.requires.1.1), ← c.derived-pcm.ensures, ← c.electric_input-input.ensures) (one_substep (electric_ended b.args.ledger) _ _ _ _ _ _ _ _ c.charge_in_place-u.ensures c.electric_ended.ensures)

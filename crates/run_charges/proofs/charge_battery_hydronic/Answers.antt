@@ -1,4 +1,4 @@
-use Rattle.runs.proofs.HydronicTurns.{wet-ended}
+use Rattle.runs.proofs.HydronicTurns.{wet_ended}
 use Rattle.runs.specs.Charge.{hydronic_task, charge_hydronic}
 use Rattle.zone.proofs.Salts.{salts_at}
 use borrow.Author.Rules.{rules}
@@ -10,4 +10,4 @@ hydronic_run-e-requires c = let p = c.requires in rw c.hydronic_task-task.ensure
 
 pub returns : goal.returns
 unfolding charge_hydronic
-returns c = rw (← (salts_at _ _ _ c.requires.1.1), ← c.hydronic_task-task.ensures, ← c.whole_substeps-steps.ensures, ← c.hydronic_start-start.ensures) (wet-ended _ _ _ _ _ c.hydronic_run-e.ensures c.hydronic_ended.ensures)
+returns c = rw (← (salts_at _ _ _ c.requires.1.1), ← c.hydronic_task-task.ensures, ← c.whole_substeps-steps.ensures, ← c.hydronic_start-start.ensures) (wet_ended _ _ _ _ _ c.hydronic_run-e.ensures c.hydronic_ended.ensures)

@@ -1,5 +1,5 @@
 use Rattle.zone.specs.Lent.{zone_salt}
-use Rattle.run_demand.proofs.Turns.{demand_no_step, demand_over_budget, run_on, run-stops}
+use Rattle.run_demand.proofs.Turns.{demand_no_step, demand_over_budget, run_on, run_stops}
 use Rattle.runs.proofs.InPlace.{as_defined}
 use native.Mathlib.Nat.{sub-zero}
 use Rattle.runs.specs.Zoned.{zoned}
@@ -27,4 +27,4 @@ returns-then-substeps-budget c = (as_defined _ _ _ _ (demand_over_budget _ _ _ _
 pub returns-in-Stop : goal.returns-in-Stop
 returns-in-Stop c =
     let l = c.loop-state in
-    (run-stops c.args.task _ _ _ _ _ _ l.invariant.0 c.if-substeps-budget.false c.if-not-state.false c.demand_substep-turn.ensures _ _ c.in-Stop.is l.invariant.1, omega arith)
+    (run_stops c.args.task _ _ _ _ _ _ l.invariant.0 c.if-substeps-budget.false c.if-not-state.false c.demand_substep-turn.ensures _ _ c.in-Stop.is l.invariant.1, omega arith)

@@ -1,5 +1,5 @@
 use Rattle.zone.specs.Lent.{zone_salt}
-use Rattle.run_demand.proofs.Turns.{demand_no_step, demand_over_budget, run_on, run-stops}
+use Rattle.run_demand.proofs.Turns.{demand_no_step, demand_over_budget, run_on, run_stops}
 use Rattle.runs.proofs.InPlace.{as_defined}
 use native.Mathlib.Nat.{sub-zero}
 use Rattle.runs.specs.Zoned.{zoned}

@@ -1,5 +1,5 @@
 use Rattle.substep.proofs.SubstepLaws.{level_none}
-use Rattle.run_demand.proofs.InPlace.{demand-turn}
+use Rattle.run_demand.proofs.InPlace.{demand_turn_lem}
 use Rattle.runs.proofs.InPlace.{log_refused, finite_refused}
 use Rattle.substep.specs.declared.SubstepInput.{SubstepInput}
 use Rattle.run_demand.specs.Demand.{demand_input, demand_by}
@@ -16,12 +16,12 @@ process_in_place-u-requires c =
 
 pub returns-in-Nothing : goal.returns-in-Nothing
 unfolding demand_by
-returns-in-Nothing c = demand-turn _ _ _ _ _ _ _ _ _ c.demand_input-input.ensures c.process_in_place-u.ensures c.in-Nothing.is (c.demand_delivered.ensures, λ h. refl)
+returns-in-Nothing c = demand_turn_lem _ _ _ _ _ _ _ _ _ c.demand_input-input.ensures c.process_in_place-u.ensures c.in-Nothing.is (c.demand_delivered.ensures, λ h. refl)
 
 pub returns-in-Logarithm : goal.returns-in-Logarithm
 unfolding demand_by
-returns-in-Logarithm c = demand-turn _ _ _ _ _ _ _ _ _ c.demand_input-input.ensures c.process_in_place-u.ensures c.in-Logarithm.is (refl, λ h. absurd (log_refused h))
+returns-in-Logarithm c = demand_turn_lem _ _ _ _ _ _ _ _ _ c.demand_input-input.ensures c.process_in_place-u.ensures c.in-Logarithm.is (refl, λ h. absurd (log_refused h))
 
 pub returns-in-NotFinite : goal.returns-in-NotFinite
 unfolding demand_by
-returns-in-NotFinite c = demand-turn _ _ _ _ _ _ _ _ _ c.demand_input-input.ensures c.process_in_place-u.ensures c.in-NotFinite.is (refl, λ h. absurd (finite_refused h))
+returns-in-NotFinite c = demand_turn_lem _ _ _ _ _ _ _ _ _ c.demand_input-input.ensures c.process_in_place-u.ensures c.in-NotFinite.is (refl, λ h. absurd (finite_refused h))

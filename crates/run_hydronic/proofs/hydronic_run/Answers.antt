@@ -3,7 +3,7 @@ use Rattle.runs.proofs.InPlace.{as_defined}
 use native.Mathlib.Nat.{sub-zero}
 use Rattle.runs.specs.Zoned.{zoned}
 use Rattle.runs.specs.Hydronic.{hydronic_run}
-use Rattle.runs.proofs.Runs.{hydronic_time, hydronic_over_budget, wet_took, wet_on, wet-stop}
+use Rattle.runs.proofs.Runs.{hydronic_time, hydronic_over_budget, wet_took, wet_on, wet_stop}
 use mathlib.Core.Path.{◌≡◌, ◌∙◌}
 use Prim.Native.Nat.{◌≤◌, ◌-◌, ◌+◌}
 use native.Mathlib.Omega.{arith}
@@ -38,4 +38,4 @@ returns-then-substeps-budget c = as_defined _ _ _ _ (hydronic_over_budget _ _ _ 
 
 pub returns-in-Stop : goal.returns-in-Stop
 returns-in-Stop c =
-    wet-stop c.args.task _ _ _ _ c.loop-substeps.invariant.0 c.if-substeps-steps.false _ _ c.if-substeps-budget.false c.hydronic_step-turn.ensures _ _ c.in-Stop.is c.loop-substeps.invariant.2
+    wet_stop c.args.task _ _ _ _ c.loop-substeps.invariant.0 c.if-substeps-steps.false _ _ c.if-substeps-budget.false c.hydronic_step-turn.ensures _ _ c.in-Stop.is c.loop-substeps.invariant.2

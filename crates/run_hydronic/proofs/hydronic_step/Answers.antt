@@ -1,6 +1,6 @@
 use Rattle.substep.proofs.Charger.{idle_charges_none}
 use Rattle.runs.proofs.InPlace.{log_refused, finite_refused}
-use Rattle.runs.proofs.HydronicTurns.{hydronic-turn}
+use Rattle.runs.proofs.HydronicTurns.{hydronic_turn_lem}
 use Rattle.substep.specs.declared.SubstepInput.{SubstepInput}
 use Rattle.runs.specs.Hydronic.{wet_input, hydronic_by}
 use mathlib.Core.Path.{refl, ap}
@@ -20,12 +20,12 @@ hydronic_whole-requires c = let p = c.requires in (p.0, (omega (arith, p.1.0), p
 
 pub returns-in-Nothing : goal.returns-in-Nothing
 unfolding hydronic_by
-returns-in-Nothing c = hydronic-turn c.args.task _ _ _ _ _ _ _ _ _ c.process_in_place-u.ensures c.in-Nothing.is _ c.wet_input-input.ensures c.hydronic_whole.ensures
+returns-in-Nothing c = hydronic_turn_lem c.args.task _ _ _ _ _ _ _ _ _ c.process_in_place-u.ensures c.in-Nothing.is _ c.wet_input-input.ensures c.hydronic_whole.ensures
 
 pub returns-in-Logarithm : goal.returns-in-Logarithm
 unfolding hydronic_by
-returns-in-Logarithm c = hydronic-turn c.args.task _ _ _ _ _ _ _ _ _ c.process_in_place-u.ensures c.in-Logarithm.is _ c.wet_input-input.ensures (refl, λ h. absurd (log_refused h))
+returns-in-Logarithm c = hydronic_turn_lem c.args.task _ _ _ _ _ _ _ _ _ c.process_in_place-u.ensures c.in-Logarithm.is _ c.wet_input-input.ensures (refl, λ h. absurd (log_refused h))
 
 pub returns-in-NotFinite : goal.returns-in-NotFinite
 unfolding hydronic_by
-returns-in-NotFinite c = hydronic-turn c.args.task _ _ _ _ _ _ _ _ _ c.process_in_place-u.ensures c.in-NotFinite.is _ c.wet_input-input.ensures (refl, λ h. absurd (finite_refused h))
+returns-in-NotFinite c = hydronic_turn_lem c.args.task _ _ _ _ _ _ _ _ _ c.process_in_place-u.ensures c.in-NotFinite.is _ c.wet_input-input.ensures (refl, λ h. absurd (finite_refused h))

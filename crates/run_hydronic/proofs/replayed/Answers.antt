@@ -1,5 +1,5 @@
 use Rattle.runs.proofs.InPlace.{as_defined}
-use Rattle.runs.proofs.HydronicTurns.{replayed-turn}
+use Rattle.runs.proofs.HydronicTurns.{replayed_turn}
 use Rattle.substep.proofs.Charger.{idle_charges_none}
 use Rattle.logic.proofs.Branch.{via_true}
 use borrow.Author.Tests.{eq-eqb}
@@ -22,4 +22,4 @@ process_in_place-u-requires c =
 
 pub returns : goal.returns
 returns c =
-    replayed-turn c.args.task _ _ _ _ _ _ _ _ _ c.process_in_place-u.ensures refl _ _ c.if-n-card.false c.wet_input-input.ensures (c.replay_by.ensures _ _)
+    replayed_turn c.args.task _ _ _ _ _ _ _ _ _ c.process_in_place-u.ensures refl _ _ c.if-n-card.false c.wet_input-input.ensures (c.replay_by.ensures _ _)

@@ -1,5 +1,5 @@
 use Rattle.substep.specs.Substep.{without_logarithm, substep_from}
-use Rattle.substep.proofs.SubstepLaws.{passed, refused-here, transfer_value, transfer_count, whole, not_alike}
+use Rattle.substep.proofs.SubstepLaws.{passed, refused_here, transfer_value, transfer_count, whole, not_alike}
 use mathlib.Core.Path.{refl, sym, ◌∙◌}
 use borrow.Author.Rules.{rules}
 use Rattle.vectors_by_value.proofs.process_heat_battery_zones.Goals as goal
@@ -8,7 +8,7 @@ pub returns-in_default : goal.returns-in_default
 unfolding without_logarithm
 returns-in_default c =
     let b = c in
-    let e = refused-here b.args.card b.args.pcm _ b.args.input b.args.zones _ (transfer_value _ _ _ _ c.zone_transfer-transfer.ensures) c.enum_told-1.given.1 in
+    let e = refused_here b.args.card b.args.pcm _ b.args.input b.args.zones _ (transfer_value _ _ _ _ c.zone_transfer-transfer.ensures) c.enum_told-1.given.1 in
     c.bare.ensures ∙ (whole _ _ _ (without_logarithm b.args.zones) (refl, c.without_logarithm-o.ensures _) refl ∙ sym e)
 
 pub common_of-common-requires : goal.common_of-common-requires

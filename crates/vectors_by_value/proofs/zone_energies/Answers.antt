@@ -1,7 +1,7 @@
 use Rattle.zone.specs.Lent.{zone_salt}
 use Rattle.substep.specs.Substep.{zones_after}
 use Rattle.substep.specs.Progress.{Progress}
-use Rattle.substep.proofs.SubstepLaws.{zones_more, energies-end, not_alike}
+use Rattle.substep.proofs.SubstepLaws.{zones_more, energies_end, not_alike}
 use mathlib.Core.Path.{◌≡◌, refl}
 use Prim.Native.Nat.{◌≤◌, ◌-◌}
 use native.Mathlib.Omega.{arith}
@@ -24,4 +24,4 @@ loop-k-preserved c = (
 )
 
 pub returns : goal.returns
-returns c = energies-end _ _ _ _ c.args.input _ _ _ c.charger_heat-left.ensures c.loop-k.invariant.0 c.loop-k-test.false c.loop-k.invariant.1
+returns c = energies_end _ _ _ _ c.args.input _ _ _ c.charger_heat-left.ensures c.loop-k.invariant.0 c.loop-k-test.false c.loop-k.invariant.1

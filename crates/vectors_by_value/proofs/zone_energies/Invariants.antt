@@ -1,7 +1,7 @@
 use Rattle.zone.specs.Lent.{zone_salt}
 use Rattle.substep.specs.Substep.{zones_after}
 use Rattle.substep.specs.Progress.{Progress}
-use Rattle.substep.proofs.SubstepLaws.{zones_more, energies-end, not_alike}
+use Rattle.substep.proofs.SubstepLaws.{zones_more, energies_end, not_alike}
 use mathlib.Core.Path.{◌≡◌, refl}
 use Prim.Native.Nat.{◌≤◌, ◌-◌}
 use native.Mathlib.Omega.{arith}

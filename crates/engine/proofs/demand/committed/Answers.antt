@@ -1,7 +1,7 @@
 use Rattle.battery.specs.declared.Reply.{Reply}
 use Rattle.battery.specs.Ledger.{whole}
-use Rattle.engine.proofs.FiniteZones.{demand_leaves_finite, left-finite}
-use Rattle.engine_replies.proofs.Settled.{committed-with}
+use Rattle.engine.proofs.FiniteZones.{demand_leaves_finite, left_finite}
+use Rattle.engine_replies.proofs.Settled.{committed_with}
 use mathlib.Core.Path.{◌∙◌, ap}
 use borrow.Author.Rules.{rules}
 use Rattle.engine.proofs.demand.committed.Goals as goal
@@ -15,4 +15,4 @@ returns c =
     let w = c.demand_stopped-s.ensures in
     let b = whole a.ledger a.zones.now in
     let f = demand_leaves_finite b c.requires.2 a.demand a.feed in
-    c.unless_refused.ensures a.ledger _ _ (left-finite _ _ _ _ w (λ h. f)) ∙ committed-with _ _ _ _ _ w _ _ _ _ c.requires.3 c.service_class-class.ensures c.served_totals-totals.ensures c.demand_reply-a.ensures
+    c.unless_refused.ensures a.ledger _ _ (left_finite _ _ _ _ w (λ h. f)) ∙ committed_with _ _ _ _ _ w _ _ _ _ c.requires.3 c.service_class-class.ensures c.served_totals-totals.ensures c.demand_reply-a.ensures

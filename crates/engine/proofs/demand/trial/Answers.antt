@@ -1,5 +1,5 @@
 use Rattle.battery.specs.declared.Reply.{Reply}
-use Rattle.engine_replies.proofs.Settled.{trial-with}
+use Rattle.engine_replies.proofs.Settled.{trial_with}
 use mathlib.Core.Path.{◌∙◌, ap}
 use borrow.Author.Rules.{rules}
 use Rattle.engine.proofs.demand.trial.Goals as goal
@@ -11,4 +11,4 @@ pub returns : goal.returns
 returns c =
     let w = c.demand_stopped-s.ensures in
     let p = c.requires in
-    c.unless_refused.ensures c.args.ledger _ _ (λ h. p.2) ∙ trial-with _ _ _ _ _ w _ _ p.3 c.demand_reply-a.ensures
+    c.unless_refused.ensures c.args.ledger _ _ (λ h. p.2) ∙ trial_with _ _ _ _ _ w _ _ p.3 c.demand_reply-a.ensures

@@ -1,8 +1,8 @@
 use Rattle.battery.specs.declared.Reply.{Reply}
 use Rattle.battery.specs.Ledger.{whole}
 use Rattle.engine.specs.Steps.{charge}
-use Rattle.engine.proofs.FiniteZones.{charge-leaves-finite, left-finite}
-use Rattle.engine_replies.proofs.Settled.{charged-with}
+use Rattle.engine.proofs.FiniteZones.{charge_leaves_finite, left_finite}
+use Rattle.engine_replies.proofs.Settled.{charged_with}
 use mathlib.Core.Path.{◌∙◌, ap}
 use borrow.Author.Rules.{rules}
 use Rattle.engine.proofs.steps.charge.Goals as goal
@@ -15,6 +15,6 @@ unfolding charge
 returns c =
     let a = c.args in
     let w = c.charge_battery-s.ensures in
-    let f = charge-leaves-finite (whole a.ledger a.zones.now) c.requires.2 a.source a.target in
-    c.unless_refused.ensures a.ledger _ _ (left-finite _ _ _ _ w f)
-    ∙ charged-with _ _ _ _ _ w _ a.version _ _ c.charged_time-time.ensures c.charged_totals-totals.ensures c.run_reply-a.ensures
+    let f = charge_leaves_finite (whole a.ledger a.zones.now) c.requires.2 a.source a.target in
+    c.unless_refused.ensures a.ledger _ _ (left_finite _ _ _ _ w f)
+    ∙ charged_with _ _ _ _ _ w _ a.version _ _ c.charged_time-time.ensures c.charged_totals-totals.ensures c.run_reply-a.ensures

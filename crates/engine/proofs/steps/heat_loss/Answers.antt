@@ -1,8 +1,8 @@
 use Rattle.battery.specs.declared.Reply.{Reply}
 use Rattle.battery.specs.Ledger.{whole}
 use Rattle.engine.specs.Steps.{heat_loss}
-use Rattle.engine.proofs.FiniteZones.{loss_leaves_finite, left-finite}
-use Rattle.engine_replies.proofs.Settled.{cooled-with}
+use Rattle.engine.proofs.FiniteZones.{loss_leaves_finite, left_finite}
+use Rattle.engine_replies.proofs.Settled.{cooled_with}
 use mathlib.Core.Path.{◌∙◌, ap}
 use borrow.Author.Rules.{rules}
 use Rattle.engine.proofs.steps.heat_loss.Goals as goal
@@ -16,4 +16,4 @@ returns c =
     let a = c.args in
     let w = c.battery_heat_loss-s.ensures in
     let f = loss_leaves_finite (whole a.ledger a.zones.now) in
-    c.unless_refused.ensures a.ledger _ _ (left-finite _ _ _ _ w f) ∙ cooled-with _ _ _ _ _ w _ c.run_reply-a.ensures
+    c.unless_refused.ensures a.ledger _ _ (left_finite _ _ _ _ w f) ∙ cooled_with _ _ _ _ _ w _ c.run_reply-a.ensures

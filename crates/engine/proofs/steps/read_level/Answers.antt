@@ -1,7 +1,7 @@
 use mathlib.Core.List.{[]}
 use Rattle.engine_replies.specs.Replies.{checked}
 use Rattle.engine.specs.Steps.{read_level}
-use Rattle.engine_replies.proofs.Settled.{settled_refusal, plain_refusal, plain-with}
+use Rattle.engine_replies.proofs.Settled.{settled_refusal, plain_refusal, plain_with}
 use mathlib.Core.Path.{refl, ◌∙◌, ap}
 use borrow.Author.Rules.{rules}
 use Rattle.engine.proofs.steps.read_level.Goals as goal
@@ -15,4 +15,4 @@ returns-in-Above c = rw c.in-Above.is (settled_refusal _ _ _ _ 25 c.refused_repl
 
 pub returns-in-Level : goal.returns-in-Level
 unfolding read_level
-returns-in-Level c = rw c.in-Level.is (c.checked.ensures _ ∙ ap (checked _) (plain-with c.args.ledger [] _ _ _ _ c.plain_reply-a.ensures))
+returns-in-Level c = rw c.in-Level.is (c.checked.ensures _ ∙ ap (checked _) (plain_with c.args.ledger [] _ _ _ _ c.plain_reply-a.ensures))

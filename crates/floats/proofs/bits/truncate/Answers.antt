@@ -1,5 +1,5 @@
 use Rattle.floats.specs.Standins.{truncate}
-use Rattle.floats.proofs.Truncation.{trunc_nan, same_not_nan, trunc_negative, trunc_small, trunc-right, trunc-left, trunc_top}
+use Rattle.floats.proofs.Truncation.{trunc_nan, same_not_nan, trunc_negative, trunc_small, trunc_right, trunc_left, trunc_top}
 use borrow.Author.Rules.{rules}
 use Rattle.floats.proofs.bits.truncate.Goals as goal
 
@@ -20,11 +20,11 @@ returns-then-e-lt1023 c = trunc_small _ c.well_formed.0.1 c.if-bits-ge9223372036
 
 pub returns-then-e-lt1075 : goal.returns-then-e-lt1075
 unfolding truncate
-returns-then-e-lt1075 c = trunc-right _ c.well_formed.0.1 c.if-bits-ge9223372036854775808.false c.if-e-lt1023.false c.if-e-lt1075.true
+returns-then-e-lt1075 c = trunc_right _ c.well_formed.0.1 c.if-bits-ge9223372036854775808.false c.if-e-lt1023.false c.if-e-lt1075.true
 
 pub returns-then-e-lt1087 : goal.returns-then-e-lt1087
 unfolding truncate
-returns-then-e-lt1087 c = trunc-left _ c.well_formed.0.1 c.if-bits-ge9223372036854775808.false c.if-e-lt1075.false c.if-e-lt1087.true
+returns-then-e-lt1087 c = trunc_left _ c.well_formed.0.1 c.if-bits-ge9223372036854775808.false c.if-e-lt1075.false c.if-e-lt1087.true
 
 pub returns : goal.returns
 unfolding truncate

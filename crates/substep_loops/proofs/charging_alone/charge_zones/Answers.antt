@@ -3,9 +3,9 @@ use Rattle.floats.specs.Constants.{zero}
 use Rattle.zone.specs.Lent.{zone_salt}
 use Rattle.zone.proofs.Salts.{one_salt}
 use Rattle.substep.specs.declared.ZoneStep.{ZoneStep}
-use Rattle.substep.proofs.OneLoop.{Underway, start_of, underway-start, underway-end, zone_takes_none, no-more-logarithms}
+use Rattle.substep.proofs.OneLoop.{Underway, start_of, underway_start, underway_end, zone_takes_none, no_more_logarithms}
 use Rattle.floats.proofs.Sum2Laws.{no_sum}
-use Rattle.substep_loops.proofs.ChargingSteps.{charging-more}
+use Rattle.substep_loops.proofs.ChargingSteps.{charging_more}
 use mathlib.Core.Path.{◌≡◌, refl, ◌∙◌, ap}
 use Prim.Native.Nat.{◌≤◌, ◌-◌}
 use native.Mathlib.Omega.{arith}
@@ -14,7 +14,7 @@ use borrow.Author.Rules.{rules}
 use Rattle.substep_loops.proofs.charging_alone.charge_zones.Goals as goal
 
 pub loop-k-init : goal.loop-k-init
-loop-k-init c = (omega arith, (refl, underway-start _ _ _ _ _ _ _))
+loop-k-init c = (omega arith, (refl, underway_start _ _ _ _ _ _ _))
 
 pub own_salt-salt-requires : goal.own_salt-salt-requires
 own_salt-salt-requires c = (c.requires.1.0.1 _ c.zone_index-j.ensures.upper_bound, c.zone_salt-first.ensures)
@@ -39,8 +39,8 @@ loop-k-preserved c =
     let step = c.charging_step-z.ensures _ in (
       omega arith,
       (
-        no-more-logarithms _ _ _ _ _ _ _ _ _ step i.loop-k.invariant.1.0,
-        charging-more b.args.common _ _ _ refl p.0 _ i.loop-k-test.true _ _ _ _ _ _ _ _ _ i.zone_index-j.ensures.value c.own_salt-salt.ensures step c.finite_step-spread.ensures p.1.1.0 i.loop-k.invariant.1.1,
+        no_more_logarithms _ _ _ _ _ _ _ _ _ step i.loop-k.invariant.1.0,
+        charging_more b.args.common _ _ _ refl p.0 _ i.loop-k-test.true _ _ _ _ _ _ _ _ _ i.zone_index-j.ensures.value c.own_salt-salt.ensures step c.finite_step-spread.ensures p.1.1.0 i.loop-k.invariant.1.1,
       ),
     )
 
@@ -49,4 +49,4 @@ pub returns : goal.returns
 unfolding of_bits add
 returns c =
     let l = c.loop-k in
-    underway-end _ _ _ _ _ _ c.requires.0 _ _ _ _ _ no_sum _ _ _ _ l.invariant.1.0 c.charger_heat-left.ensures l.invariant.0 c.loop-k-test.false l.invariant.1.1 c.progress_fault-fault.ensures
+    underway_end _ _ _ _ _ _ c.requires.0 _ _ _ _ _ no_sum _ _ _ _ l.invariant.1.0 c.charger_heat-left.ensures l.invariant.0 c.loop-k-test.false l.invariant.1.1 c.progress_fault-fault.ensures

@@ -1,4 +1,4 @@
-use Rattle.substep_loops.proofs.ChargingSteps.{charging-on, charging_off}
+use Rattle.substep_loops.proofs.ChargingSteps.{charging_on, charging_off}
 use borrow.Author.Rules.{rules}
 use Rattle.substep_loops.proofs.charging_alone.charging_step.Goals as goal
 
@@ -8,7 +8,7 @@ zone_target-own-requires c = c.requires.1
 pub returns-then-left : goal.returns-then-left
 returns-then-left c inlet =
     let b = c in
-    charging-on _ _ _ inlet _ _ b.requires.0 _ _ b.if-left.true (rw b.zone_target-own.ensures at b.charge_zone_alone-c.ensures) c.calculate_new_zone_temperature-update.ensures
+    charging_on _ _ _ inlet _ _ b.requires.0 _ _ b.if-left.true (rw b.zone_target-own.ensures at b.charge_zone_alone-c.ensures) c.calculate_new_zone_temperature-update.ensures
 
 pub returns : goal.returns
 returns c inlet = charging_off _ _ _ inlet _ _ c.requires.0 c.if-left.false

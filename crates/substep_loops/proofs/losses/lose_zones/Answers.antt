@@ -1,8 +1,8 @@
 use Rattle.floats.specs.Constants.{zero}
 use Rattle.zone.specs.Lent.{zone_salt}
 use Rattle.substep.specs.declared.ZoneStep.{ZoneStep}
-use Rattle.substep.proofs.OneLoop.{Underway, start_of, underway-start, underway-end, zone_takes_none, no-more-logarithms}
-use Rattle.substep_loops.proofs.LossSteps.{upward, losing-more}
+use Rattle.substep.proofs.OneLoop.{Underway, start_of, underway_start, underway_end, zone_takes_none, no_more_logarithms}
+use Rattle.substep_loops.proofs.LossSteps.{upward, losing_more}
 use mathlib.Core.Path.{◌≡◌, refl, ◌∙◌, ap}
 use Prim.Native.Nat.{◌≤◌, ◌-◌}
 use native.Mathlib.Omega.{arith}
@@ -10,7 +10,7 @@ use borrow.Author.Rules.{rules}
 use Rattle.substep_loops.proofs.losses.lose_zones.Goals as goal
 
 pub loop-k-init : goal.loop-k-init
-loop-k-init c = (omega arith, (refl, underway-start _ _ _ _ _ _ _))
+loop-k-init c = (omega arith, (refl, underway_start _ _ _ _ _ _ _))
 
 pub own_salt-salt-requires : goal.own_salt-salt-requires
 own_salt-salt-requires c = (c.requires.1.0.1 _ c.loop-k-test.true, c.zone_salt-first.ensures)
@@ -46,12 +46,12 @@ loop-k-preserved c =
     let step = c.loss_step-z.ensures _ in (
       omega arith,
       (
-        no-more-logarithms _ _ _ _ _ _ _ _ _ step i.loop-k.invariant.1.0,
-        losing-more b.args.common _ _ _ refl p.0 _ i.loop-k-test.true _ _ _ _ _ _ _ _ _ (upward _ _ _ p.1.1.0) c.own_salt-salt.ensures step c.finite_step-spread.ensures _ _ p.1.1.0 (rw i.charger_heat-left.ensures p.1.1.1) c.sum2_step-sum.ensures i.loop-k.invariant.1.1,
+        no_more_logarithms _ _ _ _ _ _ _ _ _ step i.loop-k.invariant.1.0,
+        losing_more b.args.common _ _ _ refl p.0 _ i.loop-k-test.true _ _ _ _ _ _ _ _ _ (upward _ _ _ p.1.1.0) c.own_salt-salt.ensures step c.finite_step-spread.ensures _ _ p.1.1.0 (rw i.charger_heat-left.ensures p.1.1.1) c.sum2_step-sum.ensures i.loop-k.invariant.1.1,
       ),
     )
 
 pub returns : goal.returns
 returns c =
     let l = c.loop-k in
-    underway-end _ _ _ _ _ _ c.requires.0 _ _ _ _ _ _ _ _ _ _ l.invariant.1.0 c.charger_heat-left.ensures l.invariant.0 c.loop-k-test.false l.invariant.1.1 c.progress_fault-fault.ensures
+    underway_end _ _ _ _ _ _ c.requires.0 _ _ _ _ _ _ _ _ _ _ l.invariant.1.0 c.charger_heat-left.ensures l.invariant.0 c.loop-k-test.false l.invariant.1.1 c.progress_fault-fault.ensures

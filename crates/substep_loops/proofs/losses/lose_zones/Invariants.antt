@@ -1,8 +1,8 @@
 use Rattle.floats.specs.Constants.{zero}
 use Rattle.zone.specs.Lent.{zone_salt}
 use Rattle.substep.specs.declared.ZoneStep.{ZoneStep}
-use Rattle.substep.proofs.OneLoop.{Underway, start_of, underway-start, underway-end, zone_takes_none, no-more-logarithms}
-use Rattle.substep_loops.proofs.LossSteps.{upward, losing-more}
+use Rattle.substep.proofs.OneLoop.{Underway, start_of, underway_start, underway_end, zone_takes_none, no_more_logarithms}
+use Rattle.substep_loops.proofs.LossSteps.{upward, losing_more}
 use mathlib.Core.Path.{◌≡◌, refl, ◌∙◌, ap}
 use Prim.Native.Nat.{◌≤◌, ◌-◌}
 use native.Mathlib.Omega.{arith}

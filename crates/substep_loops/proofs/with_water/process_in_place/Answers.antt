@@ -1,7 +1,7 @@
 use Rattle.substep.specs.Substep.{zone_transfer, logarithms_of, without_logarithm, outcome_of}
 use Rattle.zone_water.specs.declared.Mode.{Mode}
 use Rattle.substep.specs.declared.Substep.{Substep}
-use Rattle.substep.proofs.SubstepLaws.{passed, refused-here, transfer_value, transfer_count, common-level}
+use Rattle.substep.proofs.SubstepLaws.{passed, refused_here, transfer_value, transfer_count, common_level}
 use mathlib.Core.Path.{sym, ◌∙◌, ap}
 use borrow.Author.Rules.{rules}
 use Rattle.substep_loops.proofs.with_water.process_in_place.Goals as goal
@@ -10,7 +10,7 @@ pub returns-in_default : goal.returns-in_default
 unfolding without_logarithm
 returns-in_default c =
     let b = c in
-    let e = sym (refused-here b.args.card b.args.pcm _ b.args.input b.args.zones.now _ (transfer_value _ _ _ _ c.zone_transfer-transfer.ensures ∙ ap (λ (m : Mode). zone_transfer m b.args.card b.args.input) (sym b.requires.1.1.0)) c.enum_told-1.given.1) in
+    let e = sym (refused_here b.args.card b.args.pcm _ b.args.input b.args.zones.now _ (transfer_value _ _ _ _ c.zone_transfer-transfer.ensures ∙ ap (λ (m : Mode). zone_transfer m b.args.card b.args.input) (sym b.requires.1.1.0)) c.enum_told-1.given.1) in
     (ap (λ (v : Substep). v.zones) e, c.without_logarithm.ensures _ ∙ ap outcome_of e)
 
 pub common_of-common-requires : goal.common_of-common-requires
@@ -19,7 +19,7 @@ common_of-common-requires c = sym c.requires.1.1.0
 pub zones_in_place-requires : goal.zones_in_place-requires
 zones_in_place-requires c =
     let p = c.requires in
-    (p.0, (p.1.0, λ h e j l. p.1.1.1 h j l ∙ sym (common-level _ _ _ _ _ _ c.common_of-common.ensures)))
+    (p.0, (p.1.0, λ h e j l. p.1.1.1 h j l ∙ sym (common_level _ _ _ _ _ _ c.common_of-common.ensures)))
 
 pub returns : goal.returns
 returns c =

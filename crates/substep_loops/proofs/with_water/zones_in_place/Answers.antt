@@ -4,7 +4,7 @@ use Rattle.floats.specs.Constants.{zero}
 use Rattle.zone.specs.declared.Kilojoules.{Kilojoules}
 use Rattle.substep.proofs.SubstepLaws.{left_at_first}
 use Rattle.substep.specs.declared.ZoneStep.{ZoneStep}
-use Rattle.substep.proofs.OneLoop.{Underway, start_of, underway-start, underway-more, underway-end, zone_takes_none, no-more-logarithms}
+use Rattle.substep.proofs.OneLoop.{Underway, start_of, underway_start, underway_more, underway_end, zone_takes_none, no_more_logarithms}
 use mathlib.Core.Path.{◌≡◌, refl, sym, ◌∙◌, ap}
 use Prim.Native.Nat.{◌≤◌, ◌-◌}
 use native.Mathlib.Omega.{arith}
@@ -12,7 +12,7 @@ use borrow.Author.Rules.{rules}
 use Rattle.substep_loops.proofs.with_water.zones_in_place.Goals as goal
 
 pub loop-k-init : goal.loop-k-init
-loop-k-init c = (omega arith, (refl, underway-start _ _ _ _ _ _ _))
+loop-k-init c = (omega arith, (refl, underway_start _ _ _ _ _ _ _))
 
 pub own_salt-salt-requires : goal.own_salt-salt-requires
 own_salt-salt-requires c = (c.requires.1.0.1 _ c.zone_index-j.ensures.upper_bound, c.zone_salt-first.ensures)
@@ -50,12 +50,12 @@ loop-k-preserved c =
     let step = c.zone_step-z.ensures in (
       omega arith,
       (
-        no-more-logarithms _ _ _ _ _ _ _ _ _ step i.loop-k.invariant.1.0,
-        underway-more _ _ _ _ refl i.requires.0 _ i.loop-k-test.true _ _ _ _ _ _ _ _ _ _ _ i.loop-k.invariant.1.1 c.zone_index-j.ensures.value c.own_salt-salt.ensures step c.sum2_step-sum.ensures c.finite_step-spread.ensures,
+        no_more_logarithms _ _ _ _ _ _ _ _ _ step i.loop-k.invariant.1.0,
+        underway_more _ _ _ _ refl i.requires.0 _ i.loop-k-test.true _ _ _ _ _ _ _ _ _ _ _ i.loop-k.invariant.1.1 c.zone_index-j.ensures.value c.own_salt-salt.ensures step c.sum2_step-sum.ensures c.finite_step-spread.ensures,
       ),
     )
 
 pub returns : goal.returns
 returns c =
     let l = c.loop-k in
-    underway-end _ _ _ _ _ _ c.requires.0 _ _ _ _ _ _ _ _ _ _ l.invariant.1.0 c.charger_heat-left.ensures l.invariant.0 c.loop-k-test.false l.invariant.1.1 c.progress_fault-fault.ensures
+    underway_end _ _ _ _ _ _ c.requires.0 _ _ _ _ _ _ _ _ _ _ l.invariant.1.0 c.charger_heat-left.ensures l.invariant.0 c.loop-k-test.false l.invariant.1.1 c.progress_fault-fault.ensures

@@ -4,7 +4,7 @@ use Rattle.floats.specs.Constants.{zero}
 use Rattle.zone.specs.declared.Kilojoules.{Kilojoules}
 use Rattle.substep.proofs.SubstepLaws.{left_at_first}
 use Rattle.substep.specs.declared.ZoneStep.{ZoneStep}
-use Rattle.substep.proofs.OneLoop.{Underway, start_of, underway-start, underway-more, underway-end, zone_takes_none, no-more-logarithms}
+use Rattle.substep.proofs.OneLoop.{Underway, start_of, underway_start, underway_more, underway_end, zone_takes_none, no_more_logarithms}
 use mathlib.Core.Path.{◌≡◌, refl, sym, ◌∙◌, ap}
 use Prim.Native.Nat.{◌≤◌, ◌-◌}
 use native.Mathlib.Omega.{arith}
