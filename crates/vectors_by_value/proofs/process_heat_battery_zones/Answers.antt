@@ -8,7 +8,7 @@ pub returns-in_default : goal.returns-in_default
 unfolding without_logarithm
 returns-in_default c =
     let b = c in
-    let e = refused_here b.args.card b.args.pcm _ b.args.input b.args.zones _ (transfer_value _ _ _ _ c.zone_transfer-transfer.ensures) c.enum_told-1.given.1 in
+    let e = refused_here b.args.card b.args.pcm _ b.args.input b.args.zones _ (transfer_value _ _ _ _ c.zone_transfer-transfer.ensures) c.in_default.is in
     c.bare.ensures ∙ (whole _ _ _ (without_logarithm b.args.zones) (refl, c.without_logarithm-o.ensures _) refl ∙ sym e)
 
 pub common_of-common-requires : goal.common_of-common-requires
@@ -24,5 +24,5 @@ unfolding substep_from
 returns c =
     let b = c in
     let shared = c.zone_transfer-transfer.ensures in
-    let e = passed b.args.card b.args.pcm _ b.args.input b.args.zones _ _ _ _ (transfer_value _ _ _ _ shared) c.share-1.given.1 c.common_of-common.ensures (transfer_count _ _ _ _ shared) in
+    let e = passed b.args.card b.args.pcm _ b.args.input b.args.zones _ _ _ _ (transfer_value _ _ _ _ shared) c.in-Value.is c.common_of-common.ensures (transfer_count _ _ _ _ shared) in
     c.with_arrays.ensures ∙ (whole _ _ _ _ c.zones_in_place-o.ensures c.zone_energies-energies.ensures ∙ sym e)
