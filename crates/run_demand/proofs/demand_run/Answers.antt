@@ -4,7 +4,8 @@ use Rattle.runs.proofs.InPlace.{as_defined}
 use native.Mathlib.Nat.{sub-zero}
 use Rattle.runs.specs.Zoned.{zoned}
 use Rattle.run_demand.specs.Demand.{demand_run}
-use mathlib.Core.Path.{◌≡◌, ◌∙◌}
+use mathlib.Core.Path.{◌≡◌, ◌∙◌, ap}
+use mathlib.Core.Bool.{not}
 use Prim.Native.Nat.{◌≤◌, ◌-◌}
 use native.Mathlib.Omega.{arith}
 use borrow.Author.Rules.{rules}
@@ -16,15 +17,18 @@ loop-state-init c = (omega arith, simp sub-zero)
 pub loop-state-preserved : goal.loop-state-preserved
 loop-state-preserved c =
     let l = c.loop-state in
-    (omega arith, run_on c.args.task _ _ _ _ _ _ l.invariant.0 c.if-substeps-budget.false c.if-not-state.false c.demand_substep-turn.ensures c.enum_told-1.given.1 ∙ l.invariant.1)
+    (omega arith, run_on c.args.task _ _ _ _ _ _ l.invariant.0 c.if-substeps-budget.false (ap not c.if-not-state.false) c.demand_substep-turn.ensures c.in_default.is ∙ l.invariant.1)
 
 pub returns-then-not-state : goal.returns-then-not-state
-returns-then-not-state c = (as_defined _ _ _ _ (demand_no_step _ _ _ _ _ c.if-not-state.true ∙ c.loop-state.invariant.1), omega arith)
+returns-then-not-state c = record { as_defined = as_defined _ _ _ _ (demand_no_step _ _ _ _ _ (ap not c.if-not-state.true) ∙ c.loop-state.invariant.1); substeps_le_budget = omega arith }
 
 pub returns-then-substeps-budget : goal.returns-then-substeps-budget
-returns-then-substeps-budget c = (as_defined _ _ _ _ (demand_over_budget _ _ _ _ _ c.if-substeps-budget.true c.if-not-state.false ∙ c.loop-state.invariant.1), omega arith)
+returns-then-substeps-budget c = record { as_defined = as_defined _ _ _ _ (demand_over_budget _ _ _ _ _ c.if-substeps-budget.true (ap not c.if-not-state.false) ∙ c.loop-state.invariant.1); substeps_le_budget = omega arith }
 
 pub returns-in-Stop : goal.returns-in-Stop
 returns-in-Stop c =
     let l = c.loop-state in
-    (run_stops c.args.task _ _ _ _ _ _ l.invariant.0 c.if-substeps-budget.false c.if-not-state.false c.demand_substep-turn.ensures _ _ c.in-Stop.is l.invariant.1, omega arith)
+    record {
+      as_defined = run_stops c.args.task _ _ _ _ _ _ l.invariant.0 c.if-substeps-budget.false (ap not c.if-not-state.false) c.demand_substep-turn.ensures _ _ c.in-Stop.is l.invariant.1;
+      substeps_le_budget = omega arith;
+    }

@@ -18,17 +18,17 @@ hydronic_step-turn-requires c =
     let p = c.requires in
     (p.0, (search rules, p.1))
 
-took : (c : goal.After-enum-told) → c.hydronic_step-turn.result.substeps ≡ c.loop-substeps.substeps + 1
-took c =
-    wet_took c.args.task _ _ _ _ c.loop-substeps.invariant.0 c.if-substeps-steps.false _ _ c.if-substeps-budget.false c.hydronic_step-turn.ensures c.enum_told-1.given.1
-
 pub loop-substeps-smaller : goal.loop-substeps-smaller
-loop-substeps-smaller c = let n = took c in omega arith
+loop-substeps-smaller c =
+    let n : c.hydronic_step-turn.result.substeps ≡ c.loop-substeps.substeps + 1 =
+        wet_took c.args.task _ _ _ _ c.loop-substeps.invariant.0 c.if-substeps-steps.false _ _ c.if-substeps-budget.false c.hydronic_step-turn.ensures c.in_default.is in
+    omega arith
 
 pub loop-substeps-preserved : goal.loop-substeps-preserved
 loop-substeps-preserved c =
-    let n = took c in
-    (omega arith, omega arith, wet_on c.args.task _ _ _ _ c.loop-substeps.invariant.0 c.if-substeps-steps.false _ _ c.if-substeps-budget.false c.hydronic_step-turn.ensures c.enum_told-1.given.1 ∙ c.loop-substeps.invariant.2)
+    let n : c.hydronic_step-turn.result.substeps ≡ c.loop-substeps.substeps + 1 =
+        wet_took c.args.task _ _ _ _ c.loop-substeps.invariant.0 c.if-substeps-steps.false _ _ c.if-substeps-budget.false c.hydronic_step-turn.ensures c.in_default.is in
+    (omega arith, omega arith, wet_on c.args.task _ _ _ _ c.loop-substeps.invariant.0 c.if-substeps-steps.false _ _ c.if-substeps-budget.false c.hydronic_step-turn.ensures c.in_default.is ∙ c.loop-substeps.invariant.2)
 
 pub returns-then-substeps-steps : goal.returns-then-substeps-steps
 returns-then-substeps-steps c = as_defined _ _ _ _ (hydronic_time _ _ _ _ _ c.if-substeps-steps.true ∙ c.loop-substeps.invariant.2)
