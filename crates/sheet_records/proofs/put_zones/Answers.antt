@@ -16,7 +16,7 @@ pub loop-k-preserved : goal.loop-k-preserved
 unfolding zones_bytes
 loop-k-preserved c =
     let l = c.loop-k in
-    (omega arith, omega (arith, c.put_f64-p.ensures.0), c.put_f64-p.auto.0 ∙ l.invariant.2, rw add-one (then_f64 _ l.invariant.3 c.put_f64-p.ensures))
+    (omega arith, omega (arith, c.put_f64-p.ensures.0), c.put_f64-p.auto.bytes ∙ l.invariant.2, rw add-one (then_f64 _ l.invariant.3 c.put_f64-p.ensures))
 
 pub shape_of-bytes : goal.shape_of-bytes
 shape_of-bytes c = c.loop-k.invariant.2

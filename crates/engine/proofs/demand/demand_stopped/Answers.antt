@@ -9,4 +9,4 @@ unfolding demand_task
 demand_run-e-requires c = let p = c.requires in rw c.demand_task-task.ensures (p.0, p.1.0)
 
 pub returns : goal.returns
-returns c = rw (← (salts_at _ _ _ c.requires.1.1), ← c.demand_task-task.ensures, ← c.demand_start-start.ensures) (demand_ended_lem _ _ _ _ c.demand_run-e.ensures.0 c.demand_ended.ensures)
+returns c = rw (← (salts_at _ _ _ c.requires.1.1), ← c.demand_task-task.ensures, ← c.demand_start-start.ensures) (demand_ended_lem _ _ _ _ c.demand_run-e.ensures.as_defined c.demand_ended.ensures)
