@@ -41,3 +41,6 @@ returns-then-kind-eq7 c = via_false _ _ (ne_eqb _ _ c.if-kind-eq1.false) (via_fa
 pub returns-else-kind-eq7 : goal.returns-else-kind-eq7
 unfolding call_length
 returns-else-kind-eq7 c = via_false _ _ (ne_eqb _ _ c.if-kind-eq1.false) (via_false _ _ (ne_eqb _ _ c.if-kind-eq2.false) (via_false _ _ (ne_eqb _ _ c.if-kind-eq3.false) (via_false _ _ (ne_eqb _ _ c.if-kind-eq4.false) (via_false _ _ (ne_eqb _ _ c.if-kind-eq5.false) (via_false _ _ (ne_eqb _ _ c.if-kind-eq6.false) (via_false _ _ (ne_eqb _ _ c.if-kind-eq7.false) refl))))))
+
+pub overflow_add-result-then-kind-eq1 : goal.overflow_add-result-then-kind-eq1
+overflow_add-result-then-kind-eq1 c = omega (arith, c.commit_place.ensures, (commit_place_lem c.args.version).1)

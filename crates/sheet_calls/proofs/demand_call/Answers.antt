@@ -22,3 +22,9 @@ returns-then-all_three c = rw (← c.commit_place-commit.ensures, ← c.mark_ok.
 pub returns : goal.returns
 unfolding demand_call
 returns c = rw (← c.commit_place-commit.ensures, ← c.mark_ok.ensures, ← c.all_three.ensures) (via_false _ _ c.if-all_three.false refl)
+
+pub overflow_add-commit : goal.overflow_add-commit
+overflow_add-commit c = omega (arith, c.commit_place-commit.ensures, (commit_place_lem c.args.version).1)
+
+pub overflow_add-commit-2 : goal.overflow_add-commit-2
+overflow_add-commit-2 c = omega (arith, c.commit_place-commit.ensures, (commit_place_lem c.args.version).1)

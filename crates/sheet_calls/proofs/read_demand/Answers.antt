@@ -22,3 +22,15 @@ nth_f64-requires-2 c = omega (arith, demand_fits _ _ c.requires, c.commit_place-
 pub returns : goal.returns
 unfolding demand_at
 returns c = rw (← c.commit_place-commit.ensures, ← c.read_given-feed.ensures, ← c.nth_f64.ensures, ← c.nth_f64-2.ensures)
+
+pub overflow_add-commit : goal.overflow_add-commit
+overflow_add-commit c = omega (arith, c.commit_place-commit.ensures, (commit_place_lem c.args.version).1)
+
+pub overflow_add-result : goal.overflow_add-result
+overflow_add-result c = omega (arith, c.commit_place-commit.ensures, (commit_place_lem c.args.version).1)
+
+pub overflow_add-commit-2 : goal.overflow_add-commit-2
+overflow_add-commit-2 c = omega (arith, c.commit_place-commit.ensures, (commit_place_lem c.args.version).1)
+
+pub overflow_add-commit-3 : goal.overflow_add-commit-3
+overflow_add-commit-3 c = omega (arith, c.commit_place-commit.ensures, (commit_place_lem c.args.version).1)
