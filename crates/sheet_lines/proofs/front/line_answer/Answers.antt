@@ -22,6 +22,12 @@ slice_bounds-read_answer-end c =
     let h = headed a.version a.card a.bytes.now a.head c.requires.1 c.requires.2 in
     omega (arith, h.inside)
 
+pub slice_bounds-read_answer-count : goal.slice_bounds-read_answer-count
+slice_bounds-read_answer-count c =
+    let a = c.args in
+    let h = headed a.version a.card a.bytes.now a.head c.requires.1 c.requires.2 in
+    omega (arith, h.inside)
+
 pub read_answer-requires : goal.read_answer-requires
 read_answer-requires c =
     let a = c.args in

@@ -28,6 +28,12 @@ slice_bounds-marks_ok-end c =
     let h = head_some a.version a.card a.bytes.now a.head c.requires.0 c.if-head-ge1.true in
     omega (arith, h.inside)
 
+pub slice_bounds-marks_ok-count : goal.slice_bounds-marks_ok-count
+slice_bounds-marks_ok-count c =
+    let a = c.args in
+    let h = head_some a.version a.card a.bytes.now a.head c.requires.0 c.if-head-ge1.true in
+    omega (arith, h.inside)
+
 pub marks_ok-requires : goal.marks_ok-requires
 marks_ok-requires c =
     let a = c.args in
