@@ -21,21 +21,42 @@ pub slice_bounds-audit_lines-start : goal.slice_bounds-audit_lines-start
 slice_bounds-audit_lines-start c =
     let bs = c.args.sheet.now in
     let version = c.byte_or_zero-version.result in
-    let fit = card_line_fit version bs _ _ (sym c.card-1.given.1 ∙ c.card_line.ensures) in
+    let fit = card_line_fit version bs _ _ (sym c.in-Fit.is ∙ c.card_line.ensures) in
+    omega (arith, fit.2, opening_is version (drop 3 bs), (card_line_lem version bs fit.0).long)
+
+pub slice_bounds-audit_lines-count : goal.slice_bounds-audit_lines-count
+slice_bounds-audit_lines-count c =
+    let bs = c.args.sheet.now in
+    let version = c.byte_or_zero-version.result in
+    let fit = card_line_fit version bs _ _ (sym c.in-Fit.is ∙ c.card_line.ensures) in
     omega (arith, fit.2, opening_is version (drop 3 bs), (card_line_lem version bs fit.0).long)
 
 pub slice_bounds-audit_lines-end : goal.slice_bounds-audit_lines-end
 slice_bounds-audit_lines-end c =
     let bs = c.args.sheet.now in
     let version = c.byte_or_zero-version.result in
-    let fit = card_line_fit version bs _ _ (sym c.card-1.given.1 ∙ c.card_line.ensures) in
+    let fit = card_line_fit version bs _ _ (sym c.in-Fit.is ∙ c.card_line.ensures) in
+    omega (arith, fit.2, opening_is version (drop 3 bs), (card_line_lem version bs fit.0).long)
+
+pub slice_bounds-audit_lines-start-in-Fit : goal.slice_bounds-audit_lines-start-in-Fit
+slice_bounds-audit_lines-start-in-Fit c =
+    let bs = c.args.sheet.now in
+    let version = c.byte_or_zero-version.result in
+    let fit = card_line_fit version bs _ _ (sym c.in-Fit.is ∙ c.card_line.ensures) in
+    omega (arith, fit.2, opening_is version (drop 3 bs), (card_line_lem version bs fit.0).long)
+
+pub slice_bounds-audit_lines-count-in-Fit : goal.slice_bounds-audit_lines-count-in-Fit
+slice_bounds-audit_lines-count-in-Fit c =
+    let bs = c.args.sheet.now in
+    let version = c.byte_or_zero-version.result in
+    let fit = card_line_fit version bs _ _ (sym c.in-Fit.is ∙ c.card_line.ensures) in
     omega (arith, fit.2, opening_is version (drop 3 bs), (card_line_lem version bs fit.0).long)
 
 pub audit_lines-requires : goal.audit_lines-requires
 audit_lines-requires c =
     let bs = c.args.sheet.now in
     let version = c.byte_or_zero-version.result in
-    let fit = card_line_fit version bs _ _ (sym c.card-1.given.1 ∙ c.card_line.ensures) in
+    let fit = card_line_fit version bs _ _ (sym c.in-Fit.is ∙ c.card_line.ensures) in
     let line = card_line_lem version bs fit.0 in (
       rw fit.1 (fields_accepted version (card_part version bs) line.accepted),
       card_whole version bs _ fit.2 (omega (arith, fit.2, opening_is version (drop 3 bs), line.long)),

@@ -5,7 +5,7 @@ use Rattle.auditor.proofs.Bounds.{below_accepted, below_refused}
 use Rattle.auditor.proofs.verdict_word.Goals as goal
 
 pub overflow_mul-result : goal.overflow_mul-result
-overflow_mul-result c = omega (arith, below_accepted _ limit _ c.verdict-1.given.1 c.requires)
+overflow_mul-result c = omega (arith, below_accepted _ limit _ c.in-Accepted.is c.requires)
 
 pub overflow_add-result : goal.overflow_add-result
 overflow_add-result c = omega (arith, below_refused _ limit _ _ c.in-Refused.is c.requires)

@@ -45,14 +45,14 @@ returns-then-own-eq-BAD_CALL c =
     let a = c.args in
     let l = c.loop-rest in
     let own = c.advance-own in
-    let read = sym c.line_call.ensures ∙ c.call-1.given.1 in
+    let read = sym c.line_call.ensures ∙ c.in-Good.is in
     sym (turn_out same_number a.version (services_at a.version a.line0.now) a.card l.b l.k l.rest.now _ c.loop-rest-test.true l.invariant.0.1 _ read own.result own.ensures c.if-own-eq-BAD_CALL.true)
 
 pub line_answer-seen-requires : goal.line_answer-seen-requires
 line_answer-seen-requires c =
     let a = c.args in
     let front = c.line_head-head in
-    let read = sym c.line_call.ensures ∙ c.call-1.given.1 in
+    let read = sym c.line_call.ensures ∙ c.in-Good.is in
     ((accepted_layers _ _ c.requires.0).1, front.ensures, (head_read a.version (services_at a.version a.line0.now) a.card c.loop-rest.rest.now front.result front.ensures _ read).ok)
 
 pub answers_agree-requires : goal.answers_agree-requires
@@ -63,7 +63,15 @@ pub slice_bounds-rest-start : goal.slice_bounds-rest-start
 slice_bounds-rest-start c =
     let a = c.args in
     let front = c.line_head-head in
-    let read = sym c.line_call.ensures ∙ c.call-1.given.1 in
+    let read = sym c.line_call.ensures ∙ c.in-Good.is in
+    let head = head_read a.version (services_at a.version a.line0.now) a.card c.loop-rest.rest.now front.result front.ensures _ read in
+    omega (arith, head.inside)
+
+pub slice_bounds-rest-count : goal.slice_bounds-rest-count
+slice_bounds-rest-count c =
+    let a = c.args in
+    let front = c.line_head-head in
+    let read = sym c.line_call.ensures ∙ c.in-Good.is in
     let head = head_read a.version (services_at a.version a.line0.now) a.card c.loop-rest.rest.now front.result front.ensures _ read in
     omega (arith, head.inside)
 
@@ -71,7 +79,7 @@ pub slice_bounds-rest-end : goal.slice_bounds-rest-end
 slice_bounds-rest-end c =
     let a = c.args in
     let front = c.line_head-head in
-    let read = sym c.line_call.ensures ∙ c.call-1.given.1 in
+    let read = sym c.line_call.ensures ∙ c.in-Good.is in
     let head = head_read a.version (services_at a.version a.line0.now) a.card c.loop-rest.rest.now front.result front.ensures _ read in
     omega (arith, head.inside)
 
@@ -86,7 +94,7 @@ loop-rest-smaller c =
     let a = c.args in
     let t = c.loop-rest.rest.now in
     let front = c.line_head-head in
-    let read = sym c.line_call.ensures ∙ c.call-1.given.1 in
+    let read = sym c.line_call.ensures ∙ c.in-Good.is in
     let head = head_read a.version (services_at a.version a.line0.now) a.card t front.result front.ensures _ read in
     rest_less t front.result.size (omega (arith, head.inside)) head.inside.1
 
@@ -96,7 +104,7 @@ loop-rest-preserved c =
     let l = c.loop-rest in
     let own = c.advance-own in
     let front = c.line_head-head in
-    let read = sym c.line_call.ensures ∙ c.call-1.given.1 in
+    let read = sym c.line_call.ensures ∙ c.in-Good.is in
     let head = head_read a.version (services_at a.version a.line0.now) a.card l.rest.now front.result front.ensures _ read in (
       walked_on same_number a.version (services_at a.version a.line0.now) a.card a.bytes.now l.rest.now _ l.b _ l.k front.result.size
           l.invariant.0 (omega (arith, head.inside)) head.inside.1 head.follows
@@ -110,7 +118,7 @@ returns-else-answers_agree c =
     let a = c.args in
     let l = c.loop-rest in
     let own = c.advance-own in
-    let read = sym c.line_call.ensures ∙ c.call-1.given.1 in
+    let read = sym c.line_call.ensures ∙ c.in-Good.is in
     sym
     (turn_differs same_number a.version (services_at a.version a.line0.now) a.card l.b l.k l.rest.now _ c.loop-rest-test.true l.invariant.0.1 _ read own.result own.ensures c.if-own-eq-BAD_CALL.false
     (ap (λ (x : Answer). agrees same_number x own.result) (sym c.line_answer-seen.ensures) ∙ sym c.answers_agree.ensures ∙ c.if-answers_agree.false))
