@@ -29,7 +29,7 @@ use Rattle.sheet_calls.proofs.CallLaws.{same_call, no_call}
 use Rattle.sheet_calls.proofs.CallExact.{call_laid, laid_call}
 use Rattle.entries.specs.Entry.{After, unchanged, renewed, entered, line_after, record_laid}
 use Rattle.heat_battery.specs.Entries.{entry_of}
-use Rattle.heat_battery.specs.Cases.{GoodRecord, GoodCall, CallCase10, bad_record, bad_call_lem, CallCase11, GetsLine}
+use Rattle.heat_battery.specs.Cases.{GoodRecord, GoodCall, CallCase10, bad_record, bad_call, CallCase11, GetsLine}
 use Rattle.entries.proofs.Entering.{LaidRecord, record_laid_lem, laid_record, line_ten, line_room, line_entered, code_of, unchanged_by}
 use Rattle.heat_battery.proofs.Calling.{entry_unlaid, entry_bad, entry_read_lem}
 use Rattle.heat_battery.proofs.Finite.{record_card_lem, accepted_good, good_accepted}
@@ -100,17 +100,17 @@ module _ (version : ℕ) (known : known_version version ≡ true) (rec call free
           (is ∙ line_entered version rec call free s fine (rw card r))
       on (no r) =
           let h : length free < line_size version (card_at version rec) (length call) = omega arith in
-          eleven (record { record_good = g; call_good = good; no_room_lem = h }) (is ∙ line_room version rec call free s fine (rw card h))
+          eleven (record { record_good = g; call_good = good; no_room = h }) (is ∙ line_room version rec call free s fine (rw card h))
 
   read_way : record_laid version rec ≡ true → (c : Call) → call_of version (services_at version rec) call ≡ Good c → (p q : Bool) → battery_accepted version b ≡ p → call_in_range version b.card c ≡ q → CallWay version rec call free o
   read_way l c e true true h k = stepped (accepted_good version rec (record_laid_lem version rec l) h) l c e h k
   read_way l c e true false h k =
-      ten (bad_call_lem (λ g. no_both (sym (g.in_range c e) ∙ ap (λ (x : Card). call_in_range version x c) (sym (record_card_lem version rec)) ∙ k))) (refused_ten c (rw (h, k)) l e)
+      ten (bad_call (λ g. no_both (sym (g.in_range c e) ∙ ap (λ (x : Card). call_in_range version x c) (sym (record_card_lem version rec)) ∙ k))) (refused_ten c (rw (h, k)) l e)
   read_way l c e false q h k =
       ten (bad_record (λ g. no_both (sym (good_accepted version rec (record_laid_lem version rec l) g) ∙ h))) (refused_ten c (rw h) l e)
 
   laid_way : record_laid version rec ≡ true → (r : ReadCall) → call_of version (services_at version rec) call ≡ r → CallWay version rec call free o
-  laid_way l Bad e = ten (bad_call_lem (λ g. let x = laid_call version (services_at version rec) call g.laid in no_call (call_of version (services_at version rec) call) e x.1)) (entry_bad version rec call free known l e)
+  laid_way l Bad e = ten (bad_call (λ g. let x = laid_call version (services_at version rec) call g.laid in no_call (call_of version (services_at version rec) call) e x.1)) (entry_bad version rec call free known l e)
   laid_way l (Good c) e = read_way l c e (battery_accepted version b) (call_in_range version b.card c) refl refl
 
   any_way : (t : Bool) → record_laid version rec ≡ t → CallWay version rec call free o
@@ -129,7 +129,7 @@ module _ (version : ℕ) (known : known_version version ≡ true) (rec call free
 
   no_case : GoodRecord version rec → GoodCall version (services_at version rec) (card_at version rec) call → CallCase10 version rec call → ⊥
   no_case g k (bad_record h) = h g
-  no_case g k (bad_call_lem h) = h k
+  no_case g k (bad_call h) = h k
 
   pub call_10 : ((entry_of version rec call free).code ≡ 10) ↔ CallCase10 version rec call
   call_10 = (on call_way, back call_way)

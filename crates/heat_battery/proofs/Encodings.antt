@@ -43,7 +43,7 @@ use Rattle.heat_battery.specs.Entries.{entry_of}
 use Rattle.heat_battery.specs.Lists.{no_line, line_taken, free_rest, answer_read, answer_to, Encoded}
 use Rattle.heat_battery.proofs.CallCases.{CallWay, ten, eleven, line, call_way, call_10}
 use Rattle.heat_battery.proofs.Finite.{accepted_good}
-use Rattle.heat_battery.specs.Cases.{CallCase10, bad_record, bad_call_lem}
+use Rattle.heat_battery.specs.Cases.{CallCase10, bad_record, bad_call}
 use Rattle.engine.proofs.StepKeeps.{step_refusals, step_keeps_card, refused_keeps_state, step_keeps_good}
 
 -- the entry's line for an answer, with the record as the answer's encoding
@@ -105,7 +105,7 @@ module _ (version : ℕ) (card : List ℕ) (b : Battery) (rec : List ℕ) (e : E
 
       on : CallCase10 version rec call → ⊥
       on (bad_record n) = n (accepted_good version rec encoded_laid (ap (battery_accepted version) read_back ∙ e.good.accepted))
-      on (bad_call_lem n) =
+      on (bad_call n) =
           n (record { laid = call_laid version (services_at version rec) call c there; in_range = λ d l. rw (same_call (call_of version (services_at version rec) call) there l, card_is) i })
 
   renewed_is : (c : Call) → renewed version rec (step_of version b c) ≡ record_bytes version card (step_of version b c).battery

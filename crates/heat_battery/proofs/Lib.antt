@@ -9,5 +9,4 @@ pub mod CardCases
 pub mod OpenCases
 pub mod OwnCases
 pub mod AnyVersion
-pub mod Lent
 pub mod RecordAfter

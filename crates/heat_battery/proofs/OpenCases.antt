@@ -50,7 +50,7 @@ open_way version known card rec free =
         other_record (record { card_good = record { long = l; accepted = a }; other_length = k }) (is ∙ open_record version card rec free l a k)
     on (yes l) (yes a) (yes k) (no r) =
         let h : length free < opening_length version card = omega arith in
-        no_room_lem (record { card_good = record { long = l; accepted = a }; long = k; no_room_lem = h }) (is ∙ open_room version card rec free l a k h)
+        no_room_lem (record { card_good = record { long = l; accepted = a }; long = k; no_room = h }) (is ∙ open_room version card rec free l a k h)
     on (yes l) (yes a) (yes k) (yes r) =
         opens (record { card_good = record { long = l; accepted = a }; long = k; room = r }) (is ∙ opened version card rec free l a k r)
 

@@ -71,7 +71,7 @@ pub record OpenCase10 (version : ℕ) (card rec : List ℕ) : Type 0 where
 pub record OpenCase11 (version : ℕ) (card rec free : List ℕ) : Type 0 where
   pub card_good : AcceptedBytes version card
   pub long : length rec ≡ record_length version card
-  pub no_room_lem : length free < opening_length version card
+  pub no_room : length free < opening_length version card
 
 -- none of them
 pub record Opens (version : ℕ) (card rec free : List ℕ) : Type 0 where
@@ -97,13 +97,13 @@ pub record GoodCall (version : ℕ) (services : List Service) (card : Card) (cal
 -- '10 a call field not finite or out of range .., or a battery handed in whose card 1 to 4 refuse or whose zones or totals aren't finite', 61 'counted with 1 to 4'
 pub data CallCase10 (version : ℕ) (rec call : List ℕ) : Type 0 where
   bad_record : (GoodRecord version rec → ⊥) → CallCase10 version rec call
-  bad_call_lem : (GoodCall version (services_at version rec) (card_at version rec) call → ⊥) → CallCase10 version rec call
+  bad_call : (GoodCall version (services_at version rec) (card_at version rec) call → ⊥) → CallCase10 version rec call
 
 -- 'fewer free sheet bytes than the line needs. 10 before 11'
 pub record CallCase11 (version : ℕ) (rec call free : List ℕ) : Type 0 where
   pub record_good : GoodRecord version rec
   pub call_good : GoodCall version (services_at version rec) (card_at version rec) call
-  pub no_room_lem : length free < line_size version (card_at version rec) (length call)
+  pub no_room : length free < line_size version (card_at version rec) (length call)
 
 -- neither 10 nor 11: the call gets a line
 pub record GetsLine (version : ℕ) (rec call free : List ℕ) : Type 0 where

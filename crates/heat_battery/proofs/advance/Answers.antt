@@ -56,7 +56,7 @@ enter-requires c =
     let l = record_laid_lem a.version rec r.requires.0 in
     let e = answer_card a.version rec a.battery c.advance-a.result _ r.requires.1 c.advance-a.ensures in (
       rw e (accepted_layers a.version (card_at a.version rec) (fields_accepted a.version rec l.card_accepted)).1,
-      read_short a.version (services_at a.version rec) a.call.now _ (sym (read_by_kind a.version (services_at a.version a.«record».now) a.call.now _ _ _ c.kind_of-kind.ensures c.demand_class-class.ensures c.call_by-read.ensures) ∙ c.read-1.given.1),
+      read_short a.version (services_at a.version rec) a.call.now _ (sym (read_by_kind a.version (services_at a.version a.«record».now) a.call.now _ _ _ c.kind_of-kind.ensures c.demand_class-class.ensures c.call_by-read.ensures) ∙ c.in-Good.is),
       rw e l.long,
     )
 

@@ -5,7 +5,7 @@ use borrow.Author.Rules.{rules}
 use Rattle.heat_battery.proofs.with_version.Goals as goal
 
 pub with_card-requires : goal.with_card-requires
-with_card-requires c = good_card _ _ _ (sym c.record_card-read.ensures ∙ c.read-1.given.1)
+with_card-requires c = good_card _ _ _ (sym c.record_card-read.ensures ∙ c.in-Good.is)
 
 pub returns-in-Bad : goal.returns-in-Bad
 unfolding entry_known

@@ -10,8 +10,8 @@ use Rattle.vectors_by_value.proofs.zone_energies.Given as goal
 
 abbrev pub invariant-loop-k : goal.invariant-loop-k
 invariant-loop-k l =
-    (l.k ≤ l.n) × (◌≡◌ {A = Progress} (record { zones = l.after; l.energies = l.energies; l.outlet = l.outlet; l.left = l.left; l.charged = l.charged })
-    (zones_after l.common (zone_salt l.salts l.step) l.n l.k (record { zones = l.initial.after; l.energies = l.initial.energies; l.outlet = l.initial.outlet; l.left = l.initial.left; l.charged = l.initial.charged })))
+    (l.k ≤ l.n) × (◌≡◌ {A = Progress} (record { zones = l.after; energies = l.energies; outlet = l.outlet; left = l.left; charged = l.charged })
+    (zones_after l.common (zone_salt l.salts l.step) l.n l.k (record { zones = l.initial.after; energies = l.initial.energies; outlet = l.initial.outlet; left = l.initial.left; charged = l.initial.charged })))
 
 abbrev pub decreases-loop-k : goal.decreases-loop-k
 decreases-loop-k l = l.n - l.k
