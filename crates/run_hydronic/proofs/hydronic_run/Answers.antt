@@ -21,13 +21,13 @@ hydronic_step-turn-requires c =
 pub loop-substeps-smaller : goal.loop-substeps-smaller
 loop-substeps-smaller c =
     let n : c.hydronic_step-turn.result.substeps ≡ c.loop-substeps.substeps + 1 =
-        wet_took c.args.task _ _ _ _ c.loop-substeps.invariant.0 c.if-substeps-steps.false _ _ c.if-substeps-budget.false c.hydronic_step-turn.ensures c.in_default.is in
+    wet_took c.args.task _ _ _ _ c.loop-substeps.invariant.0 c.if-substeps-steps.false _ _ c.if-substeps-budget.false c.hydronic_step-turn.ensures c.in_default.is in
     omega arith
 
 pub loop-substeps-preserved : goal.loop-substeps-preserved
 loop-substeps-preserved c =
     let n : c.hydronic_step-turn.result.substeps ≡ c.loop-substeps.substeps + 1 =
-        wet_took c.args.task _ _ _ _ c.loop-substeps.invariant.0 c.if-substeps-steps.false _ _ c.if-substeps-budget.false c.hydronic_step-turn.ensures c.in_default.is in
+    wet_took c.args.task _ _ _ _ c.loop-substeps.invariant.0 c.if-substeps-steps.false _ _ c.if-substeps-budget.false c.hydronic_step-turn.ensures c.in_default.is in
     (omega arith, omega arith, wet_on c.args.task _ _ _ _ c.loop-substeps.invariant.0 c.if-substeps-steps.false _ _ c.if-substeps-budget.false c.hydronic_step-turn.ensures c.in_default.is ∙ c.loop-substeps.invariant.2)
 
 pub returns-then-substeps-steps : goal.returns-then-substeps-steps
