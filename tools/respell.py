@@ -41,8 +41,8 @@ def snake(name):
 
 
 def declared(paths):
-    """Names by whether a file of specs/ declares them, and whether one of proofs/ does."""
-    specs, proofs = set(), set()
+    """Names by whether a file of specs/ declares them, and whether one of proofs/ does; and the fields and constructors of specs/."""
+    specs, proofs, parts = set(), set(), set()
     for path in paths:
         into = specs if "/specs/" in path else proofs
         for line in read(path).split("\n"):
@@ -50,14 +50,16 @@ def declared(paths):
             m = SIGNATURE.match(line)
             if m and ": goal." not in line and not line.strip().startswith(("let ", "λ", "in ")):
                 into.update(m[2].split())
+                if into is specs and line[0] == " ":
+                    parts.update(m[2].split())
             m = RULESET.match(line)
             if m:
                 into.add(m[1])
-    return specs, proofs
+    return specs, proofs, parts
 
 
 def names(paths):
-    specs, proofs = declared(paths)
+    specs, proofs, parts = declared(paths)
     fits = lambda it: not re.match(r"[A-Z(]", it) and it not in ("=", "data", "record")
     specs, proofs = set(filter(fits, specs)), set(filter(fits, proofs))
     taken = collections.defaultdict(set)
@@ -68,7 +70,7 @@ def names(paths):
         # A definition has the name: in camel case before, or the only one of specs/.
         first = sorted(olds, key=lambda it: (it not in specs, not re.search(r"[a-z][A-Z]", it), ("-" in it) == (it in specs), it))[0]
         for it in olds:
-            new[it] = to if it == first else to + "_lem"
+            new[it] = to if it == first or it in parts else to + "_lem"
     fixed = {it: to for it, to in new.items() if it != to}
     # under no name's key: the names as they then are
     fixed["="] = set(new.values())
