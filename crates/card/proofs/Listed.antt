@@ -6,7 +6,7 @@ use mathlib.Core.Logic.{◌⊎◌, inl, inr, ◌↔◌}
 use Prim.Native.Nat.{ℕ, zero, suc, ◌+◌, ◌-◌, ◌≤◌, ◌<◌}
 use native.Mathlib.Decide.{ℕ_discrete, dec_lt}
 use native.Mathlib.Omega.{arith}
-use borrow.Author.Tests.{eq-eqb, ne_eqb, eqb-true, leb-true, le-leb}
+use borrow.Author.Tests.{eq-eqb, ne_eqb, leb-true, le-leb}
 use lib.Dec.{leb, leb→le, eqb}
 use lib.ListN.{length}
 use lib.Ieee.Bits.{is_true}

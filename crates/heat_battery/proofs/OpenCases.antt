@@ -30,7 +30,7 @@ data OpenWay (version : ℕ) (card rec free : List ℕ) (a : After) : Type 0 whe
   refused : length card ≡ card_length version card → (refusal_at version card ≡ 0 → ⊥) → a ≡ unchanged (refusal_at version card) rec free
       → OpenWay version card rec free a
   other_record : OpenCase10 version card rec → a ≡ unchanged 10 rec free → OpenWay version card rec free a
-  no_room_lem : OpenCase11 version card rec free → a ≡ unchanged 11 rec free → OpenWay version card rec free a
+  no_room : OpenCase11 version card rec free → a ≡ unchanged 11 rec free → OpenWay version card rec free a
   opens : Opens version card rec free
       → a ≡ opened_with version card free
       → OpenWay version card rec free a
@@ -50,7 +50,7 @@ open_way version known card rec free =
         other_record (record { card_good = record { long = l; accepted = a }; other_length = k }) (is ∙ open_record version card rec free l a k)
     on (yes l) (yes a) (yes k) (no r) =
         let h : length free < opening_length version card = omega arith in
-        no_room_lem (record { card_good = record { long = l; accepted = a }; long = k; no_room = h }) (is ∙ open_room version card rec free l a k h)
+        no_room (record { card_good = record { long = l; accepted = a }; long = k; no_room = h }) (is ∙ open_room version card rec free l a k h)
     on (yes l) (yes a) (yes k) (yes r) =
         opens (record { card_good = record { long = l; accepted = a }; long = k; room = r }) (is ∙ opened version card rec free l a k r)
 
@@ -72,7 +72,7 @@ module _ (version : ℕ) (known : known_version version ≡ true) (card rec free
       on (other_card l e) = inl (l, code_of (unchanged 1 rec free) e)
       on (refused l a e) = inr (l, sym (code_of (unchanged (refusal_at version card) rec free) e))
       on (other_record x e) = absurd (ten (code_of (unchanged 10 rec free) e))
-      on (no_room_lem x e) = absurd (eleven (code_of (unchanged 11 rec free) e))
+      on (no_room x e) = absurd (eleven (code_of (unchanged 11 rec free) e))
       on (opens x e) = absurd (z (code_of (opened_with version card free) e))
 
   -- 1 to 4 are the fields', and 61 the list's
@@ -199,7 +199,7 @@ module _ (version : ℕ) (known : known_version version ≡ true) (card rec free
       on (other_card l e) h = let n = code_of (unchanged 1 rec free) e in absurd (omega arith)
       on (refused l a e) h = absurd ((card_refusal_own 10 (refused_number a 10 e h)).1 refl)
       on (other_record x e) h = x
-      on (no_room_lem x e) h = let n = code_of (unchanged 11 rec free) e in absurd (omega arith)
+      on (no_room x e) h = let n = code_of (unchanged 11 rec free) e in absurd (omega arith)
       on (opens x e) h = let n = code_of (opened_with version card free) e in absurd (omega arith)
 
   pub open_11 : ((open_of version card rec free).code ≡ 11) ↔ OpenCase11 version card rec free
@@ -209,7 +209,7 @@ module _ (version : ℕ) (known : known_version version ≡ true) (card rec free
       on (other_card l e) h = let n = code_of (unchanged 1 rec free) e in absurd (omega arith)
       on (refused l a e) h = absurd ((card_refusal_own 11 (refused_number a 11 e h)).2 refl)
       on (other_record x e) h = let n = code_of (unchanged 10 rec free) e in absurd (omega arith)
-      on (no_room_lem x e) h = x
+      on (no_room x e) h = x
       on (opens x e) h = let n = code_of (opened_with version card free) e in absurd (omega arith)
 
   -- 0 exactly when the card has its length, 1 to 4 and 61 don't apply, the record has its length and there is room for the version and line 0
@@ -220,7 +220,7 @@ module _ (version : ℕ) (known : known_version version ≡ true) (card rec free
       on (other_card l e) h = let n = code_of (unchanged 1 rec free) e in absurd (omega arith)
       on (refused l a e) h = absurd (a (sym (code_of (unchanged (refusal_at version card) rec free) e) ∙ h))
       on (other_record x e) h = let n = code_of (unchanged 10 rec free) e in absurd (omega arith)
-      on (no_room_lem x e) h = let n = code_of (unchanged 11 rec free) e in absurd (omega arith)
+      on (no_room x e) h = let n = code_of (unchanged 11 rec free) e in absurd (omega arith)
       on (opens x e) h = x
 
   -- a refused opening changes no byte
@@ -231,7 +231,7 @@ module _ (version : ℕ) (known : known_version version ≡ true) (card rec free
       on (other_card l e) = unchanged_by 1 e
       on (refused l a e) = unchanged_by (refusal_at version card) e
       on (other_record x e) = unchanged_by 10 e
-      on (no_room_lem x e) = unchanged_by 11 e
+      on (no_room x e) = unchanged_by 11 e
       on (opens x e) = absurd (h (code_of (opened_with version card free) e))
 
   -- opening gives no other number
@@ -242,5 +242,5 @@ module _ (version : ℕ) (known : known_version version ≡ true) (card rec free
       on (other_card l e) = inr (inr (inr (inl (code_of (unchanged 1 rec free) e))))
       on (refused l a e) = inr (inr (inr (refused_number a o.code e refl)))
       on (other_record x e) = inr (inl (code_of (unchanged 10 rec free) e))
-      on (no_room_lem x e) = inr (inr (inl (code_of (unchanged 11 rec free) e)))
+      on (no_room x e) = inr (inr (inl (code_of (unchanged 11 rec free) e)))
       on (opens x e) = inl (code_of (opened_with version card free) e)

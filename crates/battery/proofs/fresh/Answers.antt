@@ -1,9 +1,7 @@
 use native.Mathlib.Numerals.{add-one}
 use Rattle.battery.specs.Battery.{fresh_zones, fresh}
 use mathlib.Core.Path.{◌≡◌, refl}
-use Prim.Native.Nat.{◌≤◌, ◌-◌}
 use native.Mathlib.Omega.{arith}
-use borrow.Author.Rules.{rules}
 use Rattle.battery.proofs.fresh.Goals as goal
 
 pub loop-k-init : goal.loop-k-init

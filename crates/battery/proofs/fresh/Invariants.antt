@@ -1,9 +1,6 @@
-use native.Mathlib.Numerals.{add-one}
-use Rattle.battery.specs.Battery.{fresh_zones, fresh}
-use mathlib.Core.Path.{◌≡◌, refl}
+use Rattle.battery.specs.Battery.{fresh_zones}
+use mathlib.Core.Path.{◌≡◌}
 use Prim.Native.Nat.{◌≤◌, ◌-◌}
-use native.Mathlib.Omega.{arith}
-use borrow.Author.Rules.{rules}
 use Rattle.battery.proofs.fresh.Given as goal
 
 abbrev pub invariant-loop-k : goal.invariant-loop-k

@@ -3,7 +3,6 @@ use Rattle.card.proofs.Accepted.{accepted_layers}
 use Rattle.logic.proofs.Branch.{via_true, via_false}
 use borrow.Author.Tests.{eq-eqb, ne_eqb, eqb-true}
 use Rattle.battery.specs.Battery.{battery_accepted}
-use borrow.Author.Rules.{rules}
 use Rattle.battery.proofs.is_accepted.Goals as goal
 
 pub zones_finite-requires : goal.zones_finite-requires

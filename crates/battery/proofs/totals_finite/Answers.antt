@@ -1,5 +1,4 @@
 use Rattle.battery.specs.Ledger.{totals_finite}
-use borrow.Author.Rules.{rules}
 use Rattle.battery.proofs.totals_finite.Goals as goal
 
 pub returns : goal.returns

@@ -1,9 +1,7 @@
 use native.Mathlib.Numerals.{add-one}
 use Rattle.battery.specs.Battery.{zones_finite}
 use mathlib.Core.Path.{◌≡◌, refl, ◌∙◌, ap}
-use Prim.Native.Nat.{◌≤◌, ◌-◌}
 use native.Mathlib.Omega.{arith}
-use borrow.Author.Rules.{rules}
 use Rattle.battery.proofs.zones_finite.Goals as goal
 
 pub loop-k-init : goal.loop-k-init

@@ -1,9 +1,6 @@
-use native.Mathlib.Numerals.{add-one}
 use Rattle.battery.specs.Battery.{zones_finite}
-use mathlib.Core.Path.{◌≡◌, refl, ◌∙◌, ap}
+use mathlib.Core.Path.{◌≡◌}
 use Prim.Native.Nat.{◌≤◌, ◌-◌}
-use native.Mathlib.Omega.{arith}
-use borrow.Author.Rules.{rules}
 use Rattle.battery.proofs.zones_finite.Given as goal
 
 abbrev pub invariant-loop-k : goal.invariant-loop-k

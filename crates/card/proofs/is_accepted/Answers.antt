@@ -1,7 +1,6 @@
 use mathlib.Core.Path.{sym}
 use Rattle.card.specs.Card.{card_in_range}
 use Rattle.card.proofs.OneTest.{accepted_is}
-use borrow.Author.Rules.{rules}
 use Rattle.card.proofs.is_accepted.Goals as goal
 
 -- k: max, ref and the fields after them fit their formats

@@ -1,5 +1,4 @@
 use Rattle.card.specs.Card.{temperatures_in_range}
-use borrow.Author.Rules.{rules}
 use Rattle.card.proofs.temperatures_in_range.Goals as goal
 
 pub returns : goal.returns

@@ -3,7 +3,6 @@ use mathlib.Core.Bool.{true, false, not}
 use lib.Dec.{T}
 use lib.Ieee.{Float, nan, inf, fin, binary64, to_bits, eq, ne, is_nan}
 use lib.Ieee.Compare.{differs_from_itself}
-use borrow.Author.Rules.{rules}
 use Rattle.logic.proofs.Tests.{no_both}
 use Rattle.codec.proofs.bits_of.Goals as goal
 

@@ -1,6 +1,5 @@
 use lib.ListN.{get_or-eq_default}
 use mathlib.Core.Path.{sym}
-use borrow.Author.Rules.{rules}
 use Rattle.codec.proofs.byte_or_zero.Goals as goal
 
 pub returns-else-at-bytes : goal.returns-else-at-bytes

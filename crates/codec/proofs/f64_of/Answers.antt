@@ -5,7 +5,6 @@ use lib.Dec.{T}
 use borrow.Author.Tests.{le-ltb, lt-ltb}
 use lib.Ieee.{Float, nan, inf, fin, binary64, of_bits, div, is_nan, nan_bits}
 use lib.Ieee.Bits.{nan_bits_above, nan_bits_is}
-use borrow.Author.Rules.{rules}
 use Rattle.logic.proofs.Tests.{no_both}
 use Rattle.codec.proofs.f64_of.Goals as goal
 

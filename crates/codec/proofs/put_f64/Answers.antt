@@ -1,6 +1,5 @@
 use mathlib.Core.Path.{◌∙◌}
 use Rattle.codec.specs.Bytes.{f64_bytes}
-use borrow.Author.Rules.{rules}
 use Rattle.codec.proofs.put_f64.Goals as goal
 
 pub returns : goal.returns

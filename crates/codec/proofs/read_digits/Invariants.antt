@@ -1,13 +1,6 @@
-use borrow.Author.Rules.{rules}
-use native.Mathlib.Omega.{arith}
-use Prim.Native.Nat.{ℕ, suc, ◌+◌, ◌-◌, ◌*◌, ◌^◌, ◌≤◌, ◌<◌}
-use mathlib.Core.Path.{◌≡◌, sym, ◌∙◌}
-use mathlib.Core.List.{List, ◌∷◌}
-use native.Mathlib.Numerals.{add-one}
-use native.Mathlib.Nat.{pow-le-pow_right, lt_of_lt_of_le, pow-suc, add-zero, sub-zero}
-use lib.ListN.{length, take, drop, get_or}
-use lib.Seq.{drop-cons}
-use lib.Arith.{digits_lt}
+use Prim.Native.Nat.{◌+◌, ◌-◌, ◌^◌, ◌≤◌, ◌<◌}
+use mathlib.Core.Path.{◌≡◌}
+use lib.ListN.{take, drop}
 use Rattle.codec.specs.Bytes.{be, be_from}
 use Rattle.codec.proofs.read_digits.Given as goal
 

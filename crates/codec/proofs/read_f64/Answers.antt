@@ -1,7 +1,6 @@
 use mathlib.Core.Path.{ap, ◌∙◌}
 use lib.Ieee.{of_bits, binary64}
 use Rattle.codec.specs.Bytes.{f64_of}
-use borrow.Author.Rules.{rules}
 use Rattle.codec.proofs.read_f64.Goals as goal
 
 pub returns : goal.returns

@@ -1,7 +1,6 @@
 use mathlib.Core.Path.{refl}
 use Rattle.logic.proofs.Branch.{via_true, via_false}
 use Rattle.floats.specs.Standins.{nearly_equal}
-use borrow.Author.Rules.{rules}
 use Rattle.floats.proofs.nearly_equal.Goals as goal
 
 pub returns-then-p-q : goal.returns-then-p-q

@@ -1,7 +1,5 @@
-use mathlib.Core.Path.{◌≡◌, refl}
-use Prim.Native.Nat.{◌≤◌, ◌-◌}
+use mathlib.Core.Path.{refl}
 use native.Mathlib.Omega.{arith}
-use borrow.Author.Rules.{rules}
 use Rattle.floats.proofs.Sum2Laws.{sum2_more, sum2_end}
 use Rattle.floats.specs.Sum2.{sum2_after}
 use Rattle.floats.proofs.sum_with_accumulator.Goals as goal

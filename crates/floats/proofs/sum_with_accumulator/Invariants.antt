@@ -1,8 +1,5 @@
-use mathlib.Core.Path.{◌≡◌, refl}
+use mathlib.Core.Path.{◌≡◌}
 use Prim.Native.Nat.{◌≤◌, ◌-◌}
-use native.Mathlib.Omega.{arith}
-use borrow.Author.Rules.{rules}
-use Rattle.floats.proofs.Sum2Laws.{sum2_more, sum2_end}
 use Rattle.floats.specs.Sum2.{sum2_after}
 use Rattle.floats.proofs.sum_with_accumulator.Given as goal
 

@@ -3,7 +3,6 @@ use Rattle.substep.specs.declared.SubstepInput.{SubstepInput}
 use Rattle.runs.specs.Charge.{loss_ended, loss_input, battery_heat_loss}
 use Rattle.runs.proofs.InPlace.{one_substep}
 use Rattle.zone.proofs.Salts.{salts_at}
-use borrow.Author.Rules.{rules}
 use Rattle.run_charges.proofs.battery_heat_loss.Goals as goal
 
 pub lose_in_place-u-requires : goal.lose_in_place-u-requires

@@ -1,7 +1,6 @@
 use mathlib.Core.Path.{refl}
 use Rattle.logic.proofs.Branch.{via_true, via_false}
 use Rattle.runs.specs.Charge.{charge_energy_demand}
-use borrow.Author.Rules.{rules}
 use Rattle.run_charges.proofs.calculate_charge_energy_demand.Goals as goal
 
 pub returns-then-soc-target : goal.returns-then-soc-target

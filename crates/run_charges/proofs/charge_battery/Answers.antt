@@ -1,5 +1,4 @@
 use Rattle.runs.specs.Charge.{charge_battery}
-use borrow.Author.Rules.{rules}
 use Rattle.run_charges.proofs.charge_battery.Goals as goal
 
 pub returns-in-Electric : goal.returns-in-Electric

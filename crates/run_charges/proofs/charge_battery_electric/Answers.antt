@@ -3,7 +3,6 @@ use Rattle.substep.specs.declared.SubstepInput.{SubstepInput}
 use Rattle.runs.specs.Charge.{electric_ended, electric_input, charge_electric}
 use Rattle.runs.proofs.InPlace.{one_substep}
 use Rattle.zone.proofs.Salts.{salts_at}
-use borrow.Author.Rules.{rules}
 use Rattle.run_charges.proofs.charge_battery_electric.Goals as goal
 
 pub charge_in_place-u-requires : goal.charge_in_place-u-requires

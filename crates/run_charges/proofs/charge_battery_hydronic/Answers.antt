@@ -1,7 +1,6 @@
 use Rattle.runs.proofs.HydronicTurns.{wet_ended}
 use Rattle.runs.specs.Charge.{hydronic_task, charge_hydronic}
 use Rattle.zone.proofs.Salts.{salts_at}
-use borrow.Author.Rules.{rules}
 use Rattle.run_charges.proofs.charge_battery_hydronic.Goals as goal
 
 pub hydronic_run-e-requires : goal.hydronic_run-e-requires

@@ -1,5 +1,4 @@
 use Rattle.runs.specs.Charge.{electric_ended}
-use borrow.Author.Rules.{rules}
 use Rattle.run_charges.proofs.electric_ended.Goals as goal
 
 pub returns : goal.returns

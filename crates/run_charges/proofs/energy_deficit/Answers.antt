@@ -1,5 +1,4 @@
 use Rattle.runs.specs.Charge.{energy_deficit}
-use borrow.Author.Rules.{rules}
 use Rattle.run_charges.proofs.energy_deficit.Goals as goal
 
 pub returns-in-Absent : goal.returns-in-Absent

@@ -1,5 +1,4 @@
 use Rattle.runs.specs.Charge.{hydronic_start}
-use borrow.Author.Rules.{rules}
 use Rattle.run_charges.proofs.hydronic_start.Goals as goal
 
 pub returns : goal.returns

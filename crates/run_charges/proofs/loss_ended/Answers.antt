@@ -1,5 +1,4 @@
 use Rattle.runs.specs.Charge.{loss_ended}
-use borrow.Author.Rules.{rules}
 use Rattle.run_charges.proofs.loss_ended.Goals as goal
 
 pub returns : goal.returns

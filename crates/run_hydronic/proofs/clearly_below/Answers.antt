@@ -1,5 +1,4 @@
 use Rattle.runs.specs.Hydronic.{clearly_below}
-use borrow.Author.Rules.{rules}
 use Rattle.run_hydronic.proofs.clearly_below.Goals as goal
 
 pub returns : goal.returns

@@ -1,5 +1,4 @@
 use Rattle.runs.specs.Hydronic.{hydronic_ended}
-use borrow.Author.Rules.{rules}
 use Rattle.run_hydronic.proofs.hydronic_ended.Goals as goal
 
 pub returns : goal.returns

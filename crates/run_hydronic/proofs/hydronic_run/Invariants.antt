@@ -1,13 +1,8 @@
 use Rattle.zone.specs.Lent.{zone_salt}
-use Rattle.runs.proofs.InPlace.{as_defined}
-use native.Mathlib.Nat.{sub-zero}
 use Rattle.runs.specs.Zoned.{zoned}
 use Rattle.runs.specs.Hydronic.{hydronic_run}
-use Rattle.runs.proofs.Runs.{hydronic_time, hydronic_over_budget, wet_took, wet_on, wet_stop}
-use mathlib.Core.Path.{◌≡◌, ◌∙◌}
-use Prim.Native.Nat.{◌≤◌, ◌-◌, ◌+◌}
-use native.Mathlib.Omega.{arith}
-use borrow.Author.Rules.{rules}
+use mathlib.Core.Path.{◌≡◌}
+use Prim.Native.Nat.{◌≤◌, ◌-◌}
 use Rattle.run_hydronic.proofs.hydronic_run.Given as goal
 
 abbrev pub invariant-loop-substeps : goal.invariant-loop-substeps

@@ -5,7 +5,6 @@ use Rattle.substep.specs.declared.SubstepInput.{SubstepInput}
 use Rattle.runs.specs.Hydronic.{wet_input, hydronic_by}
 use mathlib.Core.Path.{refl, ap}
 use native.Mathlib.Omega.{arith}
-use borrow.Author.Rules.{rules}
 use Rattle.run_hydronic.proofs.hydronic_step.Goals as goal
 
 pub process_in_place-u-requires : goal.process_in_place-u-requires

@@ -2,7 +2,6 @@ use Rattle.runs.proofs.HydronicTurns.{whole_replayed, whole_limit, whole_on, who
 use Rattle.runs.proofs.InPlace.{as_defined}
 use Rattle.runs.specs.Zoned.{AsDefined}
 use mathlib.Core.Path.{subst}
-use borrow.Author.Rules.{rules}
 use Rattle.run_hydronic.proofs.hydronic_whole.Goals as goal
 
 pub returns-then-this : goal.returns-then-this

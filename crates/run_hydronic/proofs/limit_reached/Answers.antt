@@ -1,7 +1,6 @@
 use mathlib.Core.Path.{refl}
 use Rattle.logic.proofs.Branch.{via_true, via_false}
 use Rattle.runs.specs.Hydronic.{limit_reached}
-use borrow.Author.Rules.{rules}
 use Rattle.run_hydronic.proofs.limit_reached.Goals as goal
 
 pub returns-then-absorbed-limit : goal.returns-then-absorbed-limit

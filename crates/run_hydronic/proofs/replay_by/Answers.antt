@@ -1,7 +1,6 @@
 use mathlib.Core.Path.{refl}
 use Rattle.runs.proofs.InPlace.{log_refused, finite_refused}
 use Rattle.runs.specs.Hydronic.{replay_by}
-use borrow.Author.Rules.{rules}
 use Rattle.run_hydronic.proofs.replay_by.Goals as goal
 
 pub returns-in-Nothing : goal.returns-in-Nothing

@@ -6,7 +6,6 @@ use borrow.Author.Tests.{eq-eqb}
 use Rattle.runs.specs.Hydronic.{replayed, wet_input}
 use mathlib.Core.Path.{refl, ap}
 use Rattle.substep.specs.declared.SubstepInput.{SubstepInput}
-use borrow.Author.Rules.{rules}
 use Rattle.run_hydronic.proofs.replayed.Goals as goal
 
 pub returns-then-n-card : goal.returns-then-n-card

@@ -1,5 +1,4 @@
 use Rattle.runs.specs.Hydronic.{whole_substeps}
-use borrow.Author.Rules.{rules}
 use Rattle.run_hydronic.proofs.whole_substeps.Goals as goal
 
 pub returns : goal.returns

@@ -1,5 +1,4 @@
 use Rattle.runs.specs.Runs.{end_refusal}
-use borrow.Author.Rules.{rules}
 use Rattle.runs.proofs.end_refusal.Goals as goal
 
 pub returns-in-Done : goal.returns-in-Done

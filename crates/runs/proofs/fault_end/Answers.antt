@@ -1,5 +1,4 @@
 use Rattle.runs.specs.Runs.{fault_end}
-use borrow.Author.Rules.{rules}
 use Rattle.runs.proofs.fault_end.Goals as goal
 
 pub returns-in-Nothing : goal.returns-in-Nothing

@@ -1,5 +1,4 @@
 use Rattle.runs.specs.Runs.{reynold_between}
-use borrow.Author.Rules.{rules}
 use Rattle.runs.proofs.reynold_between.Goals as goal
 
 pub returns : goal.returns

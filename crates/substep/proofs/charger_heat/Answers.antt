@@ -1,5 +1,4 @@
 use Rattle.substep.specs.Substep.{charger_heat}
-use borrow.Author.Rules.{rules}
 use Rattle.substep.proofs.charger_heat.Goals as goal
 
 pub returns : goal.returns

@@ -1,5 +1,4 @@
 use Rattle.substep.specs.Substep.{common_of}
-use borrow.Author.Rules.{rules}
 use Rattle.substep.proofs.common_of.Goals as goal
 
 pub returns : goal.returns

@@ -1,5 +1,4 @@
 use Rattle.substep.specs.Substep.{per_layer}
-use borrow.Author.Rules.{rules}
 use Rattle.substep.proofs.per_layer.Goals as goal
 
 pub returns-in-Value : goal.returns-in-Value

@@ -1,6 +1,5 @@
 use Rattle.logic.proofs.Branch.{via_true, via_false}
 use mathlib.Core.Path.{refl, sym, ◌∙◌}
-use borrow.Author.Rules.{rules}
 use Rattle.substep.proofs.progress_fault.Goals as goal
 
 pub returns-then-finite : goal.returns-then-finite

@@ -1,4 +1,3 @@
-use borrow.Author.Rules.{rules}
 use Rattle.substep.proofs.target_of.Goals as goal
 
 pub returns : goal.returns

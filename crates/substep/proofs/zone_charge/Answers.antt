@@ -1,7 +1,6 @@
 use mathlib.Core.Path.{refl}
 use Rattle.logic.proofs.Branch.{via_true, via_false}
 use Rattle.substep.specs.Substep.{zone_charge}
-use borrow.Author.Rules.{rules}
 use Rattle.substep.proofs.zone_charge.Goals as goal
 
 pub zone_target-own-requires : goal.zone_target-own-requires

@@ -1,6 +1,5 @@
 use native.Mathlib.Omega.{arith}
 use Rattle.substep.specs.Substep.{zone_index}
-use borrow.Author.Rules.{rules}
 use Rattle.substep.proofs.zone_index.Goals as goal
 
 pub returns-in-OnlyCharging : goal.returns-in-OnlyCharging

@@ -1,5 +1,4 @@
 use Rattle.substep.specs.Substep.{zone_step}
-use borrow.Author.Rules.{rules}
 use Rattle.substep.proofs.zone_step.Goals as goal
 
 pub returns : goal.returns

@@ -1,4 +1,3 @@
-use borrow.Author.Rules.{rules}
 use Rattle.substep.proofs.zone_target.Goals as goal
 
 pub returns-then-alike : goal.returns-then-alike

@@ -1,6 +1,5 @@
 use Rattle.zone_water.specs.Water.{counted_transfer}
 use Rattle.substep.specs.Substep.{zone_transfer, logarithms_of, shared_transfer}
-use borrow.Author.Rules.{rules}
 use Rattle.substep.proofs.zone_transfer.Goals as goal
 
 pub returns-in-OnlyCharging : goal.returns-in-OnlyCharging

@@ -1,6 +1,5 @@
 use Rattle.zone.proofs.Salts.{one_salt}
 use mathlib.Core.Path.{sym, ◌∙◌}
-use borrow.Author.Rules.{rules}
 use Rattle.substep_loops.proofs.own_salt.Goals as goal
 
 pub returns-then-step-eq0 : goal.returns-then-step-eq0

@@ -2,7 +2,6 @@ use mathlib.Core.Path.{refl}
 use lib.Ieee.{of_bits, lt, eq, le}
 use Rattle.logic.proofs.Branch.{via_true, via_false}
 use Rattle.zone_charging.specs.Charging.{zone_simultaneous_charging}
-use borrow.Author.Rules.{rules}
 use Rattle.zone_charging.proofs.charge_zone_alone.Goals as goal
 
 pub returns-then-zone-target : goal.returns-then-zone-target

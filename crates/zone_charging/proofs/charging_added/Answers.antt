@@ -1,7 +1,6 @@
 use mathlib.Core.Path.{refl}
 use Rattle.logic.proofs.Branch.{via_true, via_false}
 use Rattle.zone_charging.specs.Charging.{charging_added}
-use borrow.Author.Rules.{rules}
 use Rattle.zone_charging.proofs.charging_added.Goals as goal
 
 pub returns-then-left-energy : goal.returns-then-left-energy

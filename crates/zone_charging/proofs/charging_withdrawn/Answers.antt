@@ -1,7 +1,6 @@
 use mathlib.Core.Path.{refl}
 use Rattle.logic.proofs.Branch.{via_true, via_false}
 use Rattle.zone_charging.specs.Charging.{charging_withdrawn}
-use borrow.Author.Rules.{rules}
 use Rattle.zone_charging.proofs.charging_withdrawn.Goals as goal
 
 pub returns-then-rest-required : goal.returns-then-rest-required

@@ -1,5 +1,4 @@
 use Rattle.zone_charging.specs.Charging.{counted}
-use borrow.Author.Rules.{rules}
 use Rattle.zone_charging.proofs.counted.Goals as goal
 
 pub returns : goal.returns

@@ -1,7 +1,6 @@
 use mathlib.Core.Path.{refl}
 use Rattle.logic.proofs.Branch.{via_true, via_false}
 use Rattle.zone_charging.specs.Charging.{zone_simultaneous_charging}
-use borrow.Author.Rules.{rules}
 use Rattle.zone_charging.proofs.process_zone_simultaneous_charging.Goals as goal
 
 pub returns-then-energy : goal.returns-then-energy

@@ -1,7 +1,6 @@
 use mathlib.Core.Path.{refl}
 use Rattle.logic.proofs.Branch.{via_true, via_false}
 use Rattle.zone_update.specs.Update.{retrieving}
-use borrow.Author.Rules.{rules}
 use Rattle.zone_update.proofs.retrieving.Goals as goal
 
 pub returns-then-zone-salt : goal.returns-then-zone-salt

@@ -1,7 +1,6 @@
 use mathlib.Core.Path.{refl}
 use Rattle.logic.proofs.Branch.{via_true, via_false}
 use Rattle.zone_update.specs.Update.{zone_falls}
-use borrow.Author.Rules.{rules}
 use Rattle.zone_update.proofs.zone_falls.Goals as goal
 
 pub returns-then-energy : goal.returns-then-energy

@@ -1,5 +1,4 @@
 use Rattle.zone_water.specs.Water.{heat_transfer, counted_transfer}
-use borrow.Author.Rules.{rules}
 use Rattle.zone_water.proofs.calculate_heat_transfer_kw_per_k.Goals as goal
 
 pub returns : goal.returns

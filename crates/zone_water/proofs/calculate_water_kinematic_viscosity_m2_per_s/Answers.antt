@@ -1,5 +1,4 @@
 use Rattle.zone_water.specs.Water.{kinematic_viscosity}
-use borrow.Author.Rules.{rules}
 use Rattle.zone_water.proofs.calculate_water_kinematic_viscosity_m2_per_s.Goals as goal
 
 pub returns : goal.returns

@@ -1,5 +1,4 @@
 use Rattle.zone_water.specs.Water.{zone_properties}
-use borrow.Author.Rules.{rules}
 use Rattle.zone_water.proofs.get_zone_properties.Goals as goal
 
 pub returns-in-OnlyCharging : goal.returns-in-OnlyCharging

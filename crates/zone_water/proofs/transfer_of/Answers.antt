@@ -1,5 +1,4 @@
 use Rattle.zone_water.specs.Water.{transfer_of}
-use borrow.Author.Rules.{rules}
 use Rattle.zone_water.proofs.transfer_of.Goals as goal
 
 pub returns-in-Value : goal.returns-in-Value

@@ -1,5 +1,4 @@
 use Rattle.battery.specs.Answer.{numbers_finite}
-use borrow.Author.Rules.{rules}
 use Rattle.battery.proofs.answers.numbers_finite.Goals as goal
 
 pub returns : goal.returns

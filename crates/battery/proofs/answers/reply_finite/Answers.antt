@@ -1,6 +1,5 @@
 use Rattle.battery.specs.Answer.{answer_finite}
 use mathlib.Core.Path.{◌∙◌}
-use borrow.Author.Rules.{rules}
 use Rattle.battery.proofs.answers.reply_finite.Goals as goal
 
 pub returns : goal.returns

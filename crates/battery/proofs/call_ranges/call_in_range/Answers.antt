@@ -1,5 +1,4 @@
 use Rattle.battery.specs.Call.{call_in_range}
-use borrow.Author.Rules.{rules}
 use Rattle.battery.proofs.call_ranges.call_in_range.Goals as goal
 
 pub returns-in-DemandEnergy : goal.returns-in-DemandEnergy

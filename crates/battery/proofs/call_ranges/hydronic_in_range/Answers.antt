@@ -1,5 +1,4 @@
 use Rattle.battery.specs.Call.{hydronic_in_range}
-use borrow.Author.Rules.{rules}
 use Rattle.battery.proofs.call_ranges.hydronic_in_range.Goals as goal
 
 pub returns : goal.returns

@@ -1,5 +1,4 @@
 use Rattle.battery.specs.Call.{is_given_temperature}
-use borrow.Author.Rules.{rules}
 use Rattle.battery.proofs.call_ranges.is_given_temperature.Goals as goal
 
 pub returns-in-Absent : goal.returns-in-Absent

@@ -1,5 +1,4 @@
 use Rattle.battery.specs.Call.{is_level}
-use borrow.Author.Rules.{rules}
 use Rattle.battery.proofs.call_ranges.is_level.Goals as goal
 
 pub returns : goal.returns

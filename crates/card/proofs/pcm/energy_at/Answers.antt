@@ -1,6 +1,5 @@
 use Rattle.zone.proofs.Salts.{salts_one, salts_each}
 use Rattle.card.specs.Derived.{energy_at}
-use borrow.Author.Rules.{rules}
 use Rattle.card.proofs.pcm.energy_at.Goals as goal
 
 pub returns-then-step-eq0 : goal.returns-then-step-eq0

@@ -1,5 +1,4 @@
 use Rattle.card.specs.Lent.{figures_of}
-use borrow.Author.Rules.{rules}
 use Rattle.card.proofs.pcm.figures_of.Goals as goal
 
 pub returns : goal.returns

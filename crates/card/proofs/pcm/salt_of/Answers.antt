@@ -1,6 +1,5 @@
 use mathlib.Core.Path.{refl}
 use Rattle.card.specs.Derived.{salt_of}
-use borrow.Author.Rules.{rules}
 use Rattle.card.proofs.pcm.salt_of.Goals as goal
 
 pub returns : goal.returns

@@ -1,5 +1,4 @@
 use Rattle.card.specs.Ranges.{is_capacity}
-use borrow.Author.Rules.{rules}
 use Rattle.card.proofs.ranges.is_capacity.Goals as goal
 
 pub returns : goal.returns

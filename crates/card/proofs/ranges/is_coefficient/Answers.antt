@@ -1,5 +1,4 @@
 use Rattle.card.specs.Ranges.{is_coefficient}
-use borrow.Author.Rules.{rules}
 use Rattle.card.proofs.ranges.is_coefficient.Goals as goal
 
 pub returns : goal.returns

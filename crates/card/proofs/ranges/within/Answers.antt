@@ -1,5 +1,4 @@
 use Rattle.card.specs.Ranges.{within}
-use borrow.Author.Rules.{rules}
 use Rattle.card.proofs.ranges.within.Goals as goal
 
 pub returns : goal.returns

@@ -1,4 +1,3 @@
-use borrow.Author.Rules.{rules}
 use Rattle.card.specs.Services.{service_ok}
 use Rattle.card.proofs.services.service_ok.Goals as goal
 

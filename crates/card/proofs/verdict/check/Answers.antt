@@ -1,7 +1,6 @@
 use mathlib.Core.Path.{refl}
 use Rattle.logic.proofs.Branch.{via_true, via_false}
 use Rattle.card.specs.Card.{card_verdict}
-use borrow.Author.Rules.{rules}
 use Rattle.card.proofs.verdict.check.Goals as goal
 
 pub returns-then-card-2 : goal.returns-then-card-2

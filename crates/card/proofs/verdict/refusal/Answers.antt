@@ -1,5 +1,4 @@
 use Rattle.card.specs.Card.{card_refusal, verdict_number}
-use borrow.Author.Rules.{rules}
 use Rattle.card.proofs.verdict.refusal.Goals as goal
 
 pub returns-in-Accepted : goal.returns-in-Accepted

@@ -1,4 +1,3 @@
-use borrow.Author.Rules.{rules}
 use Rattle.card.specs.Version.{known_version}
 use Rattle.card.proofs.version.known_version.Goals as goal
 

@@ -1,6 +1,5 @@
 use mathlib.Core.Path.{refl}
 use Rattle.floats.specs.Ln.{exponent}
-use borrow.Author.Rules.{rules}
 use Rattle.floats.proofs.bits.exponent.Goals as goal
 
 pub returns : goal.returns

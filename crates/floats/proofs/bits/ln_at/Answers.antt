@@ -1,5 +1,4 @@
 use Rattle.floats.specs.Ln.{ln_at}
-use borrow.Author.Rules.{rules}
 use Rattle.floats.proofs.bits.ln_at.Goals as goal
 
 pub returns : goal.returns

@@ -1,7 +1,6 @@
 use mathlib.Core.Path.{refl}
 use Rattle.logic.proofs.Branch.{via_true, via_false}
 use Rattle.floats.specs.Ln.{ln_normal}
-use borrow.Author.Rules.{rules}
 use Rattle.floats.proofs.bits.ln_normal.Goals as goal
 
 pub returns-then-m : goal.returns-then-m

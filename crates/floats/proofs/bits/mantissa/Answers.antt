@@ -1,7 +1,6 @@
 use mathlib.Core.Path.{refl}
 use Rattle.floats.specs.Ln.{mantissa}
 use Rattle.floats.proofs.LnLaws.{not_nan_pattern}
-use borrow.Author.Rules.{rules}
 use Rattle.floats.proofs.bits.mantissa.Goals as goal
 
 pub float_from_bits-result : goal.float_from_bits-result

@@ -1,7 +1,5 @@
 use mathlib.Core.Path.{◌≡◌, refl, ◌∙◌, ap}
-use Prim.Native.Nat.{◌≤◌, ◌-◌}
 use native.Mathlib.Omega.{arith}
-use borrow.Author.Rules.{rules}
 use Rattle.floats.proofs.LnLaws.{series_more}
 use Rattle.floats.specs.Ln.{series}
 use Rattle.floats.proofs.bits.series.Goals as goal

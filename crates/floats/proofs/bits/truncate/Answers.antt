@@ -1,6 +1,5 @@
 use Rattle.floats.specs.Standins.{truncate}
 use Rattle.floats.proofs.Truncation.{trunc_nan, same_not_nan, trunc_negative, trunc_small, trunc_right, trunc_left, trunc_top}
-use borrow.Author.Rules.{rules}
 use Rattle.floats.proofs.bits.truncate.Goals as goal
 
 pub returns-then-x : goal.returns-then-x

@@ -1,6 +1,5 @@
 use Rattle.substep.proofs.SubstepLaws.{passed, without_logarithm_charge, none_in_a_charge, common_mode, common_level}
 use mathlib.Core.Path.{refl, sym, ◌∙◌}
-use borrow.Author.Rules.{rules}
 use Rattle.substep_loops.proofs.charging_alone.charge_in_place.Goals as goal
 
 pub common_of-common-requires : goal.common_of-common-requires

@@ -1,13 +1,11 @@
 use lib.Ieee.{of_bits, add}
 use Rattle.floats.specs.Constants.{zero}
-use Rattle.zone.specs.Lent.{zone_salt}
 use Rattle.zone.proofs.Salts.{one_salt}
 use Rattle.substep.specs.declared.ZoneStep.{ZoneStep}
-use Rattle.substep.proofs.OneLoop.{Underway, start_of, underway_start, underway_end, zone_takes_none, no_more_logarithms}
+use Rattle.substep.proofs.OneLoop.{underway_start, underway_end, zone_takes_none, no_more_logarithms}
 use Rattle.floats.proofs.Sum2Laws.{no_sum}
 use Rattle.substep_loops.proofs.ChargingSteps.{charging_more}
-use mathlib.Core.Path.{◌≡◌, refl, ◌∙◌, ap}
-use Prim.Native.Nat.{◌≤◌, ◌-◌}
+use mathlib.Core.Path.{refl, ◌∙◌, ap}
 use native.Mathlib.Omega.{arith}
 use borrow.Author.Tests.{eqb-true}
 use borrow.Author.Rules.{rules}

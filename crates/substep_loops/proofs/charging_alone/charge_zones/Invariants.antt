@@ -1,16 +1,8 @@
-use lib.Ieee.{of_bits, add}
-use Rattle.floats.specs.Constants.{zero}
 use Rattle.zone.specs.Lent.{zone_salt}
-use Rattle.zone.proofs.Salts.{one_salt}
-use Rattle.substep.specs.declared.ZoneStep.{ZoneStep}
-use Rattle.substep.proofs.OneLoop.{Underway, start_of, underway_start, underway_end, zone_takes_none, no_more_logarithms}
+use Rattle.substep.proofs.OneLoop.{Underway, start_of}
 use Rattle.floats.proofs.Sum2Laws.{no_sum}
-use Rattle.substep_loops.proofs.ChargingSteps.{charging_more}
-use mathlib.Core.Path.{◌≡◌, refl, ◌∙◌, ap}
+use mathlib.Core.Path.{◌≡◌}
 use Prim.Native.Nat.{◌≤◌, ◌-◌}
-use native.Mathlib.Omega.{arith}
-use borrow.Author.Tests.{eqb-true}
-use borrow.Author.Rules.{rules}
 use Rattle.substep_loops.proofs.charging_alone.charge_zones.Given as goal
 
 abbrev pub invariant-loop-k : goal.invariant-loop-k

@@ -1,5 +1,4 @@
 use Rattle.substep_loops.proofs.ChargingSteps.{charging_on, charging_off}
-use borrow.Author.Rules.{rules}
 use Rattle.substep_loops.proofs.charging_alone.charging_step.Goals as goal
 
 pub zone_target-own-requires : goal.zone_target-own-requires

@@ -1,10 +1,8 @@
 use Rattle.floats.specs.Constants.{zero}
-use Rattle.zone.specs.Lent.{zone_salt}
 use Rattle.substep.specs.declared.ZoneStep.{ZoneStep}
-use Rattle.substep.proofs.OneLoop.{Underway, start_of, underway_start, underway_end, zone_takes_none, no_more_logarithms}
+use Rattle.substep.proofs.OneLoop.{underway_start, underway_end, zone_takes_none, no_more_logarithms}
 use Rattle.substep_loops.proofs.LossSteps.{upward, losing_more}
-use mathlib.Core.Path.{◌≡◌, refl, ◌∙◌, ap}
-use Prim.Native.Nat.{◌≤◌, ◌-◌}
+use mathlib.Core.Path.{refl, ◌∙◌, ap}
 use native.Mathlib.Omega.{arith}
 use borrow.Author.Rules.{rules}
 use Rattle.substep_loops.proofs.losses.lose_zones.Goals as goal

@@ -1,12 +1,7 @@
-use Rattle.floats.specs.Constants.{zero}
 use Rattle.zone.specs.Lent.{zone_salt}
-use Rattle.substep.specs.declared.ZoneStep.{ZoneStep}
-use Rattle.substep.proofs.OneLoop.{Underway, start_of, underway_start, underway_end, zone_takes_none, no_more_logarithms}
-use Rattle.substep_loops.proofs.LossSteps.{upward, losing_more}
-use mathlib.Core.Path.{◌≡◌, refl, ◌∙◌, ap}
+use Rattle.substep.proofs.OneLoop.{Underway, start_of}
+use mathlib.Core.Path.{◌≡◌}
 use Prim.Native.Nat.{◌≤◌, ◌-◌}
-use native.Mathlib.Omega.{arith}
-use borrow.Author.Rules.{rules}
 use Rattle.substep_loops.proofs.losses.lose_zones.Given as goal
 
 abbrev pub invariant-loop-k : goal.invariant-loop-k

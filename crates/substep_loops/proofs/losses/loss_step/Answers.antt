@@ -1,5 +1,4 @@
 use Rattle.substep_loops.proofs.LossSteps.{loss_of}
-use borrow.Author.Rules.{rules}
 use Rattle.substep_loops.proofs.losses.loss_step.Goals as goal
 
 pub returns : goal.returns

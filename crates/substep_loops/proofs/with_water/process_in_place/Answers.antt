@@ -3,7 +3,6 @@ use Rattle.zone_water.specs.declared.Mode.{Mode}
 use Rattle.substep.specs.declared.Substep.{Substep}
 use Rattle.substep.proofs.SubstepLaws.{passed, refused_here, transfer_value, transfer_count, common_level}
 use mathlib.Core.Path.{sym, ◌∙◌, ap}
-use borrow.Author.Rules.{rules}
 use Rattle.substep_loops.proofs.with_water.process_in_place.Goals as goal
 
 pub returns-in_default : goal.returns-in_default

@@ -1,12 +1,10 @@
-use Rattle.zone.specs.Lent.{zone_salt}
 use lib.Ieee.{lt}
 use Rattle.floats.specs.Constants.{zero}
 use Rattle.zone.specs.declared.Kilojoules.{Kilojoules}
 use Rattle.substep.proofs.SubstepLaws.{left_at_first}
 use Rattle.substep.specs.declared.ZoneStep.{ZoneStep}
-use Rattle.substep.proofs.OneLoop.{Underway, start_of, underway_start, underway_more, underway_end, zone_takes_none, no_more_logarithms}
-use mathlib.Core.Path.{◌≡◌, refl, sym, ◌∙◌, ap}
-use Prim.Native.Nat.{◌≤◌, ◌-◌}
+use Rattle.substep.proofs.OneLoop.{underway_start, underway_more, underway_end, zone_takes_none, no_more_logarithms}
+use mathlib.Core.Path.{refl, sym, ◌∙◌, ap}
 use native.Mathlib.Omega.{arith}
 use borrow.Author.Rules.{rules}
 use Rattle.substep_loops.proofs.with_water.zones_in_place.Goals as goal

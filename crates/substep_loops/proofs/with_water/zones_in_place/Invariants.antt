@@ -1,14 +1,7 @@
 use Rattle.zone.specs.Lent.{zone_salt}
-use lib.Ieee.{lt}
-use Rattle.floats.specs.Constants.{zero}
-use Rattle.zone.specs.declared.Kilojoules.{Kilojoules}
-use Rattle.substep.proofs.SubstepLaws.{left_at_first}
-use Rattle.substep.specs.declared.ZoneStep.{ZoneStep}
-use Rattle.substep.proofs.OneLoop.{Underway, start_of, underway_start, underway_more, underway_end, zone_takes_none, no_more_logarithms}
-use mathlib.Core.Path.{◌≡◌, refl, sym, ◌∙◌, ap}
+use Rattle.substep.proofs.OneLoop.{Underway, start_of}
+use mathlib.Core.Path.{◌≡◌}
 use Prim.Native.Nat.{◌≤◌, ◌-◌}
-use native.Mathlib.Omega.{arith}
-use borrow.Author.Rules.{rules}
 use Rattle.substep_loops.proofs.with_water.zones_in_place.Given as goal
 
 abbrev pub invariant-loop-k : goal.invariant-loop-k

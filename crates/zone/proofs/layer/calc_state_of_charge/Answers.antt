@@ -1,5 +1,4 @@
 use Rattle.zone.specs.Layer.{state_of_charge}
-use borrow.Author.Rules.{rules}
 use Rattle.zone.proofs.layer.calc_state_of_charge.Goals as goal
 
 pub returns : goal.returns

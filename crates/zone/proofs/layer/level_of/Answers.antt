@@ -1,7 +1,6 @@
 use mathlib.Core.Path.{refl}
 use Rattle.logic.proofs.Branch.{via_true, via_false}
 use Rattle.zone.specs.Layer.{level_of}
-use borrow.Author.Rules.{rules}
 use Rattle.zone.proofs.layer.level_of.Goals as goal
 
 pub returns-then-soc : goal.returns-then-soc

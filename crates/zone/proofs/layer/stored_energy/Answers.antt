@@ -1,10 +1,7 @@
 use Rattle.zone.proofs.Sums.{stored_more, stored_end}
 use Rattle.zone.specs.Layer.{stored_energy}
-use Rattle.zone.specs.Lent.{zone_salt}
-use mathlib.Core.Path.{◌≡◌, refl}
-use Prim.Native.Nat.{◌≤◌, ◌-◌}
+use mathlib.Core.Path.{refl}
 use native.Mathlib.Omega.{arith}
-use borrow.Author.Rules.{rules}
 use Rattle.zone.proofs.layer.stored_energy.Goals as goal
 
 pub loop-k-init : goal.loop-k-init

@@ -1,6 +1,5 @@
 use mathlib.Core.Path.{refl}
 use Rattle.zone.specs.Lent.{zone_salt}
-use borrow.Author.Rules.{rules}
 use Rattle.zone.proofs.layer.zone_salt.Goals as goal
 
 pub returns : goal.returns
