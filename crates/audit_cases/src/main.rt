@@ -1,38 +1,33 @@
 // Audits the stored sheets that its arguments name, and prints each name with the audit program's line.
 #![tactic(auto)]
 
-use libc::STDOUT_FILENO;
+use std::io::{BufWriter, Read, Write};
+use std::rt::Files;
+use std::{env, fs, io};
 
-// The report on what a descriptor reads.
-fn report_on(fd: i32) {
+// Writes the report on what a reader gives.
+fn report_on<R: Read, W: Write>(reader: &mut R, out: &mut W) -> io::Result<()> {
     // one byte more than the limit, so that a longer sheet is seen
     let mut sheet = [0u8; 65537];
-    let n = io::read_full(fd, &mut sheet);
+    let n = reading::read_full(reader, &mut sheet)?;
     let mut line = [0u8; 64];
     let k = audit_report::report(&sheet[..n], &mut line);
-    io::write_all(STDOUT_FILENO, &line[..k]);
+    out.write_all(&line[..k])
 }
 
 // One argument: its sheet's name and report.
-fn report_argument(i: usize) {
-    let mut path = io::buffer();
-    let n = os::arg(i, &mut path);
-    io::write_all(STDOUT_FILENO, &path[..n]);
-    io::write_all(STDOUT_FILENO, b": ");
-    let fd = os::open_read(&path[..n]);
-    if fd < 0 {
-        io::write_all(STDOUT_FILENO, b"no such file\n");
-        return;
+fn report_argument<R: Files, W: Write>(rt: &R, path: &str, out: &mut W) -> io::Result<()> {
+    write!(out, "{path}: ")?;
+    match fs::open(rt, path) {
+        Ok(mut file) => report_on(&mut file, out),
+        Err(_) => writeln!(out, "no such file"),
     }
-    report_on(fd);
-    libc::close(fd);
 }
 
-fn main() {
-    let count = os::arg_count();
-    let mut i = 1;
-    while i < count {
-        report_argument(i);
-        i += 1;
+fn main(rt: HostRuntime) -> io::Result<()> {
+    let mut out = BufWriter::new(rt.alloc(), io::writer(&rt))?;
+    for path in env::args(&rt)?.skip(1) {
+        report_argument(&rt, path.as_str(), &mut out)?;
     }
+    out.flush()
 }

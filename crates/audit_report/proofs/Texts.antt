@@ -11,7 +11,7 @@ use lib.Dec.{ltb}
 use lib.ListN.{length, take, drop, length-append}
 use lib.Seq.{length-take-le}
 use Rattle.io.specs.Counts.{IsPrefixLen}
-use Rattle.io.specs.Digits.{hex_digit_ascii, last_digits, IsDigitCount}
+use Rattle.io.specs.Digits.{hex_digit_ascii, last_digits as io_digits, IsDigitCount}
 use Rattle.codec.specs.Bytes.{over}
 use Rattle.codec.proofs.Puts.{Written, written_front}
 use Rattle.auditor.specs.declared.Verdict.{Verdict}
@@ -41,7 +41,7 @@ fewer k n f =
     let one : 1 ≤ 10 ^ k = pow-le-pow_right {n = 10} (omega arith) {i = 0} {j = k} (omega arith) in
     (omega arith, (omega arith, (div-lt_iff_lt-mul {k = 10} (omega arith)).1 (omega arith), λ h. rw d ((le-div_iff_mul-le {k = 10} (omega arith)).1 (omega arith))))
 
-pub fewest_digits : (most k n : ℕ) → k ≤ most → IsDigitCount 10 1 n k → last_digits most n ≡ last_digits 10 k n
+pub fewest_digits : (most k n : ℕ) → k ≤ most → IsDigitCount 10 1 n k → last_digits most n ≡ io_digits 10 k n
 unfolding last_digits
 fewest_digits most zero n h f = absurd (omega (arith, f.0))
 fewest_digits zero (suc k) n h f = absurd (omega (arith, h))
@@ -49,7 +49,7 @@ fewest_digits (suc most) (suc zero) n h f = rw (lt-ltb n 10 f.1, glyph_below (n 
 fewest_digits (suc most) (suc (suc k)) n h f =
     rw (le-ltb n 10 (fewer k n f).0, fewest_digits most (suc k) (n / 10) (omega (arith, h)) (fewer k n f).1, glyph_below (n % 10) (mod-lt n (omega arith)))
 
-pub spelled : (n k : ℕ) (text : List ℕ) → n < 18446744073709551616 → IsDigitCount 10 1 n k → take k text ≡ last_digits 10 k n → take k text ≡ decimal n
+pub spelled : (n k : ℕ) (text : List ℕ) → n < 18446744073709551616 → IsDigitCount 10 1 n k → take k text ≡ io_digits 10 k n → take k text ≡ decimal n
 spelled n k text h f d = d ∙ sym (fewest_digits 20 k n (few_digits n k h f) f)
 
 pub short : (most n : ℕ) → length (last_digits most n) ≤ most

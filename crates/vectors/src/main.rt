@@ -5,7 +5,9 @@ mod calls;
 
 ghost use Rattle.std.specs.Prelude.{◌≤◌};
 
+use std::io::{BufReader, BufWriter, Read, Write};
 use std::num::wrapping_add_u64;
+use std::{env, fs, io};
 use vectors_files::{Run, lines};
 
 // The ids of a list of calls. Its start compares nothing.
@@ -24,95 +26,131 @@ fn agrees(id: u64, words: &[u8], held: &mut [u8]) -> bool {
 }
 
 // Compares a record, and says where it disagrees.
-fn compared(file: &[u8], run: Run, id: u64, words: &[u8], held: &mut [u8]) -> Run {
+fn compared<W: Write>(
+    out: &mut W,
+    file: &[u8],
+    run: Run,
+    id: u64,
+    words: &[u8],
+    held: &mut [u8],
+) -> io::Result<Run> {
     if id == START {
         vectors_lists::start(words, held);
-        return vectors_files::counted(run, 0, 0);
+        return Ok(vectors_files::counted(run, 0, 0));
     }
     if agrees(id, words, held) {
-        return vectors_files::counted(run, 1, 0);
+        return Ok(vectors_files::counted(run, 1, 0));
     }
     if run.disagree < MOST_LINES {
-        lines::disagrees(file, run.place, id);
+        lines::disagrees(out, file, run.place, id)?;
     }
-    vectors_files::counted(run, 0, 1)
+    Ok(vectors_files::counted(run, 0, 1))
 }
 
 // Reads a record's words, as many as `words` holds, and compares it.
-fn next_words(fd: i32, file: &[u8], run: Run, id: u64, words: &mut [u8], held: &mut [u8]) -> Run {
-    let run = vectors_files::read_words(fd, file, run, words);
+fn next_words<R: Read, W: Write>(
+    reader: &mut R,
+    out: &mut W,
+    file: &[u8],
+    run: Run,
+    id: u64,
+    words: &mut [u8],
+    held: &mut [u8],
+) -> io::Result<Run> {
+    let run = vectors_files::read_words(reader, out, file, run, words)?;
     if run.going {
-        return compared(file, run, id, words, held);
+        return compared(out, file, run, id, words, held);
     }
-    run
+    Ok(run)
 }
 
 // The same of a record whose words take `size` bytes.
-fn sized_record(fd: i32, file: &[u8], run: Run, id: u64, size: usize, held: &mut [u8]) -> Run
+fn sized_record<R: Read, W: Write>(
+    reader: &mut R,
+    out: &mut W,
+    file: &[u8],
+    run: Run,
+    id: u64,
+    size: usize,
+    held: &mut [u8],
+) -> io::Result<Run>
     requires { size ≤ 4096 }
 {
-    let mut space = io::buffer();
-    next_words(fd, file, run, id, &mut space[..size], held)
+    let mut space = [0u8; 4096];
+    next_words(reader, out, file, run, id, &mut space[..size], held)
 }
 
 // Reads and compares the next record, if there is one.
-fn next_record(fd: i32, file: &[u8], run: Run, held: &mut [u8]) -> Run {
-    let head = vectors_files::read_head(fd, file, run);
+fn next_record<R: Read, W: Write>(
+    reader: &mut R,
+    out: &mut W,
+    file: &[u8],
+    run: Run,
+    held: &mut [u8],
+) -> io::Result<Run> {
+    let head = vectors_files::read_head(reader, out, file, run)?;
     let run = head.run;
     if run.going {
-        return sized_record(fd, file, run, head.id, head.size, held);
+        return sized_record(reader, out, file, run, head.id, head.size, held);
     }
-    run
+    Ok(run)
 }
 
-// All records of an open file. Nothing says that a file ends, so the turns are counted down, from a number that no run uses up.
-fn records(fd: i32, file: &[u8], held: &mut [u8]) -> Run {
+// All records of a reader. Nothing says that a file ends, so the turns are counted down, from a number that no run uses up.
+fn records<R: Read, W: Write>(
+    reader: &mut R,
+    out: &mut W,
+    file: &[u8],
+    held: &mut [u8],
+) -> io::Result<Run> {
     let mut run = vectors_files::fresh();
     let mut turns = u64::MAX;
     while turns > 0 && run.going {
-        run = next_record(fd, file, run, held);
+        run = next_record(reader, out, file, run, held)?;
         turns -= 1;
     }
-    run
+    Ok(run)
 }
 
-fn summary(file: &[u8], run: Run) {
+fn summary<W: Write>(out: &mut W, file: &[u8], run: Run) -> io::Result<()> {
     let disagree = run.disagree;
     if disagree > MOST_LINES {
-        lines::more(file, disagree - MOST_LINES);
+        lines::more(out, file, disagree - MOST_LINES)?;
     }
-    lines::counts(file, run.agree, disagree);
+    lines::counts(out, file, run.agree, disagree)
 }
 
 // An open file of this name.
-fn replay_open(fd: i32, file: &[u8]) -> Run {
-    let mut held = io::buffer();
-    let run = records(fd, file, &mut held);
-    libc::close(fd);
-    summary(file, run);
-    run
+fn replay_open<R: Read, W: Write>(reader: &mut R, out: &mut W, file: &[u8]) -> io::Result<Run> {
+    let mut held = [0u8; 4096];
+    let run = records(reader, out, file, &mut held)?;
+    summary(out, file, run)?;
+    Ok(run)
 }
 
-// The file that argument i names.
-fn replay_file(i: usize) -> Run {
-    let mut space = io::buffer();
-    let length = os::arg(i, &mut space);
-    let fd = os::open_read(&space[..length]);
-    if fd < 0 {
-        lines::not_opened(&space[..length]);
-        return vectors_files::spoilt(vectors_files::fresh());
+// The file of this name.
+fn replay_file<W: Write>(rt: &HostRuntime, out: &mut W, path: &str) -> io::Result<Run> {
+    let file = path.as_bytes();
+    match fs::open(rt, path) {
+        Ok(opened) => replay_open(&mut BufReader::new(rt.alloc(), opened)?, out, file),
+        Err(_) => {
+            lines::not_opened(out, file)?;
+            Ok(vectors_files::spoilt(vectors_files::fresh()))
+        }
     }
-    replay_open(fd, &space[..length])
 }
 
-fn main() {
-    let n = os::arg_count();
+// What a file has shown is written before the next is opened.
+fn main(rt: HostRuntime) -> io::Result<()> {
+    let mut out = BufWriter::new(rt.alloc(), io::writer(&rt))?;
     let mut agree: u64 = 0;
     let mut disagree: u64 = 0;
-    for i in 1..n {
-        let run = replay_file(i);
+    for path in env::args(&rt)?.skip(1) {
+        let run = replay_file(&rt, &mut out, path.as_str())?;
         agree = wrapping_add_u64(agree, run.agree);
         disagree = wrapping_add_u64(disagree, run.disagree);
+        out.flush()?;
     }
-    lines::counts(b"total", agree, disagree);
+    lines::counts(&mut out, b"total", agree, disagree)?;
+    out.flush()
 }

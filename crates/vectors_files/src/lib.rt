@@ -3,8 +3,10 @@
 
 pub mod lines;
 
-ghost use Rattle.std.specs.Prelude.{◌≤◌};
+ghost use Rattle.std.specs.Prelude.{◌≤◌, IfOk};
 
+use std::io;
+use std::io::{Read, Write};
 use std::num::wrapping_add_u64;
 
 const MOST_WORDS: u64 = 512;
@@ -73,37 +75,48 @@ fn nothing(run: Run) -> Head
 }
 
 // Reads the head of the next record, if there is one.
-pub fn read_head(fd: i32, file: &[u8], run: Run) -> Head
-    ensures { result.size ≤ 4096 }
+pub fn read_head<R: Read, W: Write>(
+    reader: &mut R,
+    out: &mut W,
+    file: &[u8],
+    run: Run,
+) -> io::Result<Head>
+    ensures { IfOk result (λ head. head.size ≤ 4096) }
 {
     let mut head = [0u8; 4];
-    let got = io::read_full(fd, &mut head);
+    let got = reading::read_full(reader, &mut head)?;
     if got == 0 {
-        return nothing(ended(run));
+        return Ok(nothing(ended(run)));
     }
     if got < 4 {
-        lines::cut(file, run.place);
-        return nothing(spoilt(run));
+        lines::cut(out, file, run.place)?;
+        return Ok(nothing(spoilt(run)));
     }
     let front = codec::read_be(&head, 0, 4);
     let words = front % 65536;
     if words > MOST_WORDS {
-        lines::too_long(file, run.place, words);
-        return nothing(spoilt(run));
+        lines::too_long(out, file, run.place, words)?;
+        return Ok(nothing(spoilt(run)));
     }
-    Head {
+    Ok(Head {
         run,
         id: front / 65536,
         size: 8 * (words as usize),
-    }
+    })
 }
 
 // Reads a record's words, as many as `words` holds.
-pub fn read_words(fd: i32, file: &[u8], run: Run, words: &mut [u8]) -> Run {
-    let got = io::read_full(fd, words);
+pub fn read_words<R: Read, W: Write>(
+    reader: &mut R,
+    out: &mut W,
+    file: &[u8],
+    run: Run,
+    words: &mut [u8],
+) -> io::Result<Run> {
+    let got = reading::read_full(reader, words)?;
     if got < words.len() {
-        lines::cut(file, run.place);
-        return spoilt(run);
+        lines::cut(out, file, run.place)?;
+        return Ok(spoilt(run));
     }
-    run
+    Ok(run)
 }

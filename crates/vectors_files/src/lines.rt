@@ -1,5 +1,6 @@
 // The lines that the program writes. A vector is named by its place in its file, from 0, as `oracle alter` counts.
-use libc::STDOUT_FILENO;
+use std::io;
+use std::io::Write;
 
 // What VECTORS.md calls the ids from 1 to 8, from 20 to 31, 40, 41 and 51.
 const NAMES: [u8; 238] =
@@ -9,64 +10,53 @@ const NAMES: [u8; 238] =
 const UNKNOWN: u64 = 23;
 
 // A record that disagrees, or whose id is none.
-pub fn disagrees(file: &[u8], vector: u64, id: u64) {
-    start(file, vector);
+pub fn disagrees<W: Write>(out: &mut W, file: &[u8], vector: u64, id: u64) -> io::Result<()> {
+    start(out, file, vector)?;
     let k = name_of(id);
     if k < UNKNOWN {
-        io::write_all(STDOUT_FILENO, b" of ");
-        say_word(&NAMES, k);
-        io::write_all(STDOUT_FILENO, b" disagrees\n");
+        out.write_all(b" of ")?;
+        say_word(out, &NAMES, k)?;
+        writeln!(out, " disagrees")
     } else {
-        io::write_all(STDOUT_FILENO, b" has the unknown id ");
-        io::print_decimal(STDOUT_FILENO, id);
-        io::write_all(STDOUT_FILENO, b"\n");
+        writeln!(out, " has the unknown id {id}")
     }
 }
 
-pub fn too_long(file: &[u8], vector: u64, words: u64) {
-    start(file, vector);
-    io::write_all(STDOUT_FILENO, b" is too long: ");
-    io::print_decimal(STDOUT_FILENO, words);
-    io::write_all(STDOUT_FILENO, b" words\n");
+pub fn too_long<W: Write>(out: &mut W, file: &[u8], vector: u64, words: u64) -> io::Result<()> {
+    start(out, file, vector)?;
+    writeln!(out, " is too long: {words} words")
 }
 
-pub fn cut(file: &[u8], vector: u64) {
-    start(file, vector);
-    io::write_all(STDOUT_FILENO, b" is cut short\n");
+pub fn cut<W: Write>(out: &mut W, file: &[u8], vector: u64) -> io::Result<()> {
+    start(out, file, vector)?;
+    writeln!(out, " is cut short")
 }
 
-pub fn not_opened(file: &[u8]) {
-    io::write_all(STDOUT_FILENO, file);
-    io::write_all(STDOUT_FILENO, b": cannot be opened\n");
+pub fn not_opened<W: Write>(out: &mut W, file: &[u8]) -> io::Result<()> {
+    out.write_all(file)?;
+    writeln!(out, ": cannot be opened")
 }
 
 // Disagreements that got no line of their own.
-pub fn more(file: &[u8], n: u64) {
-    io::write_all(STDOUT_FILENO, file);
-    io::write_all(STDOUT_FILENO, b": ");
-    io::print_decimal(STDOUT_FILENO, n);
-    io::write_all(STDOUT_FILENO, b" more disagree\n");
+pub fn more<W: Write>(out: &mut W, file: &[u8], n: u64) -> io::Result<()> {
+    out.write_all(file)?;
+    writeln!(out, ": {n} more disagree")
 }
 
 // `name: 4000 agree`, and how many disagree where some do.
-pub fn counts(name: &[u8], agree: u64, disagree: u64) {
-    io::write_all(STDOUT_FILENO, name);
-    io::write_all(STDOUT_FILENO, b": ");
-    io::print_decimal(STDOUT_FILENO, agree);
-    io::write_all(STDOUT_FILENO, b" agree");
+pub fn counts<W: Write>(out: &mut W, name: &[u8], agree: u64, disagree: u64) -> io::Result<()> {
+    out.write_all(name)?;
+    write!(out, ": {agree} agree")?;
     if disagree > 0 {
-        io::write_all(STDOUT_FILENO, b", ");
-        io::print_decimal(STDOUT_FILENO, disagree);
-        io::write_all(STDOUT_FILENO, b" disagree");
+        write!(out, ", {disagree} disagree")?;
     }
-    io::write_all(STDOUT_FILENO, b"\n");
+    writeln!(out)
 }
 
 // `file: vector 17`.
-fn start(file: &[u8], vector: u64) {
-    io::write_all(STDOUT_FILENO, file);
-    io::write_all(STDOUT_FILENO, b": vector ");
-    io::print_decimal(STDOUT_FILENO, vector);
+fn start<W: Write>(out: &mut W, file: &[u8], vector: u64) -> io::Result<()> {
+    out.write_all(file)?;
+    write!(out, ": vector {vector}")
 }
 
 // The place of the id's name.
@@ -81,16 +71,17 @@ fn name_of(id: u64) -> u64 {
 }
 
 // The word after k spaces.
-fn say_word(words: &[u8], k: u64) {
+fn say_word<W: Write>(out: &mut W, words: &[u8], k: u64) -> io::Result<()> {
     let mut left = k;
     for i in 0..words.len() {
         if words[i] == b' ' {
             if left == 0 {
-                return;
+                return Ok(());
             }
             left -= 1;
         } else if left == 0 {
-            io::write_all(STDOUT_FILENO, &words[i..i + 1]);
+            out.write_all(&words[i..i + 1])?;
         }
     }
+    Ok(())
 }

@@ -1,4 +1,4 @@
-use Rattle.std.proofs.Common.{sym, ◌∙◌, rules}
+use Rattle.std.proofs.Common.{sym, ◌∙◌}
 use Rattle.vectors.proofs.calls.advanced.Goals as goal
 
 pub advance-requires : goal.advance-requires
