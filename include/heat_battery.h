@@ -1,11 +1,11 @@
 /* The C entries of the heat battery: opening a sheet, a call, the audit with
    and without a limit of length, and a call on the caller's own record.
 
-   Link prebuilt/x86_64-linux/libheat_battery.a, which is made of the proofs by
-   `rt staticlib heat_battery`. The library allocates nothing, keeps nothing
-   between calls, and reads and writes only the bytes it is lent and its stack.
-   Of C's functions it needs memcpy and memset. Two threads may call it at once
-   on memory of their own.
+   Link prebuilt/x86_64-linux/libheat_battery.a, which tools/archive.sh makes of
+   the proofs. The library allocates nothing, keeps nothing between calls, and
+   reads and writes only the bytes it is lent and its stack. Of C's functions it
+   needs memcpy and memset. Two threads may call it at once on memory of their
+   own.
 
    Lent memory. Each slice is a pointer and then a length in bytes. It belongs
    to the caller before, during and after the call. A pointer may be null only

@@ -1,6 +1,6 @@
 //! Finds the libheat_battery.a to link: the repository's prebuilt one; with HEAT_BATTERY_PROVE=1
-//! the one that `rt staticlib heat_battery` proves and makes there; or, before both, the one in the
-//! folder that HEAT_BATTERY_LIB names, relative to the folder that cargo is called from.
+//! the one that tools/archive.sh proves and makes; or, before both, the one in the folder that
+//! HEAT_BATTERY_LIB names, relative to the folder that cargo is called from.
 
 use std::env;
 use std::ffi::OsString;
@@ -46,33 +46,42 @@ fn watched(folder: PathBuf) -> PathBuf {
     folder
 }
 
-/// Proves and makes the archive at the repository's root; its folder.
+/// Proves the library and makes its archive in cargo's folder for this crate; that folder.
 fn prove(root: &Path) -> PathBuf {
-    println!("cargo:rerun-if-changed={}", root.join("crates").display());
-    println!("cargo:rerun-if-changed={}", root.join("crates.txt").display());
-    say("HEAT_BATTERY_PROVE is set: proving the library, five to ten minutes where nothing is proved yet");
+    // All that the proof reads; what the prover writes lies beside it in out/.
+    let mut read = vec![root.join("crates.txt"), root.join("tools/archive.sh")];
+    for folder in fs::read_dir(root.join("crates")).into_iter().flatten().flatten() {
+        let parts = ["src", "specs", "proofs"].map(|part| folder.path().join(part));
+        read.extend(parts.into_iter().filter(|part| part.is_dir()));
+    }
+    for path in read {
+        println!("cargo:rerun-if-changed={}", path.display());
+    }
+    say("HEAT_BATTERY_PROVE is set: proving the library, which takes minutes where nothing is proved yet");
     let begun = Instant::now();
-    let mut rt = Command::new("rt");
-    rt.args(["staticlib", "heat_battery"]).current_dir(root).stderr(Stdio::piped());
-    let mut run = match rt.spawn() {
+    let folder = PathBuf::from(env::var_os("OUT_DIR").expect("cargo sets it"));
+    let mut archive = Command::new(root.join("tools/archive.sh"));
+    archive.arg(&folder).stdout(Stdio::piped());
+    let mut run = match archive.spawn() {
         Ok(run) => run,
-        Err(error) => stop(format!(
-            "rt staticlib heat_battery: {error}. \
-             Install the Rattle kit, or unset HEAT_BATTERY_PROVE to link the prebuilt archive"
-        )),
+        Err(error) => stop(format!("tools/archive.sh: {error}")),
     };
-    let progress = run.stderr.take().into_iter().flat_map(|out| BufReader::new(out).lines());
+    let progress = run.stdout.take().into_iter().flat_map(|out| BufReader::new(out).lines());
     for line in progress.map_while(Result::ok) {
         eprintln!("{line}");
-        say(&format!("{:4} s  {line}", begun.elapsed().as_secs()));
+        if line.starts_with("rt: ") {
+            say(&format!("{:4} s  {line}", begun.elapsed().as_secs()));
+        }
     }
     match run.wait() {
         Ok(status) if status.success() => {}
-        Ok(status) => stop(format!("rt staticlib heat_battery: {status}")),
-        Err(error) => stop(format!("rt staticlib heat_battery: {error}")),
+        Ok(status) => stop(format!(
+            "tools/archive.sh: {status}. Unset HEAT_BATTERY_PROVE to link the prebuilt archive"
+        )),
+        Err(error) => stop(format!("tools/archive.sh: {error}")),
     }
     say(&format!("proved and made in {} s", begun.elapsed().as_secs()));
-    root.join("target/staticlib")
+    folder
 }
 
 fn main() {

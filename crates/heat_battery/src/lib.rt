@@ -1,6 +1,6 @@
 // The C entries: opening a sheet and a call for laboratory A, the audit for laboratory B with the limit of length and without, and a call on the
 // caller's own record.
-// include/heat_battery.h says what a caller must know.
+// include/heat_battery.h says what a caller must know; crates/heat_battery_c exports the five for C.
 #![tactic(auto)]
 
 ghost use Rattle.std.specs.Prelude.{◌≡◌, true};
