@@ -3,7 +3,6 @@ use Rattle.std.specs.Prelude.{ℕ}
 use Rattle.battery.specs.declared.Battery.{Battery}
 use Rattle.battery.specs.declared.Answer.{Answer}
 use Rattle.battery.specs.declared.Call.{Call}
-use Rattle.battery.specs.declared.Call.TheVariants as Call
 use Rattle.runs.specs.declared.Source.TheVariants.{Electric}
 use Rattle.engine.specs.declared.Operation.{Operation}
 use Rattle.engine.specs.declared.Operation.TheVariants.{DemandEnergy, Charge, HeatLoss, CloseTimestep, ReadStateOfCharge, ChargeEnergyDemand}

@@ -2,8 +2,7 @@
 use Prim.Native.Nat.{ℕ, zero, suc, ◌+◌, ◌≤◌, ◌<◌}
 use mathlib.Core.Path.{◌≡◌, refl, sym, ap, ◌∙◌}
 use mathlib.Core.Bool.{Bool, true, false, cond, ◌&&◌}
-use mathlib.Core.List.{List, [], ◌∷◌}
-use mathlib.Core.Logic.{◌↔◌}
+use mathlib.Core.List.{List}
 use native.Mathlib.Decide.{ℕ_discrete}
 use native.Mathlib.Omega.{arith}
 use borrow.Author.Tests.{eq-eqb, ne_eqb, leb-true}
@@ -12,7 +11,7 @@ use lib.ListN.{length, get_or}
 use Rattle.logic.proofs.Tests.{and_true}
 use Rattle.codec.specs.Bytes.{be_at}
 use Rattle.card.specs.Version.{lists_services}
-use Rattle.card.specs.Services.{Service, listed, most_services, service_ok, rising_from, services_ok, BadServices, listed_class, class_of}
+use Rattle.card.specs.Services.{Service, listed, most_services, service_ok, rising_from, services_ok, listed_class, class_of}
 use Rattle.card.proofs.Listed.{services_exactly, own_type, above_type, class_small}
 use Rattle.battery.specs.declared.Demand.{Demand}
 use Rattle.battery.specs.declared.Call.{Call}

@@ -1,10 +1,10 @@
 -- Document 02, Four: equal answers in versions 2 and 3, call for call.
 use Prim.Native.Nat.{ℕ, ◌+◌, ◌≤◌}
 use mathlib.Core.Path.{◌≡◌, refl, sym, ap, subst, ◌∙◌}
-use mathlib.Core.Bool.{Bool, true, false, cond}
+use mathlib.Core.Bool.{true}
 use mathlib.Core.List.{List, [], ◌∷◌, ◌++◌}
 use native.Mathlib.Omega.{arith}
-use lib.ListN.{length, take, drop, get_or, length-append}
+use lib.ListN.{length, drop, get_or, length-append}
 use lib.Seq.{drop_at}
 use Rattle.codec.specs.Bytes.{be_bytes}
 use Rattle.codec.proofs.Laws.{length_be_bytes}
@@ -30,7 +30,7 @@ use Rattle.entries.specs.Entry.{After, unchanged, opened_with, open_of}
 use Rattle.entries.proofs.Opening.{open_known_lem, opened}
 use Rattle.heat_battery.proofs.AnyVersion.{opens_exactly}
 use Rattle.heat_battery.specs.Entries.{entry_of}
-use Rattle.heat_battery.specs.Lists.{ListedCall, AllGiven, entry_to, no_line, line_taken, free_rest, Encoded}
+use Rattle.heat_battery.specs.Lists.{ListedCall, AllGiven, entry_to, no_line, free_rest, Encoded}
 use Rattle.heat_battery.proofs.Encodings.{lined, Entered, kept_10, kept_11, stepped, entry_on_encoding, read_not_ten, step_encoded, gets_line, line_taken_lem, free_rest_lem}
 use Rattle.heat_battery.proofs.EqualSteps.{given_is, nothing_used, fresh_encoded}
 use Rattle.promises.specs.TwoAndThree.{widened, in_three, FirstTypes, NoEleven, Answered, answered_by, answers_of, opened_record, opened_rest}

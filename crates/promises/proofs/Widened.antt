@@ -1,7 +1,7 @@
 -- A call of types 0 to 3 in the layouts of versions 2 and 3 is read as the same call, whatever services are listed.
-use Prim.Native.Nat.{ℕ, suc, ◌+◌, ◌*◌, ◌≤◌}
+use Prim.Native.Nat.{ℕ, ◌≤◌}
 use mathlib.Core.Path.{◌≡◌, refl, sym, ap, ◌∙◌}
-use mathlib.Core.Bool.{Bool, true, false, cond}
+use mathlib.Core.Bool.{cond}
 use mathlib.Core.List.{List, [], ◌∷◌}
 use native.Mathlib.Decide.{ℕ_discrete}
 use native.Mathlib.Omega.{arith}
@@ -13,7 +13,6 @@ use Rattle.card.specs.Version.{lists_services}
 use Rattle.card.specs.Services.{Service, class_of}
 use Rattle.card.proofs.Listed.{own_type}
 use Rattle.sheet_calls.specs.Calls.{commit_place, call_length, mark_ok, given_at, demand_class, demand_at, demand_call, hydronic_at, charge_demand_call, bare_call, call_by, call_of}
-use Rattle.sheet_calls.specs.declared.ReadCall.{ReadCall}
 use Rattle.sheet_calls.specs.declared.ReadCall.TheVariants.{Bad}
 use Rattle.promises.specs.TwoAndThree.{widened}
 

@@ -7,7 +7,7 @@ use lib.ListN.{length, take, drop, get_or, get_or-append, take-append-drop}
 use lib.Seq.{length-take-le}
 use Rattle.codec.specs.Bytes.{be, be_at, nth_f64, f64_of}
 use Rattle.codec.proofs.Places.{in_front}
-use Rattle.sheet_records.specs.Cards.{card_length, card_at, services_at, refusal_at}
+use Rattle.sheet_records.specs.Cards.{card_length, card_at, refusal_at}
 use Rattle.sheet_records.proofs.CardLaws.{card_least, card_length_take, services_front, services_take}
 
 -- a card is read from its own bytes, whatever follows them

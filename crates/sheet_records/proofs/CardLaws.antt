@@ -3,18 +3,18 @@
 use mathlib.Core.Path.{◌≡◌, refl, sym, ap, ◌∙◌}
 use mathlib.Core.Bool.{Bool, true, false, cond}
 use mathlib.Core.List.{List, [], ◌++◌}
-use Prim.Native.Nat.{ℕ, ◌+◌, ◌*◌, ◌≤◌, ◌<◌}
+use Prim.Native.Nat.{ℕ, ◌+◌, ◌≤◌, ◌<◌}
 use native.Mathlib.Omega.{arith}
 use lib.ListN.{length, take, drop, get_or, get_or-append, take-append-drop}
 use lib.Seq.{get_or-take, length-take-le}
 use borrow.Author.Tests.{leb-true}
 use lib.Dec.{leb}
 use Rattle.logic.proofs.Tests.{and_true}
-use Rattle.codec.specs.Bytes.{be, be_at}
+use Rattle.codec.specs.Bytes.{be}
 use Rattle.codec.proofs.Places.{in_front}
 use Rattle.card.specs.Version.{lists_services}
 use Rattle.card.specs.Card.{card_refusal}
-use Rattle.card.specs.Services.{Service, listed, most_services, rising_from, services_ok}
+use Rattle.card.specs.Services.{listed, most_services, rising_from, services_ok}
 use Rattle.card.proofs.Listed.{listed_length, listed_same, full_accepted}
 use Rattle.sheet_records.specs.Cards.{count_place, service_place, card_length, card_at, service_at, services_at, refusal_at}
 

@@ -1,7 +1,6 @@
 use mathlib.Core.Path.{refl, sym, ◌∙◌}
 use native.Mathlib.Omega.{arith}
 use lib.ListN.{drop}
-use borrow.Author.Rules.{rules}
 use Rattle.logic.proofs.Branch.{via_true, via_false}
 use Rattle.sheet_records.proofs.CardLaws.{fields_accepted}
 use Rattle.auditor.specs.Audit.{card_part, audit_card, audit_of}

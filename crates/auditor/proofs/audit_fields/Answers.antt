@@ -1,5 +1,4 @@
 use mathlib.Core.Path.{◌∙◌, ap}
-use borrow.Author.Rules.{rules}
 use Rattle.auditor.specs.Audit.{verdict_fields}
 use Rattle.auditor.proofs.audit_fields.Goals as goal
 

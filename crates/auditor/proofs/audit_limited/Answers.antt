@@ -1,5 +1,4 @@
 use mathlib.Core.Path.{refl, ◌∙◌}
-use borrow.Author.Rules.{rules}
 use borrow.Author.Tests.{lt-ltb, le-ltb}
 use Rattle.logic.proofs.Branch.{via_true, via_false}
 use Rattle.auditor.specs.Audit.{limited_audit_of}

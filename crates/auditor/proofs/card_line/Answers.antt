@@ -1,7 +1,6 @@
 use mathlib.Core.Path.{refl, sym, ◌∙◌, ap}
 use Prim.Native.Nat.{◌+◌}
 use native.Mathlib.Omega.{arith}
-use borrow.Author.Rules.{rules}
 use borrow.Author.Tests.{le-leb, lt-leb, eq-eqb, ne_eqb}
 use Rattle.logic.proofs.Branch.{via_true, via_false}
 use Rattle.sheet_records.specs.Cards.{card_length}

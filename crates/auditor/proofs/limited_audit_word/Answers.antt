@@ -1,5 +1,4 @@
 use mathlib.Core.Path.{◌∙◌, ap}
-use borrow.Author.Rules.{rules}
 use Rattle.auditor.specs.Audit.{verdict_word}
 use Rattle.auditor.proofs.Bounds.{most_limited}
 use Rattle.auditor.proofs.limited_audit_word.Goals as goal

@@ -1,4 +1,3 @@
-use borrow.Author.Rules.{rules}
 use Rattle.auditor.specs.Audit.{verdict_fields}
 use Rattle.auditor.proofs.verdict_fields.Goals as goal
 

@@ -1,5 +1,4 @@
 use native.Mathlib.Omega.{arith}
-use borrow.Author.Rules.{rules}
 use Rattle.auditor.specs.Audit.{limit, verdict_word}
 use Rattle.auditor.proofs.Bounds.{below_accepted, below_refused}
 use Rattle.auditor.proofs.verdict_word.Goals as goal

@@ -1,7 +1,6 @@
 use mathlib.Core.Path.{refl, sym, ◌∙◌}
 use Rattle.logic.proofs.Branch.{via_true, via_false}
 use Rattle.engine_replies.specs.Replies.{charged_time}
-use borrow.Author.Rules.{rules}
 use Rattle.engine_replies.proofs.charged_time.Goals as goal
 
 pub returns-then-shows_hydronic_time : goal.returns-then-shows_hydronic_time

@@ -2,7 +2,6 @@ use Rattle.logic.proofs.Branch.{via_true, via_false}
 use Rattle.engine_replies.specs.Replies.{checked}
 use Rattle.engine_replies.proofs.Settled.{settled_answer, settled_refusal}
 use mathlib.Core.Path.{refl}
-use borrow.Author.Rules.{rules}
 use Rattle.engine_replies.proofs.checked.Goals as goal
 
 pub returns-then-reply_finite : goal.returns-then-reply_finite

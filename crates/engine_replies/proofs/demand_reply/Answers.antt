@@ -1,5 +1,4 @@
 use mathlib.Core.Path.{refl}
-use borrow.Author.Rules.{rules}
 use Rattle.engine_replies.proofs.demand_reply.Goals as goal
 
 pub returns : goal.returns

@@ -1,5 +1,4 @@
 use Rattle.engine_replies.specs.Replies.{demand_start}
-use borrow.Author.Rules.{rules}
 use Rattle.engine_replies.proofs.demand_start.Goals as goal
 
 pub returns : goal.returns

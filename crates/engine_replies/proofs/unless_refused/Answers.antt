@@ -4,7 +4,6 @@ use borrow.Author.Tests.{eq-eqb, ne_eqb}
 use Rattle.engine_replies.specs.Replies.{checked, unless_refused}
 use Rattle.engine_replies.proofs.Settled.{settled_answer, settled_refusal}
 use mathlib.Core.Path.{refl, sym, ◌∙◌}
-use borrow.Author.Rules.{rules}
 use Rattle.engine_replies.proofs.unless_refused.Goals as goal
 
 pub returns-then-numbers_finite : goal.returns-then-numbers_finite

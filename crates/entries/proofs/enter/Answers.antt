@@ -1,7 +1,6 @@
 use mathlib.Core.Path.{refl}
 use native.Mathlib.Omega.{arith}
 use Rattle.entries.proofs.Entering.{line_ten, line_room, line_refused, line_answered}
-use borrow.Author.Rules.{rules}
 use Rattle.entries.proofs.enter.Goals as goal
 
 pub returns-then-answer-eq-BAD_CALL : goal.returns-then-answer-eq-BAD_CALL

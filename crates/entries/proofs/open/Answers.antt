@@ -8,7 +8,6 @@ use Rattle.sheet_records.specs.Cards.{card_at, refusal_at}
 use Rattle.sheet_records.proofs.CardLaws.{fields_accepted}
 use Rattle.sheet_records.specs.Records.{state_length, record_length, record_bytes}
 use Rattle.entries.proofs.Opening.{open_length, open_card, open_record, open_room, opened}
-use borrow.Author.Rules.{rules}
 use Rattle.entries.proofs.open.Goals as goal
 
 pub returns-then-card-card_length : goal.returns-then-card-card_length

@@ -1,7 +1,6 @@
 use native.Mathlib.Omega.{arith}
 use Rattle.card.proofs.Accepted.{accepted_layers}
 use Rattle.entries.proofs.Checked.{finite_decides}
-use borrow.Author.Rules.{rules}
 use Rattle.entries.proofs.record_accepted.Goals as goal
 
 pub zones_finite-requires : goal.zones_finite-requires

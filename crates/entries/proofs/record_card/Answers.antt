@@ -5,7 +5,6 @@ use Rattle.logic.proofs.Branch.{via_true, via_false}
 use Rattle.entries.specs.Entry.{record_laid, record_card}
 use Rattle.entries.specs.declared.RecordCard.TheVariants.{Good}
 use Rattle.entries.proofs.Entering.{laid_record}
-use borrow.Author.Rules.{rules}
 use Rattle.entries.proofs.record_card.Goals as goal
 
 pub refusal-requires : goal.refusal-requires

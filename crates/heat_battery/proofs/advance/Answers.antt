@@ -20,7 +20,6 @@ use Rattle.sheet_records.proofs.CardLaws.{fields_accepted}
 use Rattle.sheet_records.specs.Records.{record_length, record_of, state_at}
 use Rattle.heat_battery.specs.Entries.{entry_read}
 use Rattle.entries.proofs.Entering.{record_laid_lem}
-use borrow.Author.Rules.{rules}
 use Rattle.heat_battery.proofs.advance.Goals as goal
 
 module _ (version : ℕ) where

@@ -1,6 +1,5 @@
 use mathlib.Core.Path.{refl, sym, ◌∙◌}
 use Rattle.heat_battery.proofs.Calling.{entry_known_lem, entry_unknown}
-use borrow.Author.Rules.{rules}
 use Rattle.heat_battery.proofs.heat_battery_call.Goals as goal
 
 pub returns-then-known_version : goal.returns-then-known_version

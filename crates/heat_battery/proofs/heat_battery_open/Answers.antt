@@ -1,6 +1,5 @@
 use mathlib.Core.Path.{refl, sym, ◌∙◌}
 use Rattle.entries.proofs.Opening.{open_known_lem, open_unknown}
-use borrow.Author.Rules.{rules}
 use Rattle.heat_battery.proofs.heat_battery_open.Goals as goal
 
 pub returns-then-known_version : goal.returns-then-known_version

@@ -9,7 +9,6 @@ use Rattle.sheet_records.specs.Records.{record_of, state_at}
 use Rattle.sheet_calls.specs.Calls.{call_of}
 use Rattle.entries.proofs.Entering.{record_laid_lem}
 use Rattle.heat_battery.proofs.Calling.{read_not_accepted}
-use borrow.Author.Rules.{rules}
 use Rattle.heat_battery.proofs.with_card.Goals as goal
 
 pub read_record-b-requires : goal.read_record-b-requires

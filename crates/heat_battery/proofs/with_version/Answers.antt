@@ -1,7 +1,6 @@
 use mathlib.Core.Path.{refl, sym, ◌∙◌}
 use Rattle.entries.proofs.Checked.{good_card, bad_card_lem}
 use Rattle.heat_battery.specs.Entries.{entry_known}
-use borrow.Author.Rules.{rules}
 use Rattle.heat_battery.proofs.with_version.Goals as goal
 
 pub with_card-requires : goal.with_card-requires

@@ -1,7 +1,6 @@
 use mathlib.Core.Path.{refl}
 use Rattle.logic.proofs.Branch.{via_true, via_false}
 use Rattle.run_demand.specs.Demand.{demand_delivered}
-use borrow.Author.Rules.{rules}
 use Rattle.run_demand.proofs.demand_delivered.Goals as goal
 
 pub returns-then-outcome : goal.returns-then-outcome

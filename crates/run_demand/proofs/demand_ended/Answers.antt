@@ -1,6 +1,5 @@
 use mathlib.Core.Path.{refl}
 use Rattle.run_demand.specs.Demand.{demand_ended}
-use borrow.Author.Rules.{rules}
 use Rattle.run_demand.proofs.demand_ended.Goals as goal
 
 pub returns : goal.returns

@@ -1,7 +1,6 @@
 use mathlib.Core.Path.{refl}
 use Rattle.logic.proofs.Branch.{via_true, via_false}
 use Rattle.run_demand.specs.Demand.{demand_met}
-use borrow.Author.Rules.{rules}
 use Rattle.run_demand.proofs.demand_met.Goals as goal
 
 pub returns-then-nearly_equal : goal.returns-then-nearly_equal

@@ -1,14 +1,9 @@
-use Rattle.zone.specs.Lent.{zone_salt}
 use Rattle.run_demand.proofs.Turns.{demand_no_step, demand_over_budget, run_on, run_stops}
 use Rattle.runs.proofs.InPlace.{as_defined}
 use native.Mathlib.Nat.{sub-zero}
-use Rattle.runs.specs.Zoned.{zoned}
-use Rattle.run_demand.specs.Demand.{demand_run}
-use mathlib.Core.Path.{◌≡◌, ◌∙◌, ap}
+use mathlib.Core.Path.{◌∙◌, ap}
 use mathlib.Core.Bool.{not}
-use Prim.Native.Nat.{◌≤◌, ◌-◌}
 use native.Mathlib.Omega.{arith}
-use borrow.Author.Rules.{rules}
 use Rattle.run_demand.proofs.demand_run.Goals as goal
 
 pub loop-state-init : goal.loop-state-init

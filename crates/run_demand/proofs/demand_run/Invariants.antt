@@ -1,13 +1,8 @@
 use Rattle.zone.specs.Lent.{zone_salt}
-use Rattle.run_demand.proofs.Turns.{demand_no_step, demand_over_budget, run_on, run_stops}
-use Rattle.runs.proofs.InPlace.{as_defined}
-use native.Mathlib.Nat.{sub-zero}
 use Rattle.runs.specs.Zoned.{zoned}
 use Rattle.run_demand.specs.Demand.{demand_run}
-use mathlib.Core.Path.{◌≡◌, ◌∙◌}
+use mathlib.Core.Path.{◌≡◌}
 use Prim.Native.Nat.{◌≤◌, ◌-◌}
-use native.Mathlib.Omega.{arith}
-use borrow.Author.Rules.{rules}
 use Rattle.run_demand.proofs.demand_run.Given as goal
 
 abbrev pub invariant-loop-state : goal.invariant-loop-state

@@ -1,5 +1,4 @@
 use Rattle.run_demand.specs.Demand.{demand_state_after}
-use borrow.Author.Rules.{rules}
 use Rattle.run_demand.proofs.demand_state_after.Goals as goal
 
 pub returns : goal.returns

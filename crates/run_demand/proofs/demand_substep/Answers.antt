@@ -4,7 +4,6 @@ use Rattle.runs.proofs.InPlace.{log_refused, finite_refused}
 use Rattle.substep.specs.declared.SubstepInput.{SubstepInput}
 use Rattle.run_demand.specs.Demand.{demand_input, demand_by}
 use mathlib.Core.Path.{refl, sym, ap}
-use borrow.Author.Rules.{rules}
 use Rattle.run_demand.proofs.demand_substep.Goals as goal
 
 pub process_in_place-u-requires : goal.process_in_place-u-requires

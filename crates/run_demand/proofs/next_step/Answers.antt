@@ -1,7 +1,6 @@
 use mathlib.Core.Path.{refl}
 use Rattle.logic.proofs.Branch.{via_true, via_false}
 use Rattle.run_demand.specs.Demand.{next_step}
-use borrow.Author.Rules.{rules}
 use Rattle.run_demand.proofs.next_step.Goals as goal
 
 pub returns-then-power : goal.returns-then-power

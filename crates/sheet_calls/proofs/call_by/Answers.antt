@@ -4,7 +4,6 @@ use mathlib.Core.Path.{ap, refl}
 use Rattle.sheet_calls.proofs.Places.{electric_length}
 use Rattle.logic.proofs.Branch.{via_true, via_false}
 use borrow.Author.Tests.{eq-eqb, ne_eqb}
-use borrow.Author.Rules.{rules}
 use Rattle.sheet_calls.proofs.call_by.Goals as goal
 
 pub demand_call-requires : goal.demand_call-requires

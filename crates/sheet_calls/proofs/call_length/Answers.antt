@@ -2,7 +2,6 @@ use mathlib.Core.Path.{refl}
 use Rattle.logic.proofs.Branch.{via_true, via_false}
 use borrow.Author.Tests.{eq-eqb, ne_eqb}
 use native.Mathlib.Omega.{arith}
-use borrow.Author.Rules.{rules}
 use Rattle.sheet_calls.specs.Calls.{call_length}
 use Rattle.sheet_calls.proofs.Places.{commit_place_lem}
 use Rattle.sheet_calls.proofs.call_length.Goals as goal

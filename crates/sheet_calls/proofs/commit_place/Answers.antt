@@ -1,5 +1,4 @@
 use mathlib.Core.Path.{refl}
-use borrow.Author.Rules.{rules}
 use Rattle.logic.proofs.Branch.{via_true, via_false}
 use Rattle.sheet_calls.specs.Calls.{commit_place}
 use Rattle.sheet_calls.proofs.commit_place.Goals as goal

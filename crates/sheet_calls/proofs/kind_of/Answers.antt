@@ -2,7 +2,6 @@ use mathlib.Core.Path.{refl}
 use Rattle.logic.proofs.Branch.{via_true, via_false}
 use borrow.Author.Tests.{eq-eqb, ne_eqb}
 use Rattle.sheet_calls.specs.Calls.{kind_of}
-use borrow.Author.Rules.{rules}
 use Rattle.sheet_calls.proofs.kind_of.Goals as goal
 
 pub returns-then-bytes-call_length : goal.returns-then-bytes-call_length

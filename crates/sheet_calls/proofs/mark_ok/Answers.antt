@@ -2,7 +2,6 @@ use mathlib.Core.Path.{refl}
 use Rattle.logic.proofs.Branch.{via_true, via_false}
 use borrow.Author.Tests.{eq-eqb, ne_eqb}
 use Rattle.sheet_calls.specs.Calls.{mark_ok}
-use borrow.Author.Rules.{rules}
 use Rattle.sheet_calls.proofs.mark_ok.Goals as goal
 
 pub returns-then-bytes-at-eq0 : goal.returns-then-bytes-at-eq0

@@ -1,5 +1,4 @@
 use native.Mathlib.Omega.{arith}
-use borrow.Author.Rules.{rules}
 use Rattle.sheet_calls.specs.Calls.{demand_at}
 use Rattle.sheet_calls.proofs.Places.{commit_place_lem, demand_fits}
 use Rattle.sheet_calls.proofs.read_demand.Goals as goal

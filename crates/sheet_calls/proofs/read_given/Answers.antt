@@ -2,7 +2,6 @@ use mathlib.Core.Path.{refl}
 use Rattle.logic.proofs.Branch.{via_true, via_false}
 use borrow.Author.Tests.{eq-eqb, ne_eqb}
 use Rattle.sheet_calls.specs.Calls.{given_at}
-use borrow.Author.Rules.{rules}
 use Rattle.sheet_calls.proofs.read_given.Goals as goal
 
 pub returns-then-bytes-at-eq0 : goal.returns-then-bytes-at-eq0

@@ -2,7 +2,6 @@ use Rattle.codec.proofs.Puts.{nothing_written, then_sized, written_whole}
 use Rattle.sheet_records.specs.Records.{state_bytes, record_bytes}
 use Rattle.sheet_records.proofs.Lengths.{length_state_bytes, length_record_bytes}
 use mathlib.Core.Path.{sym, ◌∙◌, refl}
-use borrow.Author.Rules.{rules}
 use Rattle.sheet_records.proofs.put_record.Goals as goal
 
 pub returns : goal.returns

@@ -1,7 +1,6 @@
 use native.Mathlib.Omega.{arith}
 use Rattle.codec.proofs.Puts.{nothing_written, then_f64}
 use Rattle.sheet_records.specs.Records.{totals_bytes}
-use borrow.Author.Rules.{rules}
 use Rattle.sheet_records.proofs.put_totals.Goals as goal
 
 pub returns : goal.returns

@@ -1,11 +1,8 @@
 use native.Mathlib.Numerals.{add-one}
 use Rattle.sheet_records.specs.Records.{zones_bytes}
-use Rattle.codec.proofs.Puts.{Written, nothing_written, then_f64}
-use lib.ListN.{length}
-use Prim.Native.Nat.{◌*◌, ◌≤◌, ◌-◌, ◌+◌}
+use Rattle.codec.proofs.Puts.{nothing_written, then_f64}
 use mathlib.Core.Path.{◌≡◌, refl, ◌∙◌}
 use native.Mathlib.Omega.{arith}
-use borrow.Author.Rules.{rules}
 use Rattle.sheet_records.proofs.put_zones.Goals as goal
 
 pub loop-k-init : goal.loop-k-init

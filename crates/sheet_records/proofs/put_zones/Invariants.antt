@@ -1,11 +1,8 @@
-use native.Mathlib.Numerals.{add-one}
 use Rattle.sheet_records.specs.Records.{zones_bytes}
-use Rattle.codec.proofs.Puts.{Written, nothing_written, then_f64}
+use Rattle.codec.proofs.Puts.{Written}
 use lib.ListN.{length}
 use Prim.Native.Nat.{◌*◌, ◌≤◌, ◌-◌, ◌+◌}
-use mathlib.Core.Path.{◌≡◌, refl, ◌∙◌}
-use native.Mathlib.Omega.{arith}
-use borrow.Author.Rules.{rules}
+use mathlib.Core.Path.{◌≡◌}
 use Rattle.sheet_records.proofs.put_zones.Given as goal
 
 abbrev pub invariant-loop-k : goal.invariant-loop-k

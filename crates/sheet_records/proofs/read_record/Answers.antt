@@ -1,7 +1,6 @@
 use mathlib.Core.Path.{◌∙◌, ap}
 use native.Mathlib.Omega.{arith}
 use Rattle.sheet_records.specs.Records.{state_length, record_length, record_of}
-use borrow.Author.Rules.{rules}
 use Rattle.sheet_records.proofs.read_record.Goals as goal
 
 pub read_state-requires : goal.read_state-requires

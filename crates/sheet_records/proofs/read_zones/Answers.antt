@@ -1,9 +1,7 @@
 use native.Mathlib.Numerals.{add-one}
 use Rattle.sheet_records.specs.Records.{zones_at}
 use mathlib.Core.Path.{◌≡◌, refl, ◌∙◌, ap}
-use Prim.Native.Nat.{◌≤◌, ◌-◌}
 use native.Mathlib.Omega.{arith}
-use borrow.Author.Rules.{rules}
 use Rattle.sheet_records.proofs.read_zones.Goals as goal
 
 pub loop-k-init : goal.loop-k-init

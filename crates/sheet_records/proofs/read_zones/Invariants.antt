@@ -1,9 +1,6 @@
-use native.Mathlib.Numerals.{add-one}
 use Rattle.sheet_records.specs.Records.{zones_at}
-use mathlib.Core.Path.{◌≡◌, refl, ◌∙◌, ap}
+use mathlib.Core.Path.{◌≡◌}
 use Prim.Native.Nat.{◌≤◌, ◌-◌}
-use native.Mathlib.Omega.{arith}
-use borrow.Author.Rules.{rules}
 use Rattle.sheet_records.proofs.read_zones.Given as goal
 
 abbrev pub invariant-loop-k : goal.invariant-loop-k

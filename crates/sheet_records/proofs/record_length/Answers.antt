@@ -1,6 +1,5 @@
 use native.Mathlib.Omega.{arith}
 use Rattle.sheet_records.specs.Records.{state_length, record_length}
-use borrow.Author.Rules.{rules}
 use Rattle.sheet_records.proofs.record_length.Goals as goal
 
 pub overflow_add-result : goal.overflow_add-result

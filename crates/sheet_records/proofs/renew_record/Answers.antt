@@ -6,7 +6,6 @@ use Rattle.codec.proofs.Puts.{put_tail}
 use Rattle.sheet_records.specs.Cards.{card_length}
 use Rattle.sheet_records.specs.Records.{state_bytes, record_bytes}
 use Rattle.sheet_records.proofs.Lengths.{length_state_bytes}
-use borrow.Author.Rules.{rules}
 use Rattle.sheet_records.proofs.renew_record.Goals as goal
 
 pub returns : goal.returns

@@ -1,6 +1,5 @@
 use mathlib.Core.Path.{refl}
 use Rattle.sheet_records.specs.Records.{state_length}
-use borrow.Author.Rules.{rules}
 use Rattle.sheet_records.proofs.state_length.Goals as goal
 
 pub returns : goal.returns

@@ -1,7 +1,6 @@
 use Rattle.substep.specs.Substep.{without_logarithm, substep_from}
 use Rattle.substep.proofs.SubstepLaws.{passed, refused_here, transfer_value, transfer_count, whole, not_alike}
 use mathlib.Core.Path.{refl, sym, ◌∙◌}
-use borrow.Author.Rules.{rules}
 use Rattle.vectors_by_value.proofs.process_heat_battery_zones.Goals as goal
 
 pub returns-in_default : goal.returns-in_default

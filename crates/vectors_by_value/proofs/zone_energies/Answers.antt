@@ -1,11 +1,7 @@
-use Rattle.zone.specs.Lent.{zone_salt}
 use Rattle.substep.specs.Substep.{zones_after}
-use Rattle.substep.specs.Progress.{Progress}
 use Rattle.substep.proofs.SubstepLaws.{zones_more, energies_end, not_alike}
-use mathlib.Core.Path.{◌≡◌, refl}
-use Prim.Native.Nat.{◌≤◌, ◌-◌}
+use mathlib.Core.Path.{refl}
 use native.Mathlib.Omega.{arith}
-use borrow.Author.Rules.{rules}
 use Rattle.vectors_by_value.proofs.zone_energies.Goals as goal
 
 pub loop-k-init : goal.loop-k-init

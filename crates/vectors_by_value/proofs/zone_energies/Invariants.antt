@@ -1,11 +1,8 @@
 use Rattle.zone.specs.Lent.{zone_salt}
 use Rattle.substep.specs.Substep.{zones_after}
 use Rattle.substep.specs.Progress.{Progress}
-use Rattle.substep.proofs.SubstepLaws.{zones_more, energies_end, not_alike}
-use mathlib.Core.Path.{◌≡◌, refl}
+use mathlib.Core.Path.{◌≡◌}
 use Prim.Native.Nat.{◌≤◌, ◌-◌}
-use native.Mathlib.Omega.{arith}
-use borrow.Author.Rules.{rules}
 use Rattle.vectors_by_value.proofs.zone_energies.Given as goal
 
 abbrev pub invariant-loop-k : goal.invariant-loop-k

@@ -1,7 +1,6 @@
 use mathlib.Core.Path.{◌≡◌}
 use Prim.Native.Nat.{◌≤◌, ◌-◌}
 use lib.ListN.{length}
-use borrow.Author.Rules.{rules}
 use Rattle.vectors_words.proofs.set_numbers.Given as goal
 
 abbrev pub invariant-loop-k : goal.invariant-loop-k

@@ -11,8 +11,8 @@ use Rattle.auditor.specs.Audit.{audit_lines}
 use Rattle.sheet_lines.specs.Answers.{same_number, agrees, answer_at}
 use Rattle.sheet_records.specs.Cards.{services_at}
 use Rattle.sheet_records.specs.Records.{state_at}
-use Rattle.auditor.proofs.Turns.{turn_bad, turn_out, turn_differs, turn_next, at_end, head_read, rest_less, Walked, walked_on}
-use Rattle.auditor.proofs.Walks.{Own, own_fresh, advanced_own}
+use Rattle.auditor.proofs.Turns.{turn_bad, turn_out, turn_differs, turn_next, at_end, head_read, rest_less, walked_on}
+use Rattle.auditor.proofs.Walks.{own_fresh, advanced_own}
 use Rattle.auditor.proofs.lines.audit_lines.Goals as goal
 
 pub fresh-b-requires : goal.fresh-b-requires

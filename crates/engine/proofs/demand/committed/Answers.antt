@@ -3,7 +3,6 @@ use Rattle.battery.specs.Ledger.{whole}
 use Rattle.engine.proofs.FiniteZones.{demand_leaves_finite, left_finite}
 use Rattle.engine_replies.proofs.Settled.{committed_with}
 use mathlib.Core.Path.{◌∙◌, ap}
-use borrow.Author.Rules.{rules}
 use Rattle.engine.proofs.demand.committed.Goals as goal
 
 pub unless_refused-requires : goal.unless_refused-requires

@@ -4,7 +4,6 @@ use Rattle.engine_replies.specs.Replies.{checked}
 use Rattle.engine.specs.Steps.{demand_energy}
 use Rattle.engine_replies.proofs.Settled.{plain_refusal, plain_with}
 use mathlib.Core.Path.{◌∙◌, ap}
-use borrow.Author.Rules.{rules}
 use Rattle.engine.proofs.demand.demand_energy.Goals as goal
 
 pub checked-requires : goal.checked-requires

@@ -2,7 +2,6 @@ use Rattle.logic.proofs.Branch.{via_true, via_false}
 use Rattle.engine.specs.Steps.{demand_from}
 use Rattle.engine_replies.proofs.Settled.{settled_refusal}
 use mathlib.Core.Path.{refl}
-use borrow.Author.Rules.{rules}
 use Rattle.engine.proofs.demand.demand_from.Goals as goal
 
 pub returns-then-both : goal.returns-then-both

@@ -1,7 +1,6 @@
 use Rattle.engine.specs.Steps.{demand_given}
 use Rattle.engine_replies.proofs.Settled.{settled_refusal}
 use mathlib.Core.Path.{refl}
-use borrow.Author.Rules.{rules}
 use Rattle.engine.proofs.demand.demand_given.Goals as goal
 
 pub returns-in-Absent : goal.returns-in-Absent

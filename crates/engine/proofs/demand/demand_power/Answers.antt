@@ -1,7 +1,6 @@
 use mathlib.Core.Path.{refl}
 use Rattle.logic.proofs.Branch.{via_true, via_false}
 use Rattle.engine.specs.Steps.{demand_power}
-use borrow.Author.Rules.{rules}
 use Rattle.engine.proofs.demand.demand_power.Goals as goal
 
 pub returns-then-both : goal.returns-then-both

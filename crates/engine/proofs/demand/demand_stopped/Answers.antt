@@ -1,7 +1,6 @@
 use Rattle.run_demand.proofs.InPlace.{demand_ended_lem}
 use Rattle.engine.specs.Steps.{demand_task}
 use Rattle.zone.proofs.Salts.{salts_at}
-use borrow.Author.Rules.{rules}
 use Rattle.engine.proofs.demand.demand_stopped.Goals as goal
 
 pub demand_run-e-requires : goal.demand_run-e-requires

@@ -1,5 +1,4 @@
 use Rattle.engine.specs.Steps.{demand_task}
-use borrow.Author.Rules.{rules}
 use Rattle.engine.proofs.demand.demand_task.Goals as goal
 
 pub returns : goal.returns

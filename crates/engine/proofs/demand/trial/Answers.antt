@@ -1,7 +1,6 @@
 use Rattle.battery.specs.declared.Reply.{Reply}
 use Rattle.engine_replies.proofs.Settled.{trial_with}
 use mathlib.Core.Path.{◌∙◌, ap}
-use borrow.Author.Rules.{rules}
 use Rattle.engine.proofs.demand.trial.Goals as goal
 
 pub unless_refused-requires : goal.unless_refused-requires

@@ -1,7 +1,6 @@
 use Rattle.card.proofs.Figures.{figures_salts}
 use Rattle.engine.proofs.ByValue.{by_value_answer, by_value_refused}
 use mathlib.Core.Path.{◌∙◌}
-use borrow.Author.Rules.{rules}
 use Rattle.engine.proofs.steps.advance.Goals as goal
 
 pub advance_accepted-a-requires : goal.advance_accepted-a-requires

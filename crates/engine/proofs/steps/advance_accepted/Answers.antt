@@ -4,7 +4,6 @@ use Rattle.engine.proofs.AdvanceKeeps.{advance_is_step, out_of_range_ten}
 use Rattle.engine_replies.proofs.Settled.{settled_refusal}
 use Rattle.engine.proofs.ByKind.{stepped}
 use mathlib.Core.Path.{refl, sym, ◌∙◌}
-use borrow.Author.Rules.{rules}
 use Rattle.engine.proofs.steps.advance_accepted.Goals as goal
 
 pub operation_step-requires : goal.operation_step-requires

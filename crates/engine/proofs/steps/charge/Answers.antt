@@ -4,7 +4,6 @@ use Rattle.engine.specs.Steps.{charge}
 use Rattle.engine.proofs.FiniteZones.{charge_leaves_finite, left_finite}
 use Rattle.engine_replies.proofs.Settled.{charged_with}
 use mathlib.Core.Path.{◌∙◌, ap}
-use borrow.Author.Rules.{rules}
 use Rattle.engine.proofs.steps.charge.Goals as goal
 
 pub unless_refused-requires : goal.unless_refused-requires

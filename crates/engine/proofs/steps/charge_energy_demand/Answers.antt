@@ -1,4 +1,3 @@
-use borrow.Author.Rules.{rules}
 use Rattle.engine.proofs.steps.charge_energy_demand.Goals as goal
 
 pub returns : goal.returns

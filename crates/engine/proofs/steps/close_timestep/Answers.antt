@@ -2,7 +2,6 @@ use mathlib.Core.List.{[]}
 use Rattle.engine_replies.specs.Replies.{checked}
 use Rattle.engine_replies.proofs.Settled.{plain_refusal, closed_with}
 use mathlib.Core.Path.{◌∙◌, ap}
-use borrow.Author.Rules.{rules}
 use Rattle.engine.proofs.steps.close_timestep.Goals as goal
 
 pub checked-requires : goal.checked-requires

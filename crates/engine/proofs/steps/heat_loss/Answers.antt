@@ -4,7 +4,6 @@ use Rattle.engine.specs.Steps.{heat_loss}
 use Rattle.engine.proofs.FiniteZones.{loss_leaves_finite, left_finite}
 use Rattle.engine_replies.proofs.Settled.{cooled_with}
 use mathlib.Core.Path.{◌∙◌, ap}
-use borrow.Author.Rules.{rules}
 use Rattle.engine.proofs.steps.heat_loss.Goals as goal
 
 pub unless_refused-requires : goal.unless_refused-requires

@@ -1,6 +1,5 @@
 use Rattle.zone.proofs.Salts.{salts_at}
 use Rattle.engine.specs.Steps.{level}
-use borrow.Author.Rules.{rules}
 use Rattle.engine.proofs.steps.level.Goals as goal
 
 pub energy_at-stored-requires : goal.energy_at-stored-requires

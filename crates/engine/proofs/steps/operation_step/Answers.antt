@@ -1,5 +1,4 @@
 use Rattle.engine.specs.Operations.{operation_step}
-use borrow.Author.Rules.{rules}
 use Rattle.engine.proofs.steps.operation_step.Goals as goal
 
 pub returns-in-DemandEnergy : goal.returns-in-DemandEnergy

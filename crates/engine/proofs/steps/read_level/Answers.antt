@@ -3,7 +3,6 @@ use Rattle.engine_replies.specs.Replies.{checked}
 use Rattle.engine.specs.Steps.{read_level}
 use Rattle.engine_replies.proofs.Settled.{settled_refusal, plain_refusal, plain_with}
 use mathlib.Core.Path.{refl, ◌∙◌, ap}
-use borrow.Author.Rules.{rules}
 use Rattle.engine.proofs.steps.read_level.Goals as goal
 
 pub checked-requires : goal.checked-requires

@@ -1,4 +1,3 @@
-use borrow.Author.Rules.{rules}
 use Rattle.engine.proofs.steps.state_of_charge.Goals as goal
 
 pub returns : goal.returns

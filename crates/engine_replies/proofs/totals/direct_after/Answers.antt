@@ -1,5 +1,4 @@
 use Rattle.engine_replies.specs.Classes.{direct_after}
-use borrow.Author.Rules.{rules}
 use Rattle.engine_replies.proofs.totals.direct_after.Goals as goal
 
 pub returns-in-Combi : goal.returns-in-Combi

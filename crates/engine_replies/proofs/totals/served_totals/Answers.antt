@@ -1,4 +1,3 @@
-use borrow.Author.Rules.{rules}
 use Rattle.engine_replies.proofs.totals.served_totals.Goals as goal
 
 pub returns : goal.returns

@@ -1,5 +1,4 @@
 use Rattle.engine_replies.specs.Classes.{unserved}
-use borrow.Author.Rules.{rules}
 use Rattle.engine_replies.proofs.totals.unserved.Goals as goal
 
 pub returns-in-Combi : goal.returns-in-Combi

@@ -4,7 +4,6 @@ use Rattle.engine_replies.proofs.Settled.{settled_other}
 use Rattle.entries.proofs.Answered.{answer_is, answered_few, answered_zones}
 use Rattle.entries.specs.Record.{shown_of, advanced_by, advanced_of}
 use mathlib.Core.Path.{sym, ◌∙◌, ap}
-use borrow.Author.Rules.{rules}
 use Rattle.entries.proofs.own_record.advance_apart.Goals as goal
 
 pub advance_version-a-requires : goal.advance_version-a-requires

@@ -1,5 +1,4 @@
 use mathlib.Core.Path.{refl, sym, ◌∙◌, ap}
-use borrow.Author.Rules.{rules}
 use Rattle.battery.specs.Ledger.{whole}
 use Rattle.engine_replies.proofs.Settled.{settled_refusal}
 use Rattle.sheet_calls.proofs.ByKind.{kind_fits, read_by_kind}

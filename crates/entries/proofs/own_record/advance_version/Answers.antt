@@ -2,7 +2,6 @@ use mathlib.Core.Path.{refl, sym, ◌∙◌}
 use Rattle.logic.proofs.Branch.{via_true, via_false}
 use Rattle.engine_replies.proofs.Settled.{settled_refusal}
 use Rattle.entries.specs.Record.{answer_own}
-use borrow.Author.Rules.{rules}
 use Rattle.entries.proofs.own_record.advance_version.Goals as goal
 
 pub returns-then-known_version : goal.returns-then-known_version

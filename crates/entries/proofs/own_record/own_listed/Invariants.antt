@@ -1,9 +1,6 @@
-use mathlib.Core.Path.{◌≡◌, refl, sym, ◌∙◌, ap}
-use Prim.Native.Nat.{ℕ, ◌≤◌, ◌<◌, ◌-◌, ◌+◌}
-use native.Mathlib.Omega.{arith}
-use borrow.Author.Rules.{rules}
+use mathlib.Core.Path.{◌≡◌}
+use Prim.Native.Nat.{◌≤◌, ◌-◌}
 use Rattle.card.specs.Services.{listed, listed_class}
-use Rattle.card.proofs.Listed.{class_here, class_further, class_none}
 use Rattle.entries.specs.Record.{own_service}
 use Rattle.entries.proofs.own_record.own_listed.Given as goal
 

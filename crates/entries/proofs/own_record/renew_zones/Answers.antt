@@ -1,9 +1,7 @@
 use native.Mathlib.Numerals.{add-one}
 use Rattle.entries.specs.Record.{renewed_zones}
 use mathlib.Core.Path.{◌≡◌, refl, ◌∙◌, ap}
-use Prim.Native.Nat.{◌≤◌, ◌-◌}
 use native.Mathlib.Omega.{arith}
-use borrow.Author.Rules.{rules}
 use Rattle.entries.proofs.own_record.renew_zones.Goals as goal
 
 pub loop-k-init : goal.loop-k-init

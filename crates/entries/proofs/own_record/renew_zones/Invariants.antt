@@ -1,9 +1,6 @@
-use native.Mathlib.Numerals.{add-one}
 use Rattle.entries.specs.Record.{renewed_zones}
-use mathlib.Core.Path.{◌≡◌, refl, ◌∙◌, ap}
+use mathlib.Core.Path.{◌≡◌}
 use Prim.Native.Nat.{◌≤◌, ◌-◌}
-use native.Mathlib.Omega.{arith}
-use borrow.Author.Rules.{rules}
 use Rattle.entries.proofs.own_record.renew_zones.Given as goal
 
 abbrev pub invariant-loop-k : goal.invariant-loop-k

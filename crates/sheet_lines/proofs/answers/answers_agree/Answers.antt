@@ -1,5 +1,4 @@
 use Rattle.sheet_lines.specs.Answers.{agrees}
-use borrow.Author.Rules.{rules}
 use Rattle.sheet_lines.proofs.answers.answers_agree.Goals as goal
 
 pub returns : goal.returns

@@ -1,5 +1,4 @@
 use Rattle.sheet_lines.specs.Answers.{same_totals}
-use borrow.Author.Rules.{rules}
 use Rattle.sheet_lines.proofs.answers.same_totals.Goals as goal
 
 pub returns : goal.returns

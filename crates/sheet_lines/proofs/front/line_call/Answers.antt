@@ -1,7 +1,6 @@
 use mathlib.Core.Path.{refl, sym, ◌∙◌, ap}
 use Prim.Native.Nat.{ℕ}
 use native.Mathlib.Omega.{arith}
-use borrow.Author.Rules.{rules}
 use Rattle.logic.proofs.Branch.{via_true, via_false}
 use Rattle.sheet_records.specs.Cards.{services_at}
 use Rattle.sheet_calls.specs.Calls.{demand_class, call_by}

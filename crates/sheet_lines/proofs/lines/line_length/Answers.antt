@@ -2,7 +2,6 @@ use native.Mathlib.Omega.{arith}
 use Rattle.sheet_lines.specs.Answers.{head_length, answer_length}
 use Rattle.sheet_records.specs.Records.{state_length}
 use Rattle.sheet_lines.specs.Lines.{line_length}
-use borrow.Author.Rules.{rules}
 use Rattle.sheet_lines.proofs.lines.line_length.Goals as goal
 
 pub overflow_add-result : goal.overflow_add-result

@@ -1,6 +1,5 @@
 use native.Mathlib.Omega.{arith}
 use Rattle.sheet_lines.specs.Lines.{opening_length}
-use borrow.Author.Rules.{rules}
 use Rattle.sheet_lines.proofs.lines.opening_length.Goals as goal
 
 pub overflow_add-result : goal.overflow_add-result

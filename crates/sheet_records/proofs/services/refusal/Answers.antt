@@ -1,7 +1,4 @@
-use mathlib.Core.Path.{◌≡◌, refl, sym, ◌∙◌, ap}
-use Prim.Native.Nat.{ℕ, ◌≤◌, ◌<◌, ◌-◌, ◌+◌}
-use native.Mathlib.Omega.{arith}
-use borrow.Author.Rules.{rules}
+use mathlib.Core.Path.{sym, ◌∙◌, ap}
 use Rattle.card.specs.Card.{card_refusal}
 use Rattle.card.proofs.Listed.{accepted_full, full_61, full_fields}
 use Rattle.sheet_records.specs.Cards.{refusal_at}

@@ -1,9 +1,6 @@
-use mathlib.Core.Path.{◌≡◌, refl, sym, ◌∙◌, ap}
-use Prim.Native.Nat.{ℕ, ◌≤◌, ◌<◌, ◌-◌, ◌+◌}
-use native.Mathlib.Omega.{arith}
-use borrow.Author.Rules.{rules}
+use mathlib.Core.Path.{◌≡◌}
+use Prim.Native.Nat.{◌≤◌, ◌-◌}
 use Rattle.card.specs.Services.{listed, rising_from}
-use Rattle.card.proofs.Listed.{rising_stops, rising_further, rising_done}
 use Rattle.sheet_records.specs.Cards.{service_at}
 use Rattle.sheet_records.proofs.services.services_rise.Given as goal
 
