@@ -1,5 +1,4 @@
 use Rattle.card.proofs.Figures.{figures_salts}
-use borrow.Author.Rules.{rules}
 use Rattle.vectors_replays.proofs.levels.energy.Goals as goal
 
 pub calculate_charge_energy_demand-r-requires : goal.calculate_charge_energy_demand-r-requires
