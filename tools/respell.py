@@ -18,6 +18,8 @@ W = r"[^\s(){}.;,@\"«»\[\]\\:]+"
 SIGNATURE = re.compile(r"\s*((?:pub |abbrev |unfoldable )*)((?:" + W + r" )*" + W + r") :(?: |$)")
 RULESET = re.compile(r"\s*(?:pub )?ruleset (" + W + r")")
 TOKEN = re.compile(r"--[^\n]*|" + W)
+# the names as they are spelled afterwards
+KNOWN = set()
 
 
 def read(path):
@@ -71,17 +73,13 @@ def names(paths):
         first = sorted(olds, key=lambda it: (it not in specs, not re.search(r"[a-z][A-Z]", it), ("-" in it) == (it in specs), it))[0]
         for it in olds:
             new[it] = to if it == first or it in parts else to + "_lem"
-    fixed = {it: to for it, to in new.items() if it != to}
-    # under no name's key: the names as they then are
-    fixed["="] = set(new.values())
-    return fixed
+    KNOWN.update(new.values())
+    return {it: to for it, to in new.items() if it != to}
 
 
-def respell(text, new, comments=False):
+def respell(text, new):
     def one(m):
         word = m[0]
-        if word == "=":
-            return word
         if word.startswith("--"):
             return quoted(word, new)
         to = new.get(word)
@@ -106,7 +104,7 @@ def in_text(word, new):
     low = snake(word)
     if "-" in word and low in new:
         return new[low]
-    return low if low in new["="] else word
+    return low if low in KNOWN else word
 
 
 def quoted(text, new):
@@ -120,7 +118,7 @@ CLAUSE = re.compile(r"^(\s*)(ghost use\b|requires\b|ensures\b|ghost\b|invariant\
 
 def in_clause(word, new):
     """A clause cites definitions, and no lemma."""
-    to = new.get(word, word) if word != "=" else word
+    to = new.get(word, word)
     return word if to.endswith("_lem") else to
 
 
@@ -190,8 +188,8 @@ def main():
         text = read(path)
         to = re.sub(r"`([^`\n]*)`", lambda m: "`" + TOKEN.sub(lambda w: in_text(w[0], new), m[1]) + "`", text)
         count += write(path, to)
-    print(f"respelled: {len(new) - 1} names, {count} files")
-    for it in sorted(it for it in new if it != "=" and new[it].endswith("_lem")):
+    print(f"respelled: {len(new)} names, {count} files")
+    for it in sorted(it for it in new if new[it].endswith("_lem")):
         print(f"  {it} -> {new[it]}")
 
 
