@@ -1,7 +1,7 @@
 // Audits the stored sheets that its arguments name, and prints each name with the audit program's line.
 #![tactic(auto)]
 
-use std::io::{BufWriter, Read, Write};
+use std::io::{Read, Write};
 use std::rt::Files;
 use std::{env, fs, io};
 
@@ -25,9 +25,9 @@ fn report_argument<R: Files, W: Write>(rt: &R, path: &str, out: &mut W) -> io::R
 }
 
 fn main(rt: HostRuntime) -> io::Result<()> {
-    let mut out = BufWriter::new(rt.alloc(), io::writer(&rt))?;
+    let mut out = rt.stdout();
     for path in env::args(&rt)?.skip(1) {
         report_argument(&rt, path.as_str(), &mut out)?;
     }
-    out.flush()
+    Ok(())
 }

@@ -5,7 +5,7 @@ mod calls;
 
 ghost use Rattle.std.specs.Prelude.{◌≤◌};
 
-use std::io::{BufReader, BufWriter, Read, Write};
+use std::io::{Read, Write};
 use std::num::wrapping_add_u64;
 use std::{env, fs, io};
 use vectors_files::{Run, lines};
@@ -132,7 +132,7 @@ fn replay_open<R: Read, W: Write>(reader: &mut R, out: &mut W, file: &[u8]) -> i
 fn replay_file<W: Write>(rt: &HostRuntime, out: &mut W, path: &str) -> io::Result<Run> {
     let file = path.as_bytes();
     match fs::open(rt, path) {
-        Ok(opened) => replay_open(&mut BufReader::new(rt.alloc(), opened)?, out, file),
+        Ok(mut opened) => replay_open(&mut opened, out, file),
         Err(_) => {
             lines::not_opened(out, file)?;
             Ok(vectors_files::spoilt(vectors_files::fresh()))
@@ -140,17 +140,14 @@ fn replay_file<W: Write>(rt: &HostRuntime, out: &mut W, path: &str) -> io::Resul
     }
 }
 
-// What a file has shown is written before the next is opened.
 fn main(rt: HostRuntime) -> io::Result<()> {
-    let mut out = BufWriter::new(rt.alloc(), io::writer(&rt))?;
+    let mut out = rt.stdout();
     let mut agree: u64 = 0;
     let mut disagree: u64 = 0;
     for path in env::args(&rt)?.skip(1) {
         let run = replay_file(&rt, &mut out, path.as_str())?;
         agree = wrapping_add_u64(agree, run.agree);
         disagree = wrapping_add_u64(disagree, run.disagree);
-        out.flush()?;
     }
-    lines::counts(&mut out, b"total", agree, disagree)?;
-    out.flush()
+    lines::counts(&mut out, b"total", agree, disagree)
 }
