@@ -96,7 +96,7 @@ def respell(text, new):
 
 def in_text(word, new):
     """A name in a comment or a document: a function of the source may have the name of a lemma there, so only a dash or a capital tells."""
-    if not re.search(r"-|[a-z][A-Z]", word):
+    if not re.search(r"-|[a-z0-9][A-Z]", word):
         return word
     if word in new:
         return new[word]
@@ -136,7 +136,7 @@ def source(text, new):
 
 def in_edit(word, new):
     to = in_clause(word, new)
-    return to if to != word else in_text(word, new) if re.search(r"[a-z][A-Z]", word) else word
+    return to if to != word else in_text(word, new) if re.search(r"[a-z0-9][A-Z]", word) else word
 
 
 def write(path, text):

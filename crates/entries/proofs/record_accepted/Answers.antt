@@ -4,9 +4,8 @@ use Rattle.entries.proofs.Checked.{finite_decides}
 use Rattle.entries.proofs.record_accepted.Goals as goal
 
 pub zones_finite-requires : goal.zones_finite-requires
-zones_finite-requires c = let r = c in omega (arith, (accepted_layers r.args.version r.args.battery.card r.requires.0).1)
+zones_finite-requires c = omega (arith, (accepted_layers c.args.version c.args.battery.card c.requires.0).1)
 
 pub returns : goal.returns
 returns c =
-    let r = c in
-    rw (finite_decides r.args.version r.args.battery r.requires.0 r.requires.1, ← c.zones_finite.ensures, ← c.totals_finite.ensures) c.both.ensures
+    rw (finite_decides c.args.version c.args.battery c.requires.0 c.requires.1, ← c.zones_finite.ensures, ← c.totals_finite.ensures) c.both.ensures

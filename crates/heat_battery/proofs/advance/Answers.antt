@@ -37,8 +37,7 @@ module _ (version : ℕ) where
 
 pub demand_class-class-requires : goal.demand_class-class-requires
 demand_class-class-requires c =
-    let r = c in
-    ((record_laid_lem r.args.version r.args.«record».now r.requires.0).card_there, rw c.kind_of-kind.ensures (kind_fits r.args.version r.args.call.now))
+    ((record_laid_lem c.args.version c.args.«record».now c.requires.0).card_there, rw c.kind_of-kind.ensures (kind_fits c.args.version c.args.call.now))
 
 pub call_by-read-requires : goal.call_by-read-requires
 call_by-read-requires c = let a = c.args in rw c.kind_of-kind.ensures (kind_fits a.version a.call.now)
@@ -49,11 +48,10 @@ advance-a-requires c = c.requires.2
 pub enter-requires : goal.enter-requires
 unfolding record_length
 enter-requires c =
-    let r = c in
-    let a = r.args in
+    let a = c.args in
     let rec = a.«record».now in
-    let l = record_laid_lem a.version rec r.requires.0 in
-    let e = answer_card a.version rec a.battery c.advance-a.result _ r.requires.1 c.advance-a.ensures in (
+    let l = record_laid_lem a.version rec c.requires.0 in
+    let e = answer_card a.version rec a.battery c.advance-a.result _ c.requires.1 c.advance-a.ensures in (
       rw e (accepted_layers a.version (card_at a.version rec) (fields_accepted a.version rec l.card_accepted)).1,
       read_short a.version (services_at a.version rec) a.call.now _ (sym (read_by_kind a.version (services_at a.version a.«record».now) a.call.now _ _ _ c.kind_of-kind.ensures c.demand_class-class.ensures c.call_by-read.ensures) ∙ c.in-Good.is),
       rw e l.long,
@@ -68,7 +66,6 @@ returns-in-Bad c =
 pub returns-in-Good : goal.returns-in-Good
 unfolding entry_read
 returns-in-Good c =
-    let r = c in
-    let a = r.args in
-    rw (← (read_by_kind a.version (services_at a.version a.«record».now) a.call.now _ _ _ c.kind_of-kind.ensures c.demand_class-class.ensures c.call_by-read.ensures), c.in-Good.is, ← (answer_is a.version a.«record».now a.battery c.advance-a.result _ r.requires.1 c.advance-a.ensures))
+    let a = c.args in
+    rw (← (read_by_kind a.version (services_at a.version a.«record».now) a.call.now _ _ _ c.kind_of-kind.ensures c.demand_class-class.ensures c.call_by-read.ensures), c.in-Good.is, ← (answer_is a.version a.«record».now a.battery c.advance-a.result _ c.requires.1 c.advance-a.ensures))
     c.enter.ensures

@@ -13,16 +13,14 @@ use Rattle.heat_battery.proofs.with_card.Goals as goal
 
 pub read_record-b-requires : goal.read_record-b-requires
 read_record-b-requires c =
-    let r = c in
-    let rec = r.args.«record».now in
-    let l = record_laid_lem r.args.version rec r.requires.0 in
-    (r.requires.1, rw r.requires.1 (accepted_layers r.args.version (card_at r.args.version rec) (fields_accepted r.args.version rec l.card_accepted)).1, omega (arith, l.long))
+    let rec = c.args.«record».now in
+    let l = record_laid_lem c.args.version rec c.requires.0 in
+    (c.requires.1, rw c.requires.1 (accepted_layers c.args.version (card_at c.args.version rec) (fields_accepted c.args.version rec l.card_accepted)).1, omega (arith, l.long))
 
 pub record_accepted-requires : goal.record_accepted-requires
 unfolding record_of state_at
 record_accepted-requires c =
-    let r = c in
-    rw c.read_record-b.ensures (fields_accepted r.args.version r.args.«record».now (record_laid_lem r.args.version r.args.«record».now r.requires.0).card_accepted, refl)
+    rw c.read_record-b.ensures (fields_accepted c.args.version c.args.«record».now (record_laid_lem c.args.version c.args.«record».now c.requires.0).card_accepted, refl)
 
 pub advance-requires : goal.advance-requires
 advance-requires c = (c.requires.0, c.read_record-b.ensures, sym c.record_accepted.ensures ∙ c.if-record_accepted.true)

@@ -15,5 +15,4 @@ lose_in_place-u-requires c =
 pub returns : goal.returns
 unfolding battery_heat_loss
 returns c =
-    let b = c in
-    rw (← (salts_at _ _ _ b.requires.1.1), ← c.derived-pcm.ensures, ← c.loss_input-input.ensures) (one_substep (loss_ended b.args.ledger) _ _ _ _ _ _ _ _ c.lose_in_place-u.ensures c.loss_ended.ensures)
+    rw (← (salts_at _ _ _ c.requires.1.1), ← c.derived-pcm.ensures, ← c.loss_input-input.ensures) (one_substep (loss_ended c.args.ledger) _ _ _ _ _ _ _ _ c.lose_in_place-u.ensures c.loss_ended.ensures)

@@ -12,5 +12,4 @@ charge_in_place-u-requires c = let p = c.requires in (p.0, (p.1.0, ap (λ (d : S
 pub returns : goal.returns
 unfolding charge_electric
 returns c =
-    let b = c in
-    rw (← (salts_at _ _ _ b.requires.1.1), ← c.derived-pcm.ensures, ← c.electric_input-input.ensures) (one_substep (electric_ended b.args.ledger) _ _ _ _ _ _ _ _ c.charge_in_place-u.ensures c.electric_ended.ensures)
+    rw (← (salts_at _ _ _ c.requires.1.1), ← c.derived-pcm.ensures, ← c.electric_input-input.ensures) (one_substep (electric_ended c.args.ledger) _ _ _ _ _ _ _ _ c.charge_in_place-u.ensures c.electric_ended.ensures)

@@ -6,9 +6,8 @@ use Rattle.sheet_records.proofs.read_record.Goals as goal
 pub read_state-requires : goal.read_state-requires
 unfolding record_length
 read_state-requires c =
-    let r = c in
-    let e = ap (state_length r.args.version) r.requires.0 in
-    (r.requires.1, omega (arith, r.requires.2, c.card_length-at.ensures.0, e))
+    let e = ap (state_length c.args.version) c.requires.0 in
+    (c.requires.1, omega (arith, c.requires.2, c.card_length-at.ensures.0, e))
 
 pub returns : goal.returns
 unfolding record_of

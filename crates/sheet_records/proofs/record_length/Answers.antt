@@ -5,8 +5,7 @@ use Rattle.sheet_records.proofs.record_length.Goals as goal
 pub overflow_add-result : goal.overflow_add-result
 unfolding state_length
 overflow_add-result c =
-    let r = c in
-    omega (arith, c.card_length.ensures.1, c.state_length.ensures, r.well_formed)
+    omega (arith, c.card_length.ensures.1, c.state_length.ensures, c.well_formed)
 
 pub returns : goal.returns
 unfolding record_length

@@ -11,7 +11,6 @@ use Rattle.sheet_records.proofs.renew_record.Goals as goal
 pub returns : goal.returns
 unfolding record_bytes
 returns c =
-    let r = c in
-    let a = r.args in
+    let a = c.args in
     c.put_state.ensures.1 ∙ ap (λ (n : ℕ). sets a.bytes.now n (state_bytes a.version a.battery)) c.card_length-at.ensures.0
-    ∙ put_tail a.bytes.now (state_bytes a.version a.battery) (card_length a.version a.bytes.now) (omega (arith, r.requires.1, length_state_bytes a.version a.battery))
+    ∙ put_tail a.bytes.now (state_bytes a.version a.battery) (card_length a.version a.bytes.now) (omega (arith, c.requires.1, length_state_bytes a.version a.battery))

@@ -21,10 +21,9 @@ fresh-b-requires c = (accepted_layers _ _ c.requires.0).1
 pub loop-rest-init : goal.loop-rest-init
 unfolding audit_lines
 loop-rest-init c =
-    let r = c in
-    let f : T (fits binary64 r.args.card.start) = search (rules, r.well_formed.1.0.1.1.1.1.1.1.1.1.1.1.1.1.1.1.1.1.1.1.1.1.1.1.1.0) in (
-      (omega arith, record { most = length r.args.bytes.now; enough = omega arith; gives = rw c.fresh-b.ensures }),
-      rw c.fresh-b.ensures (own_fresh r.args.version r.args.card r.requires.0 f),
+    let f : T (fits binary64 c.args.card.start) = search (rules, c.well_formed.1.0.1.1.1.1.1.1.1.1.1.1.1.1.1.1.1.1.1.1.1.1.1.1.1.0) in (
+      (omega arith, record { most = length c.args.bytes.now; enough = omega arith; gives = rw c.fresh-b.ensures }),
+      rw c.fresh-b.ensures (own_fresh c.args.version c.args.card c.requires.0 f),
     )
 
 pub line_call-requires : goal.line_call-requires

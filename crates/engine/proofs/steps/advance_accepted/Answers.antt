@@ -8,19 +8,16 @@ use Rattle.engine.proofs.steps.advance_accepted.Goals as goal
 
 pub operation_step-requires : goal.operation_step-requires
 operation_step-requires c =
-    let r = c in
-    let b = whole r.args.ledger r.args.zones.now in
-    let h = r.requires.1 in
-    (accepted_few r.args.version b h, r.requires.0, accepted_finite r.args.version b h, accepted_losses r.args.version b h)
+    let b = whole c.args.ledger c.args.zones.now in
+    let h = c.requires.1 in
+    (accepted_few c.args.version b h, c.requires.0, accepted_finite c.args.version b h, accepted_losses c.args.version b h)
 
 pub returns-then-call_in_range : goal.returns-then-call_in_range
 returns-then-call_in_range c =
-    let r = c in
     c.operation_step.ensures ∙ stepped _ _ _ _ c.operation-what.ensures
-    ∙ sym (advance_is_step r.args.version (whole r.args.ledger r.args.zones.now) r.args.call r.requires.1 (sym c.call_in_range.ensures ∙ c.if-call_in_range.true))
+    ∙ sym (advance_is_step c.args.version (whole c.args.ledger c.args.zones.now) c.args.call c.requires.1 (sym c.call_in_range.ensures ∙ c.if-call_in_range.true))
 
 pub returns : goal.returns
 returns c =
-    let r = c in
     settled_refusal _ _ _ _ 10 c.refused_reply.ensures refl
-    ∙ sym (out_of_range_ten r.args.version (whole r.args.ledger r.args.zones.now) r.args.call r.requires.1 (sym c.call_in_range.ensures ∙ c.if-call_in_range.false))
+    ∙ sym (out_of_range_ten c.args.version (whole c.args.ledger c.args.zones.now) c.args.call c.requires.1 (sym c.call_in_range.ensures ∙ c.if-call_in_range.false))

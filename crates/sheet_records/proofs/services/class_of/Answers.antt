@@ -15,14 +15,12 @@ returns-then-number-le-LAST_TYPE c = sym (own_type _ _ c.if-number-le-LAST_TYPE.
 
 pub listed_class-requires : goal.listed_class-requires
 listed_class-requires c =
-    let a = c in
-    (search rules, omega (arith, services_fit a.args.version a.args.bytes.now a.requires.0 a.requires.1, c.byte_or_zero.ensures))
+    (search rules, omega (arith, services_fit c.args.version c.args.bytes.now c.requires.0 c.requires.1, c.byte_or_zero.ensures))
 
 pub returns : goal.returns
 returns c =
-    let a = c in
-    let bs = a.args.bytes.now in
+    let bs = c.args.bytes.now in
     c.listed_class.ensures
-    ∙ ap (λ (m : ℕ). listed_class (listed (service_at bs) 0 m) a.args.number) c.byte_or_zero.ensures
-    ∙ sym (above_type (listed (service_at bs) 0 (get_or bs count_place 0)) a.args.number (omega arith))
-    ∙ ap (λ (l : List Service). class_of l a.args.number) (sym (services_listed a.args.version bs a.requires.0))
+    ∙ ap (λ (m : ℕ). listed_class (listed (service_at bs) 0 m) c.args.number) c.byte_or_zero.ensures
+    ∙ sym (above_type (listed (service_at bs) 0 (get_or bs count_place 0)) c.args.number (omega arith))
+    ∙ ap (λ (l : List Service). class_of l c.args.number) (sym (services_listed c.args.version bs c.requires.0))

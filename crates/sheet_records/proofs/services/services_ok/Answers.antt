@@ -9,8 +9,7 @@ use Rattle.sheet_records.proofs.services.services_ok.Goals as goal
 
 pub services_rise-requires : goal.services_rise-requires
 services_rise-requires c =
-    let a = c in
-    let fit = services_fit a.args.version a.args.bytes.now (sym c.lists_services.ensures ∙ c.if-lists_services.true) a.requires in
+    let fit = services_fit c.args.version c.args.bytes.now (sym c.lists_services.ensures ∙ c.if-lists_services.true) c.requires in
     (omega arith, omega (arith, fit, c.byte_or_zero-n.ensures))
 
 pub returns-then-n-le-MOST_SERVICES : goal.returns-then-n-le-MOST_SERVICES

@@ -12,5 +12,4 @@ charge_zones-requires c =
 
 pub returns : goal.returns
 returns c =
-    let b = c in
-    rw (passed b.args.card b.args.pcm _ b.args.input b.args.zones.now _ _ _ _ (sym (without_logarithm_charge _ _ b.requires.1.1)) refl c.common_of-common.ensures (none_in_a_charge b.args.input b.requires.1.1)) c.charge_zones.ensures
+    rw (passed c.args.card c.args.pcm _ c.args.input c.args.zones.now _ _ _ _ (sym (without_logarithm_charge _ _ c.requires.1.1)) refl c.common_of-common.ensures (none_in_a_charge c.args.input c.requires.1.1)) c.charge_zones.ensures

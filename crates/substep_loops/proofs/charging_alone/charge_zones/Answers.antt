@@ -19,9 +19,8 @@ own_salt-salt-requires c = (c.requires.1.0.1 _ c.zone_index-j.ensures.upper_boun
 
 pub charging_step-z-requires : goal.charging_step-z-requires
 charging_step-z-requires c =
-    let b = c in
-    let p = b.requires in
-    (p.1.1.0, λ e. rw (c.own_salt-salt.ensures, one_salt _ _ _ (eqb-true b.args.step 0 e)) p.1.1.1)
+    let p = c.requires in
+    (p.1.1.0, λ e. rw (c.own_salt-salt.ensures, one_salt _ _ _ (eqb-true c.args.step 0 e)) p.1.1.1)
 
 pub overflow_add-logarithms : goal.overflow_add-logarithms
 overflow_add-logarithms c =
@@ -31,14 +30,12 @@ overflow_add-logarithms c =
 
 pub loop-k-preserved : goal.loop-k-preserved
 loop-k-preserved c =
-    let i = c in
-    let b = i in
-    let p = b.requires in
+    let p = c.requires in
     let step = c.charging_step-z.ensures _ in (
       omega arith,
       (
-        no_more_logarithms _ _ _ _ _ _ _ _ _ step i.loop-k.invariant.1.0,
-        charging_more b.args.common _ _ _ refl p.0 _ i.loop-k-test.true _ _ _ _ _ _ _ _ _ i.zone_index-j.ensures.value c.own_salt-salt.ensures step c.finite_step-spread.ensures p.1.1.0 i.loop-k.invariant.1.1,
+        no_more_logarithms _ _ _ _ _ _ _ _ _ step c.loop-k.invariant.1.0,
+        charging_more c.args.common _ _ _ refl p.0 _ c.loop-k-test.true _ _ _ _ _ _ _ _ _ c.zone_index-j.ensures.value c.own_salt-salt.ensures step c.finite_step-spread.ensures p.1.1.0 c.loop-k.invariant.1.1,
       ),
     )
 

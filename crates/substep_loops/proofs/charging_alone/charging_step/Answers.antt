@@ -6,8 +6,7 @@ zone_target-own-requires c = c.requires.1
 
 pub returns-then-left : goal.returns-then-left
 returns-then-left c inlet =
-    let b = c in
-    charging_on _ _ _ inlet _ _ b.requires.0 _ _ b.if-left.true (rw b.zone_target-own.ensures at b.charge_zone_alone-c.ensures) c.calculate_new_zone_temperature-update.ensures
+    charging_on _ _ _ inlet _ _ c.requires.0 _ _ c.if-left.true (rw c.zone_target-own.ensures at c.charge_zone_alone-c.ensures) c.calculate_new_zone_temperature-update.ensures
 
 pub returns : goal.returns
 returns c inlet = charging_off _ _ _ inlet _ _ c.requires.0 c.if-left.false

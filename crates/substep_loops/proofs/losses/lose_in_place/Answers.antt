@@ -12,5 +12,4 @@ lose_zones-requires c =
 
 pub returns : goal.returns
 returns c =
-    let b = c in
-    rw (passed b.args.card b.args.pcm _ b.args.input b.args.zones.now _ _ _ _ (sym (without_logarithm_loss _ _ b.requires.1.1.0)) refl c.common_of-common.ensures (none_in_a_loss b.args.input b.requires.1.1.0)) c.lose_zones.ensures
+    rw (passed c.args.card c.args.pcm _ c.args.input c.args.zones.now _ _ _ _ (sym (without_logarithm_loss _ _ c.requires.1.1.0)) refl c.common_of-common.ensures (none_in_a_loss c.args.input c.requires.1.1.0)) c.lose_zones.ensures

@@ -38,14 +38,12 @@ overflow_add-logarithms c =
 
 pub loop-k-preserved : goal.loop-k-preserved
 loop-k-preserved c =
-    let i = c in
-    let b = i in
-    let p = b.requires in
+    let p = c.requires in
     let step = c.loss_step-z.ensures _ in (
       omega arith,
       (
-        no_more_logarithms _ _ _ _ _ _ _ _ _ step i.loop-k.invariant.1.0,
-        losing_more b.args.common _ _ _ refl p.0 _ i.loop-k-test.true _ _ _ _ _ _ _ _ _ (upward _ _ _ p.1.1.0) c.own_salt-salt.ensures step c.finite_step-spread.ensures _ _ p.1.1.0 (rw i.charger_heat-left.ensures p.1.1.1) c.sum2_step-sum.ensures i.loop-k.invariant.1.1,
+        no_more_logarithms _ _ _ _ _ _ _ _ _ step c.loop-k.invariant.1.0,
+        losing_more c.args.common _ _ _ refl p.0 _ c.loop-k-test.true _ _ _ _ _ _ _ _ _ (upward _ _ _ p.1.1.0) c.own_salt-salt.ensures step c.finite_step-spread.ensures _ _ p.1.1.0 (rw c.charger_heat-left.ensures p.1.1.1) c.sum2_step-sum.ensures c.loop-k.invariant.1.1,
       ),
     )
 

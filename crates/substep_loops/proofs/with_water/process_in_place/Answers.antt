@@ -8,8 +8,7 @@ use Rattle.substep_loops.proofs.with_water.process_in_place.Goals as goal
 pub returns-in_default : goal.returns-in_default
 unfolding without_logarithm
 returns-in_default c =
-    let b = c in
-    let e = sym (refused_here b.args.card b.args.pcm _ b.args.input b.args.zones.now _ (transfer_value _ _ _ _ c.zone_transfer-transfer.ensures ∙ ap (λ (m : Mode). zone_transfer m b.args.card b.args.input) (sym b.requires.1.1.0)) c.in_default.is) in
+    let e = sym (refused_here c.args.card c.args.pcm _ c.args.input c.args.zones.now _ (transfer_value _ _ _ _ c.zone_transfer-transfer.ensures ∙ ap (λ (m : Mode). zone_transfer m c.args.card c.args.input) (sym c.requires.1.1.0)) c.in_default.is) in
     (ap (λ (v : Substep). v.zones) e, c.without_logarithm.ensures _ ∙ ap outcome_of e)
 
 pub common_of-common-requires : goal.common_of-common-requires
@@ -22,7 +21,6 @@ zones_in_place-requires c =
 
 pub returns : goal.returns
 returns c =
-    let b = c in
     let shared = c.zone_transfer-transfer.ensures in
-    let t = transfer_value _ _ _ _ shared ∙ ap (λ (m : Mode). zone_transfer m b.args.card b.args.input) (sym b.requires.1.1.0) in
-    rw (passed b.args.card b.args.pcm _ b.args.input b.args.zones.now _ _ _ _ t c.in-Value.is c.common_of-common.ensures (transfer_count _ _ _ _ shared ∙ ap logarithms_of (sym b.requires.1.1.0))) c.zones_in_place.ensures
+    let t = transfer_value _ _ _ _ shared ∙ ap (λ (m : Mode). zone_transfer m c.args.card c.args.input) (sym c.requires.1.1.0) in
+    rw (passed c.args.card c.args.pcm _ c.args.input c.args.zones.now _ _ _ _ t c.in-Value.is c.common_of-common.ensures (transfer_count _ _ _ _ shared ∙ ap logarithms_of (sym c.requires.1.1.0))) c.zones_in_place.ensures

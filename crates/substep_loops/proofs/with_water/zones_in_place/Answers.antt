@@ -17,11 +17,9 @@ own_salt-salt-requires c = (c.requires.1.0.1 _ c.zone_index-j.ensures.upper_boun
 
 pub zone_step-z-requires : goal.zone_step-z-requires
 zone_step-z-requires c h e =
-    let i = c in
-    let b = i in
-    let first = left_at_first _ _ _ _ _ (ap (λ (q : Kilojoules). lt q.0 zero) (sym i.loop-k.invariant.1.1.same_left) ∙ h) in
+    let first = left_at_first _ _ _ _ _ (ap (λ (q : Kilojoules). lt q.0 zero) (sym c.loop-k.invariant.1.1.same_left) ∙ h) in
     rw c.own_salt-salt.ensures
-    (b.requires.1.1 (ap (λ (q : Kilojoules). lt q.0 zero) (sym i.charger_heat-left.ensures) ∙ first) e _ c.zone_index-j.ensures.upper_bound)
+    (c.requires.1.1 (ap (λ (q : Kilojoules). lt q.0 zero) (sym c.charger_heat-left.ensures) ∙ first) e _ c.zone_index-j.ensures.upper_bound)
 
 pub bounds-zones-j-in-loop-k : goal.bounds-zones-j-in-loop-k
 bounds-zones-j-in-loop-k c =
@@ -44,12 +42,11 @@ overflow_add-logarithms c =
 
 pub loop-k-preserved : goal.loop-k-preserved
 loop-k-preserved c =
-    let i = c in
     let step = c.zone_step-z.ensures in (
       omega arith,
       (
-        no_more_logarithms _ _ _ _ _ _ _ _ _ step i.loop-k.invariant.1.0,
-        underway_more _ _ _ _ refl i.requires.0 _ i.loop-k-test.true _ _ _ _ _ _ _ _ _ _ _ i.loop-k.invariant.1.1 c.zone_index-j.ensures.value c.own_salt-salt.ensures step c.sum2_step-sum.ensures c.finite_step-spread.ensures,
+        no_more_logarithms _ _ _ _ _ _ _ _ _ step c.loop-k.invariant.1.0,
+        underway_more _ _ _ _ refl c.requires.0 _ c.loop-k-test.true _ _ _ _ _ _ _ _ _ _ _ c.loop-k.invariant.1.1 c.zone_index-j.ensures.value c.own_salt-salt.ensures step c.sum2_step-sum.ensures c.finite_step-spread.ensures,
       ),
     )
 
