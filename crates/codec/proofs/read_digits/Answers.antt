@@ -46,7 +46,7 @@ more : (c : goal.After-wide) → (c.loop-i.x * 256 + c.wide.result < 256 ^ (c.lo
 more c =
     let l = c.loop-i in
     let a = c.args in
-    let b : c.wide.result < 256 = omega (arith, c.shared_slice_known-in-loop-i-1.given (a.at + l.i)) in
+    let b : c.wide.result < 256 = omega arith in
     digit l.x l.i a.w c.wide.result l.invariant.1 b (omega arith) (omega arith)
 
 pub overflow_add-x : goal.overflow_add-x
