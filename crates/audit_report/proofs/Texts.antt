@@ -10,12 +10,12 @@ use borrow.Author.Tests.{lt-ltb, le-ltb}
 use lib.Dec.{ltb}
 use lib.ListN.{length, take, drop, length-append}
 use lib.Seq.{length-take-le}
+use Rattle.std.proofs.Math.Seq.{take-append_seam}
 use Rattle.io.specs.Counts.{IsPrefixLen}
 use Rattle.io.specs.Digits.{hex_digit_ascii, last_digits as io_digits, IsDigitCount}
 use Rattle.codec.specs.Bytes.{over}
 use Rattle.codec.proofs.Puts.{Written, written_front}
-use Rattle.auditor.specs.declared.Verdict.{Verdict}
-use Rattle.auditor.specs.declared.Verdict.TheVariants.{Accepted, Refused}
+use Rattle.auditor.specs.Verdicts.{Verdict, Accepted, Refused}
 use Rattle.audit_report.specs.Report.{last_digits, decimal, says_accepted, says_refused, says}
 
 pub few_digits : (n k : ℕ) → n < 18446744073709551616 → IsDigitCount 10 1 n k → k ≤ 20
@@ -74,6 +74,10 @@ counted bs l s p w =
     let e : length s ≡ length bs + length (drop (length bs) l) = ap length w.1 ∙ length-append bs (drop (length bs) l) in
     let h : p ≤ length s = omega (arith, e, w.0) in
     (h, sym (length-take-le p s h))
+
+pub taken : (l s bs : List ℕ) (p : ℕ) → Front bs p l s → take p s ≡ bs
+unfolding over
+taken l s bs p w = rw (w.1, w.0) (take-append_seam bs (drop (length bs) l))
 
 -- the verdict told by its constructor
 pub says_accepted_lem : (v : Verdict) (n p : ℕ) (l s : List ℕ) → v ≡ Accepted n → Front (says_accepted n) p l s → Front (says v) p l s

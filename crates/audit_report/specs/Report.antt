@@ -2,8 +2,7 @@
 use Rattle.std.specs.Prelude.{ℕ, zero, suc, ◌+◌, ◌/◌, ◌%◌, cond, List, [], ◌∷◌, ◌++◌, ltb}
 use Rattle.auditor.specs.Rules.{plain}
 use Rattle.auditor.specs.Audit.{limited_audit_of}
-use Rattle.auditor.specs.declared.Verdict.{Verdict}
-use Rattle.auditor.specs.declared.Verdict.TheVariants.{Accepted, Refused}
+use Rattle.auditor.specs.Verdicts.{Verdict, Accepted, Refused}
 
 -- a number's decimal digits in ASCII, as few as hold it; at most the given number of them
 unfoldable pub last_digits : ℕ → ℕ → List ℕ

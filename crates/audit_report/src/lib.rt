@@ -2,14 +2,19 @@
 #![tactic(auto)]
 
 ghost use Rattle.std.specs.Prelude.{◌≡◌, ◌+◌, ◌≤◌, length};
+ghost use Rattle.std.specs.Prelude.{OnOk};
 ghost use Rattle.std.proofs.lemmas.List.Edits.{sets};
 ghost use Rattle.io.specs.Counts.{IsPrefixLen};
 ghost use Rattle.codec.specs.Bytes.{over};
+ghost use Rattle.auditor.specs.Verdicts.{numbered};
 ghost use Rattle.audit_report.specs.Report.{decimal, says_accepted, says_refused, says, report_of};
+ghost use Rattle.audit_report.specs.Reports.{Reports};
 
 use auditor::Verdict;
+use std::io::{Read, Write};
 
 // Writes a number's decimal digits from a place on, and returns the place after them.
+// No `Display`: `write!` to lent bytes promises nothing of them, and this one promises which they are and that those after them stay.
 fn put_decimal(out: &mut [u8], at: usize, n: u64) -> usize
     requires { at + 20 ≤ length out.old }
     ensures { (result ≡ at + length (decimal n)) × (out.new ≡ sets out.old at (decimal n)) }
@@ -41,11 +46,11 @@ fn put_refused(out: &mut [u8], refusal: u64, index: u64) -> usize
 
 fn put_verdict(out: &mut [u8], verdict: Verdict) -> usize
     requires { 64 ≤ length out.old }
-    ensures { (result ≡ length (says verdict)) × (out.new ≡ over (says verdict) out.old) }
+    ensures { (result ≡ length (says (numbered verdict))) × (out.new ≡ over (says (numbered verdict)) out.old) }
 {
     match verdict {
-        Verdict::Accepted(n) => put_accepted(out, n as u64),
-        Verdict::Refused(r, k) => put_refused(out, r as u64, k as u64),
+        Ok(n) => put_accepted(out, n as u64),
+        Err(refused) => put_refused(out, refused.refusal.number() as u64, refused.line as u64),
     }
 }
 
@@ -56,4 +61,16 @@ pub fn report(sheet: &[u8], out: &mut [u8; 64]) -> usize
 {
     let v = auditor::audit_limited(sheet);
     put_verdict(out, v)
+}
+
+// Reads a sheet of at most 65,536 bytes and writes the report on it.
+pub fn report_on<R: Read, W: Write>(reader: &mut R, out: &mut W) -> std::io::Result<()>
+    ensures { OnOk result (Reports (R.remaining reader.old) (R.remaining reader.new) (W.contents out.old) (W.contents out.new)) }
+{
+    // one byte more than the limit, so that a longer sheet is seen
+    let mut sheet = [0u8; 65537];
+    let n = reading::read_full(reader, &mut sheet)?;
+    let mut line = [0u8; 64];
+    let k = report(&sheet[..n], &mut line);
+    out.write_all(&line[..k])
 }

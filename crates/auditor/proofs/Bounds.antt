@@ -1,4 +1,5 @@
 -- A verdict's index is at most the sheet's length.
+use Rattle.std.specs.Prelude.{None, Option, Some}
 use mathlib.Core.Path.{◌≡◌, refl}
 use mathlib.Core.List.{List, [], ◌∷◌}
 use mathlib.Core.Bool.{Bool, true, false, cond}
@@ -17,15 +18,13 @@ use Rattle.battery.specs.declared.Answer.{Answer}
 use Rattle.engine.specs.Steps.{advance_of}
 use Rattle.sheet_records.specs.Cards.{card_at, services_at}
 use Rattle.sheet_lines.specs.Answers.{agrees}
-use Rattle.sheet_calls.specs.declared.ReadCall.{ReadCall}
-use Rattle.sheet_calls.specs.declared.ReadCall.TheVariants.{Good, Bad}
-use Rattle.auditor.specs.declared.Verdict.{Verdict}
-use Rattle.auditor.specs.declared.Verdict.TheVariants.{Accepted, Refused}
+use Rattle.auditor.specs.Verdicts.{Verdict, Accepted, Refused}
 use Rattle.sheet_lines.specs.Front.{following, line_call, line_answer}
 use Rattle.auditor.specs.Audit.{limit, judge, audit_line, audit_from, audit_lines, audit_card, card_part, lines_part, card_line_ok, audit_of, limited_audit_of}
 use Rattle.auditor.specs.Rules.{Rules}
 use Rattle.auditor.specs.Bound.{IndexAtMost}
 use Rattle.auditor.proofs.Turns.{following_short}
+use Rattle.battery.specs.declared.Call.{Call}
 
 pub below_accepted : (v : Verdict) (m n : ℕ) → v ≡ Accepted n → IndexAtMost m v → n ≤ m
 below_accepted v m n e h = rw e at h
@@ -37,11 +36,11 @@ most_more : (m p : ℕ) (v : Verdict) → m ≤ p → IndexAtMost m v → IndexA
 most_more m p (Accepted n) h s = omega arith
 most_more m p (Refused r k) h s = omega arith
 
-most_line : (same : Float → Float → Bool) (version : ℕ) (b : Battery) (k m : ℕ) (seen : Answer) (r : ReadCall) (go : Battery → Verdict) → k + 1 ≤ m → ((next : Battery) → IndexAtMost m (go next))
+most_line : (same : Float → Float → Bool) (version : ℕ) (b : Battery) (k m : ℕ) (seen : Answer) (r : Option Call) (go : Battery → Verdict) → k + 1 ≤ m → ((next : Battery) → IndexAtMost m (go next))
     → IndexAtMost m (audit_line same version b k seen r go)
 unfolding audit_line judge
-most_line same version b k m seen Bad go h s = h
-most_line same version b k m seen (Good call) go h s = on (eqb own.refusal 10) (agrees same seen own)
+most_line same version b k m seen None go h s = h
+most_line same version b k m seen (Some call) go h s = on (eqb own.refusal 10) (agrees same seen own)
   where
     own : Answer
     own = advance_of version b call

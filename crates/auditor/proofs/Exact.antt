@@ -15,8 +15,7 @@ use Rattle.battery.specs.declared.Call.{Call}
 use Rattle.sheet_records.specs.Cards.{card_at, services_at}
 use Rattle.sheet_lines.specs.Answers.{answer_at, same_number}
 use Rattle.sheet_lines.proofs.Agreement.{agrees_more}
-use Rattle.auditor.specs.declared.Verdict.{Verdict}
-use Rattle.auditor.specs.declared.Verdict.TheVariants.{Accepted, Refused}
+use Rattle.auditor.specs.Verdicts.{Verdict, Accepted, Refused}
 use Rattle.auditor.specs.Rules.{Rules, plain, NoLooser}
 use Rattle.auditor.specs.Audit.{audit_from, audit_of}
 use Rattle.auditor.specs.Sheet.{Line, lines_bytes, steps_from, expected, AgreesAfter, Sheet}

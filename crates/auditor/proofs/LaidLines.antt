@@ -1,4 +1,5 @@
 -- A laid line in front of a rest is what the auditor reads there; and a line that the auditor reads is laid.
+use Rattle.std.specs.Prelude.{None, Some}
 use mathlib.Core.Path.{◌≡◌, refl, sym, ap, ◌∙◌}
 use mathlib.Core.List.{List, [], ◌∷◌, ◌++◌, append_assoc}
 use mathlib.Core.Bool.{true, cond}
@@ -15,7 +16,6 @@ use Rattle.battery.specs.declared.Call.{Call}
 use Rattle.sheet_calls.specs.Calls.{call_length, call_of}
 use Rattle.sheet_lines.specs.Answers.{answer_length, marks_ok}
 use Rattle.sheet_lines.specs.Lines.{line_length, line_size}
-use Rattle.sheet_calls.specs.declared.ReadCall.TheVariants.{Good, Bad}
 use Rattle.sheet_calls.proofs.CallLaws.{test_good, call_length_lem}
 use Rattle.sheet_calls.proofs.CallExact.{call_laid}
 use Rattle.sheet_lines.specs.Front.{line_call_length, call_part, answer_part, following, head_ok, line_call}
@@ -23,7 +23,7 @@ use Rattle.auditor.specs.Sheet.{Line, bytes_of, Laid}
 use Rattle.sheet_lines.proofs.Fronts.{size_is, Front, front, call_long, answer_long}
 
 -- a read call has a kind, so it is not empty
-call_some : (version : ℕ) (services : List Service) (bs : List ℕ) (call : Call) → call_of version services bs ≡ Good call → 1 ≤ length bs
+call_some : (version : ℕ) (services : List Service) (bs : List ℕ) (call : Call) → call_of version services bs ≡ Some call → 1 ≤ length bs
 call_some version services [] call h = absurd (omega (arith, (call_laid version services [] call h).from_one))
 call_some version services (x ∷ bs) call h = omega arith
 
@@ -84,7 +84,7 @@ module _ (version : ℕ) (services : List Service) (c : Card) (l : Line) (call :
       let w : line_size version c n ≤ length bs = omega (arith, size_is version c n, line_long) in
       rw (kind, le-leb 1 n (call_some version services l.call call h.reads), le-leb (line_size version c n) (length bs) w) (eq-eqb (be_at bs 0 2) (n + answer_length version c) head_says)
 
-  pub line_call_lem : line_call version services c bs ≡ Good call
+  pub line_call_lem : line_call version services c bs ≡ Some call
   unfolding line_call
   line_call_lem = rw (head_ok_lem, answer_part_lem, h.marks, call_part_lem) h.reads
 
@@ -92,12 +92,12 @@ module _ (version : ℕ) (services : List Service) (c : Card) (l : Line) (call :
 abbrev pub front_line : ℕ → Card → List ℕ → Line
 front_line version c bs = record { head = take 2 bs; call = call_part version bs; answer = answer_part version c bs }
 
-module _ (version : ℕ) (services : List Service) (c : Card) (bs : List ℕ) (call : Call) (h : line_call version services c bs ≡ Good call) where
-  tests : (head_ok version c bs ≡ true) × (marks_ok version (answer_part version c bs) ≡ true) × (call_of version services (call_part version bs) ≡ Good call)
+module _ (version : ℕ) (services : List Service) (c : Card) (bs : List ℕ) (call : Call) (h : line_call version services c bs ≡ Some call) where
+  tests : (head_ok version c bs ≡ true) × (marks_ok version (answer_part version c bs) ≡ true) × (call_of version services (call_part version bs) ≡ Some call)
   unfolding line_call
   tests =
       let m = marks_ok version (answer_part version c bs) in
-      let a = test_good (head_ok version c bs) (cond m (call_of version services (call_part version bs)) Bad) call h in
+      let a = test_good (head_ok version c bs) (cond m (call_of version services (call_part version bs)) None) call h in
       let b = test_good m (call_of version services (call_part version bs)) call a.1 in
       (a.0, b.0, b.1)
 

@@ -1,3 +1,4 @@
+pub mod Numbered
 pub mod Turns
 pub mod Opening
 pub mod Bounds

@@ -1,6 +1,7 @@
 -- Line 0's content, as the code takes it.
 use mathlib.Core.Path.{◌≡◌, refl, ap, ◌∙◌}
 use mathlib.Core.List.{List}
+use Rattle.std.specs.Prelude.{Some, None}
 use mathlib.Core.Bool.{Bool, true, false, cond}
 use borrow.Author.Tests.{eqb-true, leb-true, lt-leb}
 use lib.Dec.{leb, eqb}
@@ -9,11 +10,10 @@ use native.Mathlib.Omega.{arith}
 use lib.ListN.{length, take, drop, length-drop}
 use lib.Seq.{take_all, length-take-le}
 use Rattle.codec.specs.Bytes.{be_at}
-use Rattle.card.specs.declared.Card.{Card}
 use Rattle.sheet_records.specs.Cards.{card_length, card_at, refusal_at}
 use Rattle.sheet_records.proofs.CardLaws.{card_length_take}
 use Rattle.sheet_lines.specs.Lines.{opening_length}
-use Rattle.auditor.specs.declared.CardLine.TheVariants.{Fit, Unfit}
+use Rattle.auditor.specs.declared.CardLine.{CardLine}
 use Rattle.auditor.specs.Audit.{card_part, card_line_ok, card_line}
 use Rattle.logic.proofs.Branch.{three_tests}
 
@@ -60,27 +60,27 @@ card_line_lem version bs ok =
     record { long = omega (arith, opening_is version (drop 3 bs)); says = eqb-true (be_at bs 1 2) (card_length version (drop 3 bs)) t.1; accepted = eqb-true r 0 t.2 }
 
 -- fewer than three bytes hold no card
-pub no_card_line : (version : ℕ) (bs : List ℕ) → length bs < 3 → card_line version bs ≡ Unfit
+pub no_card_line : (version : ℕ) (bs : List ℕ) → length bs < 3 → card_line version bs ≡ None
 unfolding card_line card_line_ok
 no_card_line version bs h =
     let l : length bs < opening_length version (drop 3 bs) = omega (arith, opening_is version (drop 3 bs)) in
     rw (lt-leb (opening_length version (drop 3 bs)) (length bs) l)
 
 -- what line 0's reader tells
-fit_by : (t : Bool) (x card : Card) (n end : ℕ) → Fit card end ≡ cond t (Fit x n) Unfit → (t ≡ true) × (card ≡ x) × (end ≡ n)
-fit_by true x card n end e = (refl, cc, cc)
-fit_by false x card n end e = let z : ◌≡◌ {A = ℕ} 0 1 = cc in absurd (omega arith)
+fit_by : (t : Bool) (x line : CardLine) → Some line ≡ cond t (Some x) None → (t ≡ true) × (line ≡ x)
+fit_by true x line e = (refl, cc)
+fit_by false x line e = let z : ◌≡◌ {A = ℕ} 0 1 = cc in absurd (omega arith)
 
-unfit_by : (t : Bool) (x : Card) (n : ℕ) → Unfit ≡ cond t (Fit x n) Unfit → t ≡ false
-unfit_by true x n e = let z : ◌≡◌ {A = ℕ} 0 1 = cc in absurd (omega arith)
-unfit_by false x n e = refl
+unfit_by : (t : Bool) (x : CardLine) → None ≡ cond t (Some x) None → t ≡ false
+unfit_by true x e = let z : ◌≡◌ {A = ℕ} 0 1 = cc in absurd (omega arith)
+unfit_by false x e = refl
 
 module _ (version : ℕ) (bs : List ℕ) where
-  pub card_line_fit : (card : Card) (end : ℕ) → Fit card end ≡ card_line version bs
-      → (card_line_ok version bs ≡ true) × (card ≡ card_at version (card_part version bs)) × (end ≡ opening_length version (drop 3 bs))
+  pub card_line_fit : (line : CardLine) → Some line ≡ card_line version bs
+      → (card_line_ok version bs ≡ true) × (line.card ≡ card_at version (card_part version bs)) × (line.end ≡ opening_length version (drop 3 bs))
   unfolding card_line
-  card_line_fit card end = fit_by (card_line_ok version bs) (card_at version (card_part version bs)) card (opening_length version (drop 3 bs)) end
+  card_line_fit line e = let f = fit_by (card_line_ok version bs) _ line e in (f.0, rw f.1, rw f.1)
 
-  pub card_line_unfit : Unfit ≡ card_line version bs → card_line_ok version bs ≡ false
+  pub card_line_unfit : None ≡ card_line version bs → card_line_ok version bs ≡ false
   unfolding card_line
-  card_line_unfit = unfit_by (card_line_ok version bs) (card_at version (card_part version bs)) (opening_length version (drop 3 bs))
+  card_line_unfit = unfit_by (card_line_ok version bs) _

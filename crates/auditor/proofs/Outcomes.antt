@@ -12,8 +12,7 @@ use Rattle.card.specs.declared.Card.{Card}
 use Rattle.battery.specs.Battery.{fresh}
 use Rattle.battery.specs.declared.Call.{Call}
 use Rattle.sheet_records.specs.Cards.{card_at, services_at}
-use Rattle.auditor.specs.declared.Verdict.{Verdict}
-use Rattle.auditor.specs.declared.Verdict.TheVariants.{Accepted, Refused}
+use Rattle.auditor.specs.Verdicts.{Verdict, Accepted, Refused}
 use Rattle.auditor.specs.Rules.{Rules}
 use Rattle.auditor.specs.Audit.{card_line_ok, audit_from, audit_lines, audit_card, audit_of}
 use Rattle.auditor.specs.Sheet.{Line, bytes_of, lines_bytes, steps_from, expected, Sheet}

@@ -1,4 +1,5 @@
 -- What a line's bytes tell of its call, and that a card read from bytes holds numbers of binary64.
+use Rattle.std.specs.Prelude.{Option, Some}
 use mathlib.Core.Path.{◌≡◌, refl, sym, ap, ◌∙◌}
 use mathlib.Core.List.{List}
 use mathlib.Core.Bool.{false, ◌&&◌, ◌||◌}
@@ -17,8 +18,6 @@ use Rattle.battery.specs.declared.Call.{Call}
 use Rattle.battery.specs.declared.Call.TheVariants.{DemandEnergy, ChargeElectric, ChargeHydronic, HeatLoss, CloseTimestep, ReadStateOfCharge, ChargeEnergyDemand}
 use Rattle.sheet_records.specs.Cards.{card_at}
 use Rattle.sheet_calls.specs.Calls.{call_length, commit_place, control_place, return_place, mark_ok, demand_class, demand_at, demand_call, call_by, call_of}
-use Rattle.sheet_calls.specs.declared.ReadCall.{ReadCall}
-use Rattle.sheet_calls.specs.declared.ReadCall.TheVariants.{Good}
 use Rattle.sheet_calls.proofs.CallLaws.{test_good, call_kind, same_call}
 
 -- ---- numbers
@@ -94,7 +93,7 @@ charge_kinds ReadStateOfCharge = refl
 charge_kinds (ChargeEnergyDemand most target) = refl
 
 -- ---- from the bytes
-module _ (version : ℕ) (services : List Service) (bs : List ℕ) (call : Call) (h : call_of version services bs ≡ Good call) where
+module _ (version : ℕ) (services : List Service) (bs : List ℕ) (call : Call) (h : call_of version services bs ≡ Some call) where
   pub read_loss : get_or bs 0 0 ≡ 4 → call ≡ HeatLoss
   read_loss k = loss_call call (call_kind version services bs call h ∙ k)
 
@@ -110,8 +109,8 @@ module _ (version : ℕ) (services : List Service) (bs : List ℕ) (call : Call)
   read_trial k c =
       let class = demand_class version services (get_or bs 0 0) bs in
       let d = demand_at version class bs in
-      let r : call_by version (get_or bs 0 0) class bs ≡ Good call = (test_good (eqb (length bs) (call_length version (get_or bs 0 0))) (call_by version (get_or bs 0 0) class bs) call h).1 in
-      let q : demand_call version class bs ≡ Good call = ap (λ (n : ℕ). call_by version n class bs) (sym k) ∙ r in
+      let r : call_by version (get_or bs 0 0) class bs ≡ Some call = (test_good (eqb (length bs) (call_length version (get_or bs 0 0))) (call_by version (get_or bs 0 0) class bs) call h).1 in
+      let q : demand_call version class bs ≡ Some call = ap (λ (n : ℕ). call_by version n class bs) (sym k) ∙ r in
       let t = leb (get_or bs (commit_place version) 0) 1 && (leb (get_or bs (control_place version) 0) 1 && mark_ok bs (return_place version)) in
-      let g : ◌≡◌ {A = ReadCall} (Good (DemandEnergy d)) (Good call) = (test_good t (Good (DemandEnergy d)) call q).1 in
-      (d, same_call (Good (DemandEnergy d)) refl g, ap (λ (n : ℕ). eqb n 1) c)
+      let g : ◌≡◌ {A = Option Call} (Some (DemandEnergy d)) (Some call) = (test_good t (Some (DemandEnergy d)) call q).1 in
+      (d, same_call (Some (DemandEnergy d)) refl g, ap (λ (n : ℕ). eqb n 1) c)

@@ -17,8 +17,7 @@ use Rattle.battery.specs.Battery.{fresh}
 use Rattle.battery.specs.declared.Battery.{Battery}
 use Rattle.engine.specs.Steps.{step_of}
 use Rattle.sheet_records.specs.Cards.{card_at, services_at}
-use Rattle.auditor.specs.declared.Verdict.{Verdict}
-use Rattle.auditor.specs.declared.Verdict.TheVariants.{Refused}
+use Rattle.auditor.specs.Verdicts.{Verdict, Refused}
 use Rattle.auditor.specs.Rules.{Rules, plain}
 use Rattle.auditor.specs.Audit.{card_line_ok, judge, audit_from, audit_of, limit, limited_audit_of}
 use Rattle.auditor.specs.Sheet.{bytes_of, lines_bytes, steps_from, expected}

@@ -1,10 +1,12 @@
 -- One turn of the walk over the lines.
-use mathlib.Core.Path.{◌≡◌, refl, ap, ◌∙◌}
+use mathlib.Core.Path.{◌≡◌, refl, sym, ap, ◌∙◌}
 use mathlib.Core.List.{List, [], ◌∷◌}
+use Rattle.std.specs.Prelude.{None, Some}
 use mathlib.Core.Bool.{Bool, true, false}
 use Prim.Native.Nat.{ℕ, zero, suc, ◌+◌, ◌-◌, ◌≤◌, ◌<◌}
 use native.Mathlib.Omega.{arith}
-use borrow.Author.Tests.{eq-eqb, ne_eqb}
+use borrow.Author.Tests.{eq-eqb, ne_eqb, eqb-true, eqb-false}
+use lib.Dec.{eqb}
 use lib.Ieee.{Float}
 use lib.ListN.{length, take, drop, length-drop}
 use lib.Seq.{take_all}
@@ -15,14 +17,10 @@ use Rattle.battery.specs.declared.Call.{Call}
 use Rattle.battery.specs.declared.Answer.{Answer}
 use Rattle.engine.specs.Steps.{advance_of}
 use Rattle.sheet_lines.specs.Answers.{agrees}
-use Rattle.sheet_calls.specs.declared.ReadCall.TheVariants.{Good, Bad}
-use Rattle.sheet_calls.proofs.CallLaws.{test_good}
-use Rattle.auditor.specs.declared.Verdict.{Verdict}
-use Rattle.auditor.specs.declared.Verdict.TheVariants.{Accepted, Refused}
-use Rattle.sheet_lines.specs.declared.front.LineHead.{LineHead}
-use Rattle.sheet_lines.specs.Front.{line_call_length, following, head_ok, line_head, line_call, line_answer}
+use Rattle.auditor.specs.Verdicts.{Verdict, Accepted, Refused}
+use Rattle.sheet_lines.specs.Front.{line_call_length, following, head_numbers, line_head, line_call, line_answer}
 use Rattle.auditor.specs.Audit.{judge, audit_line, audit_from}
-use Rattle.sheet_lines.proofs.Fronts.{size_is, Headed, headed}
+use Rattle.sheet_lines.proofs.Fronts.{size_is, head_none}
 
 pub audit_none : (same : Float → Float → Bool) (version : ℕ) (services : List Service) (c : Card) (most : ℕ) (b : Battery) (k : ℕ) → audit_from same version services c most b k [] ≡ Accepted k
 unfolding audit_from
@@ -52,11 +50,11 @@ module _ (same : Float → Float → Bool) (version : ℕ) (services : List Serv
       let e : h.most ≡ suc (h.most - 1) = omega (arith, h.enough) in
       h.gives ∙ ap (λ (m : ℕ). audit_from same version services c m b k t) e ∙ audit_some same version services c (h.most - 1) b k t some
 
-  pub turn_bad : line_call version services c t ≡ Bad → v ≡ Refused 42 (k + 1)
+  pub turn_bad : line_call version services c t ≡ None → v ≡ Refused 42 (k + 1)
   unfolding audit_line
   turn_bad e = line ∙ rw e
 
-  module _ (call : Call) (e : line_call version services c t ≡ Good call) (own : Answer) (o : own ≡ advance_of version b call) where
+  module _ (call : Call) (e : line_call version services c t ≡ Some call) (own : Answer) (o : own ≡ advance_of version b call) where
     judged : v ≡ judge same k (line_answer version c t) own (λ next. audit_from same version services c (h.most - 1) next (k + 1) (following version c t))
     unfolding audit_line
     judged = line ∙ rw (e, o)
@@ -82,13 +80,17 @@ pub at_end : (same : Float → Float → Bool) (version : ℕ) (services : List 
 at_end same version services c b k [] v z h = h.gives ∙ audit_none same version services c h.most b k
 at_end same version services c b k (x ∷ t) v z h = absurd (omega arith)
 
--- a line whose call is read has its head in order
-ok_read : (version : ℕ) (services : List Service) (c : Card) (bs : List ℕ) (call : Call) → line_call version services c bs ≡ Good call → head_ok version c bs ≡ true
+-- a line without a head has no call
+pub no_head : (version : ℕ) (services : List Service) (c : Card) (bs : List ℕ) → head_numbers None ≡ line_head version c bs → line_call version services c bs ≡ None
 unfolding line_call
-ok_read version services c bs call h = (test_good (head_ok version c bs) _ call h).0
+no_head version services c bs e = rw (head_none version c bs e)
 
-pub head_read : (version : ℕ) (services : List Service) (c : Card) (bs : List ℕ) (head : LineHead) → head ≡ line_head version c bs → (call : Call) → line_call version services c bs ≡ Good call → Headed version c bs head
-head_read version services c bs head e call h = headed version c bs head e (ok_read version services c bs call h)
+-- a slice with something left in it, and one without
+pub some_left : (t : List ℕ) (empty : Bool) → empty ≡ eqb (length t) 0 → empty ≡ false → 1 ≤ length t
+some_left t empty e h = let n = eqb-false (length t) 0 (sym e ∙ h) in omega (arith, n)
+
+pub none_left : (t : List ℕ) (empty : Bool) → empty ≡ eqb (length t) 0 → empty ≡ true → length t ≡ 0
+none_left t empty e h = eqb-true (length t) 0 (sym e ∙ h)
 
 -- the rest of a slice, as the code takes it
 pub rest_of : (t : List ℕ) (r : ℕ) → take (length t - r) (drop r t) ≡ drop r t

@@ -1,4 +1,5 @@
 -- What each verdict on lines tells of them, for the auditor's own battery.
+use Rattle.std.specs.Prelude.{None, Option, Some}
 use mathlib.Core.Path.{◌≡◌, refl, sym, ap, ◌∙◌}
 use mathlib.Core.List.{List, [], ◌∷◌, ◌++◌, append_assoc}
 use mathlib.Core.Bool.{Bool, true, false, cond}
@@ -16,11 +17,8 @@ use Rattle.battery.specs.declared.Call.{Call}
 use Rattle.battery.specs.declared.Answer.{Answer}
 use Rattle.engine.specs.Steps.{step_of, advance_of}
 use Rattle.sheet_lines.specs.Answers.{answer_at, agrees}
-use Rattle.sheet_calls.specs.declared.ReadCall.{ReadCall}
-use Rattle.sheet_calls.specs.declared.ReadCall.TheVariants.{Good, Bad}
 use Rattle.sheet_calls.proofs.CallLaws.{same_call, no_call}
-use Rattle.auditor.specs.declared.Verdict.{Verdict}
-use Rattle.auditor.specs.declared.Verdict.TheVariants.{Accepted, Refused}
+use Rattle.auditor.specs.Verdicts.{Verdict, Accepted, Refused}
 use Rattle.sheet_lines.specs.Front.{following, line_call, line_answer}
 use Rattle.auditor.specs.Audit.{judge, audit_line, audit_from}
 use Rattle.auditor.specs.Sheet.{Line, bytes_of, lines_bytes, Laid, steps_from}
@@ -40,13 +38,13 @@ pub data Told (same : Float → Float → Bool) (version : ℕ) (services : List
       → v ≡ Refused 43 (k + length ls + 1) → Told same version services c b k bs v
 
 -- a line is read wherever one is laid
-laid_read : (version : ℕ) (services : List Service) (c : Card) (bs : List ℕ) (l : Line) (call : Call) (r : List ℕ) → bs ≡ bytes_of l ++ r → Laid version services c l call → line_call version services c bs ≡ Good call
+laid_read : (version : ℕ) (services : List Service) (c : Card) (bs : List ℕ) (l : Line) (call : Call) (r : List ℕ) → bs ≡ bytes_of l ++ r → Laid version services c l call → line_call version services c bs ≡ Some call
 laid_read version services c bs l call r e h = ap (line_call version services c) e ∙ line_call_lem version services c l call h r
 
-pub no_line_bad : (version : ℕ) (services : List Service) (c : Card) (bs : List ℕ) → line_call version services c bs ≡ Bad → NoLine version services c bs
+pub no_line_bad : (version : ℕ) (services : List Service) (c : Card) (bs : List ℕ) → line_call version services c bs ≡ None → NoLine version services c bs
 no_line_bad version services c bs n l call r e h = no_call (line_call version services c bs) n (laid_read version services c bs l call r e h)
 
-pub no_line_range : (version : ℕ) (services : List Service) (c : Card) (bs : List ℕ) (d : Call) → line_call version services c bs ≡ Good d → call_in_range version c d ≡ false → NoLine version services c bs
+pub no_line_range : (version : ℕ) (services : List Service) (c : Card) (bs : List ℕ) (d : Call) → line_call version services c bs ≡ Some d → call_in_range version c d ≡ false → NoLine version services c bs
 no_line_range version services c bs d n o l call r e h =
     let s : d ≡ call = same_call (line_call version services c bs) (laid_read version services c bs l call r e h) n in
     no_both (sym h.in_range ∙ ap (call_in_range version c) (sym s) ∙ o)
@@ -78,7 +76,7 @@ module _ (same : Float → Float → Bool) (version : ℕ) (services : List Serv
   at_front : k + 1 ≡ k + 0 + 1
   at_front = omega arith
 
-  by_agreement : (call : Call) → line_call version services c bs ≡ Good call → call_in_range version c call ≡ true → (t : Bool) → agrees same seen (step_of version b call) ≡ t
+  by_agreement : (call : Call) → line_call version services c bs ≡ Some call → call_in_range version c call ≡ true → (t : Bool) → agrees same seen (step_of version b call) ≡ t
       → v ≡ cond t (go (step_of version b call).battery) (Refused 43 (k + 1)) → Told same version services c b k bs v
   unfolding steps_from
   by_agreement call e i true a w =
@@ -88,7 +86,7 @@ module _ (same : Float → Float → Bool) (version : ℕ) (services : List Serv
   by_agreement call e i false a w =
       differing [] [] (front_line version c bs) call (following version c bs) (front_joined version services c bs call e) tt (front_laid version services c bs call e i) a (w ∙ ap (Refused 43) at_front)
 
-  by_range : (call : Call) → line_call version services c bs ≡ Good call → (t : Bool) → call_in_range version c call ≡ t → v ≡ judge same k seen (advance_of version b call) go
+  by_range : (call : Call) → line_call version services c bs ≡ Some call → (t : Bool) → call_in_range version c call ≡ t → v ≡ judge same k seen (advance_of version b call) go
       → Told same version services c b k bs v
   unfolding judge steps_from
   by_range call e true i w =
@@ -97,10 +95,10 @@ module _ (same : Float → Float → Bool) (version : ℕ) (services : List Serv
   by_range call e false i w =
       unlaid [] [] bs refl tt some (no_line_range version services c bs call e i) (w ∙ rw (eq-eqb (advance_of version b call).refusal 10 (own_ten version c b o call i)) (ap (Refused 42) at_front))
 
-  by_call : (r : ReadCall) → line_call version services c bs ≡ r → v ≡ audit_line same version b k seen r go → Told same version services c b k bs v
+  by_call : (r : Option Call) → line_call version services c bs ≡ r → v ≡ audit_line same version b k seen r go → Told same version services c b k bs v
   unfolding audit_line
-  by_call Bad e w = unlaid [] [] bs refl tt some (no_line_bad version services c bs e) (w ∙ ap (Refused 42) at_front)
-  by_call (Good call) e w = by_range call e (call_in_range version c call) refl w
+  by_call None e w = unlaid [] [] bs refl tt some (no_line_bad version services c bs e) (w ∙ ap (Refused 42) at_front)
+  by_call (Some call) e w = by_range call e (call_in_range version c call) refl w
 
 none_told : (same : Float → Float → Bool) (version : ℕ) (services : List Service) (c : Card) (most : ℕ) (b : Battery) (k : ℕ) → Told same version services c b k [] (audit_from same version services c most b k [])
 none_told same version services c most b k =

@@ -7,8 +7,7 @@ use mathlib.Core.List.{List}
 use mathlib.Core.Bool.{Bool, true, false, cond}
 use lib.Dec.{ltb}
 use lib.ListN.{length}
-use Rattle.auditor.specs.declared.Verdict.{Verdict}
-use Rattle.auditor.specs.declared.Verdict.TheVariants.{Accepted, Refused}
+use Rattle.auditor.specs.Verdicts.{Verdict, Accepted, Refused}
 use Rattle.auditor.specs.Rules.{Rules, plain}
 use Rattle.auditor.specs.Audit.{limit, audit_of, limited_audit_of, verdict_word}
 use Rattle.auditor.specs.Sheet.{Sheet}

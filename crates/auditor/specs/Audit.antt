@@ -1,6 +1,6 @@
 -- Document 01, module 8: the auditor 'reads calls from the sheet and steps its own battery'. Refusals 40 to 43, 'the lowest line wins, 42 before 43'.
 -- It takes its comparison and its test of an accepted card as Rules.
-use Rattle.std.specs.Prelude.{ℕ, zero, suc, ◌+◌, ◌*◌, Bool, false, cond, List, [], ◌∷◌, leb, ltb, eqb, length, take, drop, get_or, Float}
+use Rattle.std.specs.Prelude.{ℕ, zero, suc, ◌+◌, ◌*◌, Bool, false, cond, Option, Some, None, List, [], ◌∷◌, leb, ltb, eqb, length, take, drop, get_or, Float}
 use Rattle.refusals.specs.Refusals.{bad_call, no_version, bad_card, bad_line, disagrees, too_long}
 use Rattle.codec.specs.Bytes.{be_at}
 use Rattle.card.specs.Version.{known_version}
@@ -13,15 +13,12 @@ use Rattle.engine.specs.Steps.{advance_of}
 use Rattle.sheet_records.specs.Cards.{card_length, card_at, services_at, refusal_at}
 use Rattle.sheet_lines.specs.Answers.{agrees}
 use Rattle.sheet_lines.specs.Lines.{opening_length}
-use Rattle.sheet_calls.specs.declared.ReadCall.{ReadCall}
-use Rattle.sheet_calls.specs.declared.ReadCall.TheVariants.{Good, Bad}
 use Rattle.sheet_lines.specs.Front.{line_call, line_answer, following}
 use Rattle.auditor.specs.Rules.{Rules}
 use Rattle.auditor.specs.declared.CardLine.{CardLine}
-use Rattle.auditor.specs.declared.CardLine.TheVariants.{Fit, Unfit}
-use Rattle.auditor.specs.declared.Verdict.{Verdict}
-use Rattle.auditor.specs.declared.Verdict.TheVariants.{Accepted, Refused}
+use Rattle.auditor.specs.Verdicts.{Verdict, Accepted, Refused}
 use Rattle.auditor.specs.declared.AuditVerdict.{AuditVerdict}
+use Rattle.battery.specs.declared.Call.{Call}
 
 -- after k lines: what the line shows against the steps' own answer, whose 10 is a field out of range
 unfoldable pub judge : (Float → Float → Bool) → ℕ → Answer → Answer → (Battery → Verdict) → Verdict
@@ -30,9 +27,9 @@ judge same k seen own go =
     (Refused bad_line (k + 1))
     (cond (agrees same seen own) (go own.battery) (Refused disagrees (k + 1)))
 
-unfoldable pub audit_line : (Float → Float → Bool) → ℕ → Battery → ℕ → Answer → ReadCall → (Battery → Verdict) → Verdict
-audit_line same version battery k seen Bad go = Refused bad_line (k + 1)
-audit_line same version battery k seen (Good call) go = judge same k seen (advance_of version battery call) go
+unfoldable pub audit_line : (Float → Float → Bool) → ℕ → Battery → ℕ → Answer → Option Call → (Battery → Verdict) → Verdict
+audit_line same version battery k seen None go = Refused bad_line (k + 1)
+audit_line same version battery k seen (Some call) go = judge same k seen (advance_of version battery call) go
 
 -- the lines from the front of bs on, after k lines; `most` bounds how many there are
 unfoldable pub audit_from : (Float → Float → Bool) → ℕ → List Service → Card → ℕ → Battery → ℕ → List ℕ → Verdict
@@ -59,8 +56,8 @@ card_line_ok version bs =
     false
 
 -- the accepted card, and where the call lines begin
-unfoldable pub card_line : ℕ → List ℕ → CardLine
-card_line version bs = cond (card_line_ok version bs) (Fit (card_at version (card_part version bs)) (opening_length version (drop 3 bs))) Unfit
+unfoldable pub card_line : ℕ → List ℕ → Option CardLine
+card_line version bs = cond (card_line_ok version bs) (Some (record { card = card_at version (card_part version bs); end = opening_length version (drop 3 bs) })) None
 
 -- the call lines, on a card that lists these services, from its fresh battery on
 unfoldable pub audit_lines : (Float → Float → Bool) → ℕ → List Service → Card → List ℕ → Verdict

@@ -7,8 +7,7 @@ use Rattle.card.specs.declared.Card.{Card}
 use Rattle.battery.specs.declared.Call.{Call}
 use Rattle.sheet_records.specs.Cards.{card_length, card_at, services_at}
 use Rattle.sheet_lines.specs.Answers.{answer_at, agrees}
-use Rattle.auditor.specs.declared.Verdict.{Verdict}
-use Rattle.auditor.specs.declared.Verdict.TheVariants.{Accepted, Refused}
+use Rattle.auditor.specs.Verdicts.{Verdict, Accepted, Refused}
 use Rattle.auditor.specs.Rules.{Rules}
 use Rattle.auditor.specs.Sheet.{Line, bytes_of, Laid, CardAccepted, expected, Sheet}
 

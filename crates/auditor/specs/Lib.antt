@@ -1,4 +1,5 @@
 pub mod Rules
+pub mod Verdicts
 pub mod Audit
 pub mod Bound
 pub mod Sheet

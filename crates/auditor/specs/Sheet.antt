@@ -1,5 +1,5 @@
 -- Document 01, 'What demand 3 speaks of': which bytes are a sheet, said apart from the auditor. Layout, CardAccepted and Agrees.
-use Rattle.std.specs.Prelude.{ℕ, ◌+◌, ◌≡◌, Bool, true, List, [], ◌∷◌, ◌++◌, length, Float}
+use Rattle.std.specs.Prelude.{ℕ, ◌+◌, ◌≡◌, Bool, true, List, [], ◌∷◌, ◌++◌, length, Float, Some}
 use Rattle.codec.specs.Bytes.{be}
 use Rattle.card.specs.Version.{known_version}
 use Rattle.card.specs.Services.{Service}
@@ -13,7 +13,6 @@ use Rattle.engine.specs.Steps.{step_of}
 use Rattle.sheet_records.specs.Cards.{card_length, card_at, services_at, refusal_at}
 use Rattle.sheet_calls.specs.Calls.{call_of}
 use Rattle.sheet_lines.specs.Answers.{answer_length, answer_at, marks_ok, agrees}
-use Rattle.sheet_calls.specs.declared.ReadCall.TheVariants.{Good}
 use Rattle.auditor.specs.Rules.{Rules}
 
 -- ---- Layout: no step is named
@@ -35,7 +34,7 @@ lines_bytes (l ∷ ls) = bytes_of l ++ lines_bytes ls
 pub record Laid (version : ℕ) (services : List Service) (card : Card) (line : Line) (call : Call) : Type 0 where
   pub two : length line.head ≡ 2
   pub counts : be line.head ≡ length line.call + length line.answer
-  pub reads : call_of version services line.call ≡ Good call
+  pub reads : call_of version services line.call ≡ Some call
   pub in_range : call_in_range version card call ≡ true
   pub long : length line.answer ≡ answer_length version card
   pub marks : marks_ok version line.answer ≡ true

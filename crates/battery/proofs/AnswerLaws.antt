@@ -1,6 +1,6 @@
 -- The test of an answer's numbers, taken apart and put together; a refusal line on an accepted battery passes it.
 use mathlib.Core.Path.{◌≡◌, refl}
-use mathlib.Core.Bool.{true}
+use mathlib.Core.Bool.{true, ◌&&◌}
 use mathlib.Core.List.{List}
 use Prim.Native.Nat.{ℕ}
 use lib.Ieee.{Float, fits, of_bits}
@@ -8,7 +8,7 @@ use Rattle.floats.specs.Constants.{zero}
 use Rattle.floats.specs.Standins.{finite64}
 use Rattle.logic.proofs.Tests.{and_true, true_and, and_with_true}
 use Rattle.battery.specs.Battery.{zones_finite}
-use Rattle.battery.specs.Answer.{reply_of, refused_with, plain_answer, numbers_finite, answer_finite, answer_with}
+use Rattle.battery.specs.Answer.{refused_with, plain_answer, numbers_finite, answer_finite, answer_with}
 use Rattle.battery.specs.Ledger.{totals_of, totals_finite}
 use Rattle.battery.specs.declared.Battery.{Battery}
 use Rattle.battery.specs.declared.Ledger.{Ledger}
@@ -40,9 +40,9 @@ pub record FiniteAnswer (a : Answer) : Type 0 where
   pub totals : totals_finite (totals_of a.battery) ≡ true
 
 pub finite_answer : (a : Answer) → answer_finite a ≡ true → FiniteAnswer a
-unfolding answer_finite numbers_finite
+unfolding answer_finite
 finite_answer a h =
-    let z = and_true (numbers_finite (reply_of a)) _ h in
+    let z = and_true (finite64 a.energy && (finite64 a.outlet && (finite64 a.time && totals_finite (totals_of a.battery)))) _ h in
     let p = and_true (finite64 a.energy) _ z.0 in
     let q = and_true (finite64 a.outlet) _ p.1 in
     let r = and_true (finite64 a.time) _ q.1 in
@@ -58,11 +58,11 @@ unfolding plain_answer
 plain_answers energy b = refl
 
 pub refused_finite : (version r : ℕ) (b : Battery) → AcceptedBattery version b → answer_finite (refused_with r b) ≡ true
-unfolding answer_finite numbers_finite refused_with
+unfolding answer_finite refused_with
 refused_finite version r b a = true_and (true_and zero_finite (true_and zero_finite (true_and zero_finite a.totals))) a.zones
 
 -- with finite zones an answer is finite where its other numbers are
 pub numbers_decide :
     (l : Ledger) (r : Reply) (zones : List Float) → zones_finite zones l.card.layers ≡ true → answer_finite (answer_with l r zones) ≡ numbers_finite r
-unfolding answer_finite
+unfolding answer_finite numbers_finite
 numbers_decide l r zones h = rw h (and_with_true (numbers_finite r))

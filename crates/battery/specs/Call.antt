@@ -1,12 +1,10 @@
 -- Document 01, 'Kinds': the calls' fields, and refusal 10's test of their ranges. Kind, lengths, flags and marks are the sheet's.
-use Rattle.std.specs.Prelude.{ℕ, Bool, true, ◌&&◌, leb, Float}
+use Rattle.std.specs.Prelude.{ℕ, Bool, true, ◌&&◌, leb, Float, Option, Some, None}
 use Rattle.std.specs.Float.{binary64}
 use Rattle.std.specs.Float.Ieee.{of_bits, neg}
 use Rattle.floats.specs.Constants.{zero, one}
 use Rattle.card.specs.Ranges.{within, million, day, is_temperature, is_velocity, is_coefficient, is_flow, is_power}
 use Rattle.card.specs.declared.Card.{Card}
-use Rattle.battery.specs.declared.Given.{Given}
-use Rattle.battery.specs.declared.Given.TheVariants.{Absent, Value}
 use Rattle.battery.specs.declared.Demand.{Demand}
 use Rattle.battery.specs.declared.Hydronic.{Hydronic}
 use Rattle.battery.specs.declared.Call.{Call}
@@ -21,9 +19,9 @@ unfoldable pub is_level : Float → Bool
 is_level x = within zero one x
 
 -- 'An absent value has .. no range'
-unfoldable pub is_given_temperature : Given → Bool
-is_given_temperature Absent = true
-is_given_temperature (Value t) = is_temperature t
+unfoldable pub is_given_temperature : Option Float → Bool
+is_given_temperature None = true
+is_given_temperature (Some t) = is_temperature t
 
 -- '1 demand: type (u8: 0 combi, 1 regular, 2 space, 3 direct), commit, control on, required -1e6..1e6 kWh, start 0..timestep h, return mark and temperature'.
 -- Document 02, Four: from version 3 on the reader gives the class of any number, which is in range

@@ -3,10 +3,11 @@
 
 pub mod answers;
 pub mod call_ranges;
+pub mod lent;
 
 ghost use Rattle.std.specs.Prelude.{◌≡◌, ◌≤◌};
 ghost use Rattle.battery.specs.Battery.{fresh as fresh_of, zones_finite, battery_accepted};
-ghost use Rattle.battery.specs.Ledger.{whole, totals_finite, ledger_of};
+ghost use Rattle.battery.specs.Ledger.{whole, totals_of, totals_finite, ledger_of};
 
 use card::Card;
 
@@ -26,16 +27,10 @@ pub struct Battery {
     pub electric: f64,
 }
 
-// A mark and a value.
-#[derive(Clone, Copy)]
-pub enum Given {
-    Absent,
-    Value(f64),
-}
-
 #[derive(Clone, Copy)]
 pub struct Demand {
-    // the class of its type: 0 combi, 1 regular, 2 space, 3 direct; a number that isn't listed has 0 (sheet_calls::demand_class)
+    // the class of its type: 0 combi, 1 regular, 2 space, 3 direct; a number that isn't listed has 0 (sheet_calls::demand_class).
+    // A number, since refusal 10 tests its range with the call's other fields: a narrower type would ask more of callers.
     pub service: u8,
     // the Rust's update_heat_source_state; a trial where it is false
     pub commit: bool,
@@ -45,7 +40,7 @@ pub struct Demand {
     // hours
     pub start: f64,
     // °C of the return
-    pub feed: Given,
+    pub feed: Option<f64>,
 }
 
 #[derive(Clone, Copy)]
@@ -74,16 +69,16 @@ pub enum Call {
     CloseTimestep,
     ReadStateOfCharge,
     // flow maximum, target
-    ChargeEnergyDemand(Given, f64),
+    ChargeEnergyDemand(Option<f64>, f64),
 }
 
 #[derive(Clone, Copy)]
 pub struct Answer {
-    // 0 for none
+    // 0 for none; a number, since an answer is read from a sheet too, where its byte is any of 256
     pub refusal: u8,
     // kWh, or the state of charge
     pub energy: f64,
-    // 1 where there is an outlet temperature
+    // 1 where there is an outlet temperature; the sheet's byte, as above
     pub mark: u8,
     pub outlet: f64,
     // seconds
@@ -94,7 +89,7 @@ pub struct Answer {
 }
 
 // A battery's five totals, as in Battery.
-#[derive(Clone, Copy)]
+#[derive(Clone, Copy, Default)]
 pub struct Totals {
     pub total: f64,
     pub pump: f64,
@@ -111,16 +106,30 @@ pub struct Ledger {
     pub totals: Totals,
 }
 
-// All of an answer but the zones, the card and the count.
+// All of an answer that is no refusal but the zones, the card and the count.
 #[derive(Clone, Copy)]
 pub struct Reply {
-    pub refusal: u8,
+    // kWh, or the state of charge
     pub energy: f64,
-    pub mark: u8,
-    pub outlet: f64,
+    pub outlet: Option<f64>,
+    // seconds
     pub time: f64,
     pub substeps: u32,
     pub totals: Totals,
+}
+
+impl Battery {
+    pub fn totals(&self) -> Totals
+        ensures { result ≡ totals_of self.now }
+    {
+        Totals {
+            total: self.total,
+            pump: self.pump,
+            direct: self.direct,
+            charged: self.charged,
+            electric: self.electric,
+        }
+    }
 }
 
 pub fn fresh(card: Card) -> Battery
@@ -130,9 +139,7 @@ pub fn fresh(card: Card) -> Battery
     let mut zones = [0.0; 64];
     let n = card.layers as usize;
     let start = card.start;
-    for k in 0..n {
-        zones[k] = start;
-    }
+    zones[..n].fill(start);
     Battery {
         card,
         zones,
@@ -151,22 +158,21 @@ pub fn zones_finite(zones: &[f64; 64], n: usize) -> bool
     ensures { result ≡ zones_finite zones.now n }
 {
     let mut ok = true;
-    for k in 0..n {
-        ok = logic::both(ok, floats::is_finite(zones[k]));
+    for zone in &zones[..n] {
+        ok = ok & floats::is_finite(*zone);
     }
     ok
 }
 
+#[tactic(auto, unfolding(crate::specs::Ledger::totals_finite))]
 pub fn totals_finite(totals: Totals) -> bool
     ensures { result ≡ totals_finite totals }
 {
-    logic::all_five(
-        floats::is_finite(totals.total),
-        floats::is_finite(totals.pump),
-        floats::is_finite(totals.direct),
-        floats::is_finite(totals.charged),
-        floats::is_finite(totals.electric),
-    )
+    floats::is_finite(totals.total)
+        & floats::is_finite(totals.pump)
+        & floats::is_finite(totals.direct)
+        & floats::is_finite(totals.charged)
+        & floats::is_finite(totals.electric)
 }
 
 // The card field by field: the compiler then copies it in place and calls no copying routine.
@@ -198,30 +204,22 @@ pub fn ledger_of(battery: Battery) -> Ledger
         start: battery.card.start,
         power: battery.card.power,
     };
-    let totals = Totals {
-        total: battery.total,
-        pump: battery.pump,
-        direct: battery.direct,
-        charged: battery.charged,
-        electric: battery.electric,
-    };
     Ledger {
         card,
         count: battery.count,
-        totals,
+        totals: battery.totals(),
     }
 }
 
 // Refusal 10's test of a battery: false where it is refused.
+#[tactic(auto, unfolding(crate::specs::Battery::battery_accepted))]
 pub fn is_accepted(version: u8, ledger: Ledger, zones: &[f64; 64]) -> bool
     ensures { result ≡ battery_accepted version (whole ledger zones.now) }
 {
     let c = ledger.card;
-    let totals = ledger.totals;
     if card::is_accepted(version, c) {
         if ledger.count == c.layers {
-            let n = c.layers as usize;
-            return logic::both(zones_finite(zones, n), totals_finite(totals));
+            return zones_finite(zones, c.layers as usize) & totals_finite(ledger.totals);
         }
         return false;
     }

@@ -1,4 +1,5 @@
 -- What acceptance tells of a card: each test of refusals 1 to 4 by itself.
+use Rattle.std.specs.Prelude.{Err, Ok}
 use Prim.Native.Nat.{ℕ, ◌≤◌}
 use native.Mathlib.Omega.{arith}
 use mathlib.Core.Path.{◌≡◌, refl}
@@ -9,8 +10,8 @@ use Rattle.floats.specs.Constants.{max_relative, tolerance, rated_ambient}
 use Rattle.floats.specs.Standins.{nearly_equal}
 use Rattle.card.specs.Ranges.{is_temperature}
 use Rattle.card.specs.Card.{counts_in_range, times_in_range, temperatures_in_range, capacities_in_range, exchanger_in_range, powers_in_range, card_in_range, card_verdict, verdict_number, card_refusal}
+use Rattle.refusals.specs.declared.Refusal.TheVariants.{CardOutOfRange, LowerAboveUpper, MaxTooLow, NothingToStore}
 use Rattle.card.specs.declared.Card.{Card}
-use Rattle.card.specs.declared.CardVerdict.TheVariants.{Accepted, OutOfRange, LowerAboveUpper, MaxTooLow, NothingToStore}
 use Rattle.logic.proofs.Tests.{and_true}
 use borrow.Author.Tests.{leb-true}
 
@@ -28,7 +29,7 @@ pub record AcceptedCard (c : Card) : Type 0 where
 
 -- the verdict is Accepted on one way through its tests
 one_way :
-    (a b m d e : Bool) → verdict_number (cond a (cond b (cond m MaxTooLow (cond d NothingToStore (cond e NothingToStore Accepted))) LowerAboveUpper) OutOfRange) ≡ 0 →
+    (a b m d e : Bool) → verdict_number (cond a (cond b (cond m (Err MaxTooLow) (cond d (Err NothingToStore) (cond e (Err NothingToStore) (Ok tt)))) (Err LowerAboveUpper)) (Err CardOutOfRange)) ≡ 0 →
     (a ≡ true) × (b ≡ true) × (m ≡ false) × (d ≡ false) × (e ≡ false)
 unfolding verdict_number
 one_way false b m d e h = absurd (omega arith)

@@ -3,12 +3,13 @@ use mathlib.Core.Path.{◌≡◌, refl, sym, ap, ◌∙◌, subst}
 use mathlib.Core.Bool.{Bool, true, false, cond, ◌&&◌}
 use mathlib.Core.List.{List, [], ◌∷◌}
 use mathlib.Core.Logic.{◌⊎◌, inl, inr, ◌↔◌}
-use Prim.Native.Nat.{ℕ, zero, suc, ◌+◌, ◌-◌, ◌≤◌, ◌<◌}
+use Prim.Native.Nat.{ℕ, zero, suc, ◌+◌, ◌≤◌, ◌<◌}
 use native.Mathlib.Decide.{ℕ_discrete, dec_lt}
 use native.Mathlib.Omega.{arith}
 use borrow.Author.Tests.{eq-eqb, ne_eqb, leb-true, le-leb}
 use lib.Dec.{leb, leb→le, eqb}
-use lib.ListN.{length}
+use lib.ListN.{length, get_or, drop}
+use Rattle.std.proofs.lemmas.List.{drop_more, at_drop_all}
 use lib.Ieee.Bits.{is_true}
 use Rattle.logic.proofs.Tests.{and_true, true_and, no_both, fails}
 use Rattle.logic.proofs.Branch.{by_test}
@@ -32,69 +33,79 @@ listed_same service other k zero h = refl
 listed_same service other k (suc n) h =
     rw (h k (omega arith) (omega arith), listed_same service other (suc k) n (λ i l m. h i (omega arith) (omega arith)))
 
--- ---- a walk over the entries, from the k-th of n on
+-- the k-th of those from the j-th on
+entry_by : (service : ℕ → Service) (j n k : ℕ) (d : Service) → k < n → get_or (listed service j n) k d ≡ service (j + k)
+unfolding listed
+entry_by service j zero k d h = absurd (omega arith)
+entry_by service j (suc n) zero d h = ap service (omega arith)
+entry_by service j (suc n) (suc k) d h = entry_by service (suc j) n k d (omega arith) ∙ ap service (omega arith)
 
-module _ (service : ℕ → Service) (k n : ℕ) where
-  next : (m r : ℕ) → m ≡ suc r → listed service k m ≡ service k ∷ listed service (suc k) r
-  unfolding listed
-  next m r e = rw e
+pub listed_entry : (service : ℕ → Service) (n k : ℕ) (d : Service) → k < n → get_or (listed service 0 n) k d ≡ service k
+listed_entry service n k d h = entry_by service 0 n k d h ∙ ap service (omega arith)
 
-  pub one_more : k < n → listed service k (n - k) ≡ service k ∷ listed service (k + 1) (n - (k + 1))
-  one_more h =
-      let e : suc k ≡ k + 1 = omega arith in
-      next (n - k) (n - (k + 1)) (omega arith) ∙ ap (λ (j : ℕ). service k ∷ listed service j (n - (k + 1))) e
+-- a list that there is in some versions only
+pub entry_if : (t : Bool) (service : ℕ → Service) (n k : ℕ) (d : Service) → k < length (cond t (listed service 0 n) [])
+    → (t ≡ true) × (k < n) × (get_or (cond t (listed service 0 n) []) k d ≡ service k)
+entry_if true service n k d h =
+    let l : k < n = omega (arith, h, listed_length service 0 n) in
+    (refl, l, listed_entry service n k d l)
+entry_if false service n k d h = absurd (omega arith)
 
-  none : (m : ℕ) → m ≡ 0 → listed service k m ≡ []
-  unfolding listed
-  none m e = rw e
+-- ---- a walk over a list: what is left of it from the k-th on
 
-  pub none_left : n ≤ k → listed service k (n - k) ≡ []
-  none_left h = none (n - k) (omega arith)
+module _ (l : List Service) (k : ℕ) (s : Service) where
+  one_more : k < length l → s ≡ get_or l k s → drop k l ≡ s ∷ drop (k + 1) l
+  one_more h e = drop_more l k s h ∙ ap (λ (t : Service). t ∷ drop (k + 1) l) (sym e)
 
   -- whether they rise
-  pub rising_stops : (least : ℕ) → k < n → service_ok least (service k) ≡ false → rising_from least (listed service k (n - k)) ≡ false
+  pub rising_stops : (least : ℕ) → k < length l → s ≡ get_or l k s → service_ok least s ≡ false → rising_from least (drop k l) ≡ false
   unfolding rising_from
-  rising_stops least h e = ap (rising_from least) (one_more h) ∙ rw e
+  rising_stops least h e f = ap (rising_from least) (one_more h e) ∙ rw f
 
-  pub rising_further : (least : ℕ) → k < n → service_ok least (service k) ≡ true
-      → rising_from least (listed service k (n - k)) ≡ rising_from ((service k).number + 1) (listed service (k + 1) (n - (k + 1)))
+  pub rising_further : (least : ℕ) → k < length l → s ≡ get_or l k s → service_ok least s ≡ true
+      → rising_from least (drop k l) ≡ rising_from (s.number + 1) (drop (k + 1) l)
   unfolding rising_from
-  rising_further least h e =
-      let q : suc (service k).number ≡ (service k).number + 1 = omega arith in
-      ap (rising_from least) (one_more h) ∙ rw (e, q)
-
-  pub rising_done : (least : ℕ) → n ≤ k → rising_from least (listed service k (n - k)) ≡ true
-  unfolding rising_from
-  rising_done least h = ap (rising_from least) (none_left h)
+  rising_further least h e f =
+      let q : suc s.number ≡ s.number + 1 = omega arith in
+      ap (rising_from least) (one_more h e) ∙ rw (f, q)
 
   -- the class of a number
-  pub class_here : (number : ℕ) → k < n → (service k).number ≡ number → listed_class (listed service k (n - k)) number ≡ (service k).class
+  pub class_here : (number : ℕ) → k < length l → s ≡ get_or l k s → s.number ≡ number → listed_class (drop k l) number ≡ s.class
   unfolding listed_class
-  class_here number h e = ap (λ (l : List Service). listed_class l number) (one_more h) ∙ rw (eq-eqb (service k).number number e)
+  class_here number h e f = ap (λ (m : List Service). listed_class m number) (one_more h e) ∙ rw (eq-eqb s.number number f)
 
-  pub class_further : (number : ℕ) → k < n → ((service k).number ≡ number → ⊥)
-      → listed_class (listed service k (n - k)) number ≡ listed_class (listed service (k + 1) (n - (k + 1))) number
+  pub class_further : (number : ℕ) → k < length l → s ≡ get_or l k s → (s.number ≡ number → ⊥)
+      → listed_class (drop k l) number ≡ listed_class (drop (k + 1) l) number
   unfolding listed_class
-  class_further number h ne = ap (λ (l : List Service). listed_class l number) (one_more h) ∙ rw (ne_eqb (service k).number number ne)
+  class_further number h e ne = ap (λ (m : List Service). listed_class m number) (one_more h e) ∙ rw (ne_eqb s.number number ne)
 
-  pub class_none : (number : ℕ) → n ≤ k → listed_class (listed service k (n - k)) number ≡ 0
-  unfolding listed_class
-  class_none number h = ap (λ (l : List Service). listed_class l number) (none_left h)
+-- nothing is left
+pub rising_done : (l : List Service) (k least : ℕ) → length l ≤ k → rising_from least (drop k l) ≡ true
+unfolding rising_from
+rising_done l k least h = at_drop_all (rising_from least) l k h
+
+pub class_none : (l : List Service) (k number : ℕ) → length l ≤ k → listed_class (drop k l) number ≡ 0
+unfolding listed_class
+class_none l k number h = at_drop_all (λ (m : List Service). listed_class m number) l k h
 
 -- ---- the count first
 
-pub ok_few : (service : ℕ → Service) (n : ℕ) → n ≤ 32 → services_ok (listed service 0 n) ≡ rising_from 4 (listed service 0 n)
+pub ok_few : (l : List Service) → length l ≤ 32 → services_ok l ≡ rising_from 4 l
 unfolding services_ok
-ok_few service n h = rw (le-leb (length (listed service 0 n)) most_services (omega (arith, listed_length service 0 n)))
+ok_few l h = rw (le-leb (length l) most_services h)
 
-pub ok_many : (service : ℕ → Service) (n : ℕ) → 32 < n → services_ok (listed service 0 n) ≡ false
+pub ok_many : (l : List Service) → 32 < length l → services_ok l ≡ false
 unfolding services_ok
-ok_many service n h =
-    rw (fails (leb (length (listed service 0 n)) most_services) (λ t. omega (arith, leb→le (length (listed service 0 n)) most_services t, listed_length service 0 n)))
+ok_many l h = rw (fails (leb (length l) most_services) (λ t. omega (arith, h, leb→le (length l) most_services t)))
 
 pub ok_none : services_ok [] ≡ true
 unfolding services_ok rising_from
 ok_none = refl
+
+-- accepted ones are at most 32
+pub ok_length : (l : List Service) → services_ok l ≡ true → length l ≤ 32
+unfolding services_ok
+ok_length l h = leb-true (length l) most_services (and_true (leb (length l) most_services) (rising_from 4 l) h).0
 
 -- ---- a card's refusal with its services
 

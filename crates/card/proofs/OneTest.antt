@@ -1,4 +1,5 @@
 -- An accepted card as one test.
+use Rattle.std.specs.Prelude.{Err, Ok}
 use mathlib.Core.Path.{◌≡◌, refl, ◌∙◌}
 use mathlib.Core.Bool.{Bool, true, false, cond, ◌&&◌, not}
 use Prim.Native.Nat.{ℕ}
@@ -11,14 +12,14 @@ use Rattle.floats.proofs.Order.{lt_is_not_le, finite_number}
 use Rattle.floats.proofs.Standins.{finite64_finite}
 use Rattle.floats.proofs.Clearly.{clearly_above_is}
 use Rattle.card.specs.Ranges.{hottest}
+use Rattle.refusals.specs.declared.Refusal.TheVariants.{CardOutOfRange, LowerAboveUpper, MaxTooLow, NothingToStore}
 use Rattle.card.specs.declared.Card.{Card}
-use Rattle.card.specs.declared.CardVerdict.TheVariants.{Accepted, OutOfRange, LowerAboveUpper, MaxTooLow, NothingToStore}
 use Rattle.card.specs.Card.{card_in_range, card_verdict, verdict_number, card_refusal}
 use Rattle.card.proofs.Accepted.{in_range, each_temperature}
 use Rattle.card.proofs.Within.{temperature_finite, temperature_magnitude}
 
 number_0 : (a b c d e : Bool) →
-    eqb (verdict_number (cond a (cond b (cond c MaxTooLow (cond d NothingToStore (cond e NothingToStore Accepted))) LowerAboveUpper) OutOfRange)) 0
+    eqb (verdict_number (cond a (cond b (cond c (Err MaxTooLow) (cond d (Err NothingToStore) (cond e (Err NothingToStore) (Ok tt)))) (Err LowerAboveUpper)) (Err CardOutOfRange))) 0
     ≡ (a && (b && (not c && (not d && not e))))
 unfolding verdict_number
 number_0 true true true d e = refl

@@ -1,13 +1,14 @@
 -- Document 01, 'Card' and refusals 1 to 4. The version is the sheet's.
-use Rattle.std.specs.Prelude.{ℕ, ◌≡◌, Bool, cond, ◌&&◌, List, [], ◌∷◌, ◌⊎◌, leb}
+use Rattle.std.specs.Prelude.{ℕ, ◌≡◌, Bool, cond, ◌&&◌, List, [], ◌∷◌, ◌⊎◌, leb, Result, Ok, Err}
 use Rattle.std.specs.Float.Ieee.{lt, le}
-use Rattle.refusals.specs.Refusals.{answered, card_out_of_range, lower_above_upper, max_too_low, nothing_to_store, bad_services}
+use Rattle.refusals.specs.Number.{refused_number}
+use Rattle.refusals.specs.Refusals.{card_out_of_range, lower_above_upper, max_too_low, nothing_to_store, bad_services}
 use Rattle.floats.specs.Constants.{max_relative, tolerance, rated_ambient}
 use Rattle.floats.specs.Standins.{nearly_equal}
 use Rattle.card.specs.Ranges.{is_substep, is_timestep, is_temperature, is_capacity, is_velocity, is_diameter, is_coefficient, is_flow, is_power}
+use Rattle.refusals.specs.declared.Refusal.{Refusal}
+use Rattle.refusals.specs.declared.Refusal.TheVariants.{CardOutOfRange, LowerAboveUpper, MaxTooLow, NothingToStore}
 use Rattle.card.specs.declared.Card.{Card}
-use Rattle.card.specs.declared.CardVerdict.{CardVerdict}
-use Rattle.card.specs.declared.CardVerdict.TheVariants.{Accepted, OutOfRange, LowerAboveUpper, MaxTooLow, NothingToStore}
 
 -- 'layers (u8, 1..64), units (u16, 1..1000), simultaneous (u8, 0 or 1), budget (u16, 1..65535)'
 unfoldable pub counts_in_range : Card → Bool
@@ -44,27 +45,23 @@ card_in_range card =
     counts_in_range card && (times_in_range card && (temperatures_in_range card && (capacities_in_range card && (exchanger_in_range card && powers_in_range card))))
 
 -- '1 a field not finite or out of range; 2 lower above upper; 3 max at most 20; 4 max below ref or nearly equal to it (epsilon 1e-10). Tested in this order.'
-unfoldable pub card_verdict : ℕ → Card → CardVerdict
+unfoldable pub card_verdict : ℕ → Card → Result Unit Refusal
 card_verdict version card =
     cond (card_in_range card)
     (cond (le card.lower card.upper)
     (cond (le card.max rated_ambient)
-    MaxTooLow
+    (Err MaxTooLow)
     (cond (lt card.max card.reference)
-    NothingToStore
+    (Err NothingToStore)
     (cond (nearly_equal card.max card.reference tolerance max_relative)
-    NothingToStore
-    Accepted)))
-    LowerAboveUpper)
-    OutOfRange
+    (Err NothingToStore)
+    (Ok tt))))
+    (Err LowerAboveUpper))
+    (Err CardOutOfRange)
 
 -- document 01's numbers, 0 for none
-unfoldable pub verdict_number : CardVerdict → ℕ
-verdict_number Accepted = answered
-verdict_number OutOfRange = card_out_of_range
-verdict_number LowerAboveUpper = lower_above_upper
-verdict_number MaxTooLow = max_too_low
-verdict_number NothingToStore = nothing_to_store
+unfoldable pub verdict_number : Result Unit Refusal → ℕ
+verdict_number verdict = refused_number verdict
 
 unfoldable pub card_refusal : ℕ → Card → ℕ
 card_refusal version card = verdict_number (card_verdict version card)

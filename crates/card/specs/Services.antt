@@ -3,11 +3,11 @@ use Rattle.std.specs.Prelude.{ℕ, zero, suc, ◌<◌, ◌≤◌, Bool, true, co
 use Rattle.refusals.specs.Refusals.{answered, bad_services}
 use Rattle.card.specs.Card.{card_refusal}
 use Rattle.card.specs.declared.Card.{Card}
+use Rattle.card.specs.declared.services.Service as code
 
--- 'number (u16) and class (u8, 1 regular, 2 space, 3 direct)'
-pub record Service : Type 0 where
-  pub number : ℕ
-  pub class : ℕ
+-- 'number (u16) and class (u8, 1 regular, 2 space, 3 direct)': the struct of the code
+abbrev pub Service : Type 0
+Service = code.Service
 
 -- n services, from the k-th on
 unfoldable pub listed : (ℕ → Service) → ℕ → ℕ → List Service

@@ -1,13 +1,15 @@
 // What HeatBatteryPcm::new derives from a card.
 ghost use Rattle.std.specs.Prelude.{◌≡◌, ◌≤◌};
-ghost use Rattle.zone.specs.Lent.{salts_in, Salted};
-ghost use Rattle.card.specs.Derived.{salt_of, energy_at, derived as derived_of};
+ghost use Rattle.zone.specs.LentSalts.{lent_salts};
+ghost use Rattle.card.specs.Derived.{salt_of, salts_of, energy_at, derived as derived_of};
 ghost use Rattle.card.specs.Lent.{figures_of};
 
 use crate::{Card, HeatBatteryPcm};
+use zone::lent::LentSalts;
 use zone::{Kilojoules, Salt};
 
 // The salt of a layer: its capacities are the card's divided by the layers.
+#[tactic(auto, unfolding(crate::specs::Derived::salt_of))]
 pub fn salt_of(card: Card) -> Salt
     ensures { result ≡ salt_of card }
 {
@@ -22,6 +24,7 @@ pub fn salt_of(card: Card) -> Salt
 }
 
 // The same as figures, to be lent with the step 0.
+#[tactic(auto, unfolding(crate::specs::Lent::figures_of))]
 pub fn figures_of(card: Card) -> [f64; 5]
     ensures { result ≡ figures_of card }
 {
@@ -29,22 +32,39 @@ pub fn figures_of(card: Card) -> [f64; 5]
     [salt.lower, salt.upper, salt.below, salt.during, salt.above]
 }
 
-// The energy above ref of the whole battery at one temperature.
-pub fn energy_at(card: Card, salts: &[f64], step: usize, temperature: f64) -> Kilojoules
-    requires { (card.layers ≤ 64) × Salted salts.now step card.layers }
-    ensures { result ≡ energy_at (salts_in salts.now step) card temperature }
+// Those figures as they are lent: one salt for all layers.
+pub fn lent(card: Card, figures: &[f64; 5]) -> LentSalts<'_, 0>
+    requires { (card.layers ≤ 64) × (figures.now ≡ figures_of card) }
+    ensures layers { result.layers ≡ card.layers }
+    ensures salts { lent_salts result ≡ salts_of card }
 {
-    if step == 0 {
-        let salt = zone::layer::zone_salt(salts, step, 0);
+    LentSalts {
+        figures,
+        layers: card.layers,
+    }
+}
+
+// The energy above ref of the whole battery at one temperature.
+pub fn energy_at<const STEP: usize>(
+    card: Card,
+    salts: LentSalts<'_, STEP>,
+    temperature: f64,
+) -> Kilojoules
+    requires { card.layers ≤ salts.layers }
+    ensures { result ≡ energy_at (lent_salts salts.entry) card temperature }
+{
+    if STEP == 0 {
+        let salt = salts.zone(0);
         let layer = zone::layer::calculate_layer_energy_stored(temperature, card.reference, salt);
         let layers = card.layers as f64;
         return Kilojoules(layer.0 * layers);
     }
     let n = card.layers as usize;
     let zones = [temperature; 64];
-    zone::layer::stored_energy(salts, step, card.reference, zones, n)
+    zone::layer::stored_energy(salts, card.reference, zones, n)
 }
 
+#[tactic(auto, unfolding(crate::specs::Derived::derived))]
 pub fn derived(card: Card) -> HeatBatteryPcm
     ensures { result ≡ derived_of card }
 {

@@ -1,15 +1,18 @@
 // Document 01's ranges, both ends in, each under its field's name.
+// Nine functions, not nine values of a struct of two ends: contracts cite the nine names of the definitions, and each is one line over `within`.
 ghost use Rattle.std.specs.Prelude.{◌≡◌};
 ghost use Rattle.card.specs.Ranges.{within as within_of, is_substep, is_timestep, is_temperature, is_capacity, is_velocity, is_diameter, is_coefficient, is_flow, is_power};
 
 // Whether x lies between low and high, the ends included. A NaN does not.
+#[tactic(auto, unfolding(crate::specs::Ranges::within))]
 pub fn within(low: f64, high: f64, x: f64) -> bool
     ensures { result ≡ within_of low high x }
 {
-    logic::both(low <= x, x <= high)
+    (low <= x) & (x <= high)
 }
 
 // Seconds.
+#[tactic(auto, unfolding(crate::specs::Ranges::is_substep))]
 pub fn is_substep(x: f64) -> bool
     ensures { result ≡ is_substep x }
 {
@@ -17,6 +20,7 @@ pub fn is_substep(x: f64) -> bool
 }
 
 // Hours.
+#[tactic(auto, unfolding(crate::specs::Ranges::is_timestep))]
 pub fn is_timestep(x: f64) -> bool
     ensures { result ≡ is_timestep x }
 {
@@ -24,6 +28,7 @@ pub fn is_timestep(x: f64) -> bool
 }
 
 // °C.
+#[tactic(auto, unfolding(crate::specs::Ranges::is_temperature))]
 pub fn is_temperature(x: f64) -> bool
     ensures { result ≡ is_temperature x }
 {
@@ -31,6 +36,7 @@ pub fn is_temperature(x: f64) -> bool
 }
 
 // kJ/K.
+#[tactic(auto, unfolding(crate::specs::Ranges::is_capacity))]
 pub fn is_capacity(x: f64) -> bool
     ensures { result ≡ is_capacity x }
 {
@@ -38,6 +44,7 @@ pub fn is_capacity(x: f64) -> bool
 }
 
 // m/s.
+#[tactic(auto, unfolding(crate::specs::Ranges::is_velocity))]
 pub fn is_velocity(x: f64) -> bool
     ensures { result ≡ is_velocity x }
 {
@@ -45,6 +52,7 @@ pub fn is_velocity(x: f64) -> bool
 }
 
 // Millimetres.
+#[tactic(auto, unfolding(crate::specs::Ranges::is_diameter))]
 pub fn is_diameter(x: f64) -> bool
     ensures { result ≡ is_diameter x }
 {
@@ -52,6 +60,7 @@ pub fn is_diameter(x: f64) -> bool
 }
 
 // a and b of a heat exchanger.
+#[tactic(auto, unfolding(crate::specs::Ranges::is_coefficient))]
 pub fn is_coefficient(x: f64) -> bool
     ensures { result ≡ is_coefficient x }
 {
@@ -59,6 +68,7 @@ pub fn is_coefficient(x: f64) -> bool
 }
 
 // l/min.
+#[tactic(auto, unfolding(crate::specs::Ranges::is_flow))]
 pub fn is_flow(x: f64) -> bool
     ensures { result ≡ is_flow x }
 {
@@ -66,6 +76,7 @@ pub fn is_flow(x: f64) -> bool
 }
 
 // kW.
+#[tactic(auto, unfolding(crate::specs::Ranges::is_power))]
 pub fn is_power(x: f64) -> bool
     ensures { result ≡ is_power x }
 {

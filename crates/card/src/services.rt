@@ -1,6 +1,6 @@
-// A listed service: refusal 61's test of one.
-ghost use Rattle.std.specs.Prelude.{◌≡◌};
-ghost use Rattle.card.specs.Services.{service_ok};
+// The services that a card lists, wherever they lie: refusal 61's test of them, and the class of a number.
+ghost use Rattle.std.specs.Prelude.{◌≡◌, ◌<◌, ◌≤◌, ℕ, List, length, get_or};
+ghost use Rattle.card.specs.Services.{service_ok, rising_from, services_ok, listed_class, class_of};
 
 // The most services that a card may list.
 pub const MOST_SERVICES: usize = 32;
@@ -8,9 +8,93 @@ pub const MOST_SERVICES: usize = 32;
 // The last of document 01's types: a listed number is above it.
 pub const LAST_TYPE: u16 = 3;
 
+// A listed number, and its class: 1 regular, 2 space, 3 direct.
+#[derive(Clone, Copy)]
+pub struct Service {
+    pub number: u16,
+    // the card's byte, of which 61 refuses all but 1 to 3
+    pub class: u8,
+}
+
+// What lists services. One too long for a card may have fewer that can be read.
+pub trait Services {
+    ghost use Rattle.card.specs.declared.services.Service.{Service};
+
+    // all of them, by the version; none before version 3
+    ghost list: { Self → List Service };
+
+    // as many of them can be read
+    ghost room: { Self → ℕ };
+
+    fn count(&self) -> usize
+        ensures { result ≡ length (list self.now) };
+
+    fn service(&self, k: usize) -> Service
+        requires { (k < length (list self.now)) × (k < room self.now) }
+        ensures { result ≡ get_or (list self.now) k result };
+
+    // as many as a card may list can all be read
+    ghost few_fit: { (services : Self) → length (list services) ≤ 32 → length (list services) ≤ room services };
+}
+
 // Whether a number isn't under a least one, and its class is regular, space or direct.
-pub fn service_ok(least: u32, number: u16, class: u8) -> bool
-    ensures { result ≡ service_ok least (record { number = number; class = class }) }
+#[tactic(auto, unfolding(crate::specs::Services::service_ok))]
+pub fn service_ok(least: u32, service: Service) -> bool
+    ensures { result ≡ service_ok least service }
 {
-    logic::all_three(least <= (number as u32), 1 <= class, class <= 3)
+    (least <= (service.number as u32)) & (1 <= service.class) & (service.class <= 3)
+}
+
+// Whether the services rise from 4 and have known classes.
+fn services_rise<S: Services>(services: &S) -> bool
+    requires { length (S.list services.now) ≤ S.room services.now }
+    ensures { result ≡ rising_from 4 (S.list services.now) }
+{
+    let mut least: u32 = 4;
+    // by index: the services lie in bytes or in two arrays, and an iterator over either would need a type of its own, no plainer
+    for k in 0..services.count() {
+        let service = services.service(k);
+        if service_ok(least, service) {
+            least = (service.number as u32) + 1;
+        } else {
+            return false;
+        }
+    }
+    true
+}
+
+// Whether the services are accepted: refusal 61's test.
+pub fn services_ok<S: Services>(services: &S) -> bool
+    ensures { result ≡ services_ok (S.list services.now) }
+{
+    if services.count() <= MOST_SERVICES {
+        return services_rise(services);
+    }
+    false
+}
+
+// The class of a number among the services, 0 where it isn't there.
+fn listed_class<S: Services>(services: &S, number: u16) -> u8
+    requires { length (S.list services.now) ≤ S.room services.now }
+    ensures { result ≡ listed_class (S.list services.now) number }
+{
+    // by index, as in `services_rise`
+    for k in 0..services.count() {
+        let service = services.service(k);
+        if service.number == number {
+            return service.class;
+        }
+    }
+    0
+}
+
+// The class that the services give a number.
+pub fn class_of<S: Services>(services: &S, number: u16) -> u8
+    requires { length (S.list services.now) ≤ S.room services.now }
+    ensures { result ≡ class_of (S.list services.now) number }
+{
+    if number <= LAST_TYPE {
+        return number as u8;
+    }
+    listed_class(services, number)
 }

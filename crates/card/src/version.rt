@@ -1,4 +1,5 @@
 // The versions of a sheet.
+// A function for each rule and not one test with a constant: each rule is a definition of its own, which the contracts above cite.
 ghost use Rattle.std.specs.Prelude.{◌≡◌};
 ghost use Rattle.card.specs.Version.{known_version, shows_hydronic_time, lists_services};
 
@@ -13,13 +14,15 @@ const HYDRONIC_TIME: u8 = 2;
 const SERVICES: u8 = 3;
 
 // Whether a sheet may begin with this byte: refusal 40's test.
+#[tactic(auto, unfolding(crate::specs::Version::known_version))]
 pub fn known_version(version: u8) -> bool
     ensures { result ≡ known_version version }
 {
-    logic::both(OLDEST_VERSION <= version, version <= NEWEST_VERSION)
+    (OLDEST_VERSION <= version) & (version <= NEWEST_VERSION)
 }
 
 // Whether an answered hydronic line shows its time.
+#[tactic(auto, unfolding(crate::specs::Version::shows_hydronic_time))]
 pub fn shows_hydronic_time(version: u8) -> bool
     ensures { result ≡ shows_hydronic_time version }
 {
@@ -27,6 +30,7 @@ pub fn shows_hydronic_time(version: u8) -> bool
 }
 
 // Whether a card lists services, and a demand's type has two bytes.
+#[tactic(auto, unfolding(crate::specs::Version::lists_services))]
 pub fn lists_services(version: u8) -> bool
     ensures { result ≡ lists_services version }
 {

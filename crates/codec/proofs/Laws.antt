@@ -37,9 +37,9 @@ sets_snoc l i (v ∷ vs) b =
     ∙ ap (λ (m : List ℕ). sets m (suc i) vs) (set_comm l i (i + suc (length vs)) v b (omega arith))
 
 -- one run after another
-pub sets_sets : (l : List ℕ) (i : ℕ) (vs ws : List ℕ) → sets (sets l i vs) (i + length vs) ws ≡ sets l i (vs ++ ws)
+pub sets_sets : {A : Type 0} (l : List A) (i : ℕ) (vs ws : List A) → sets (sets l i vs) (i + length vs) ws ≡ sets l i (vs ++ ws)
 sets_sets l i [] ws = ap (λ (n : ℕ). sets l n ws) (add-zero i)
-sets_sets l i (v ∷ vs) ws =
+sets_sets {A} l i (v ∷ vs) ws =
     ap (λ (n : ℕ). sets (sets (set l i v) (suc i) vs) n ws) (omega arith) ∙ sets_sets (set l i v) (suc i) vs ws
 
 -- a finite f64 comes back from its bytes

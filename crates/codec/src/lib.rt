@@ -1,4 +1,5 @@
-// Numbers at a place of a slice, the highest byte first, and f64 by its bits.
+// Numbers at a place of a slice, the highest byte first, and f64 by its bits. Bytes and place are no struct: one that holds a `&mut` is two things in a
+// clause, as passed and at the return, and each writer's equation would name both.
 #![tactic(auto)]
 
 ghost use Rattle.std.specs.Prelude.{◌≡◌, ◌+◌, ◌*◌, ◌^◌, ◌≤◌, ◌<◌, length, take, drop, get_or};
@@ -7,22 +8,14 @@ ghost use Rattle.std.specs.Float.{binary64};
 ghost use Rattle.std.specs.Float.Ieee.{of_bits, to_bits};
 ghost use Rattle.codec.specs.Bytes.{be, be_at, be_bytes, f64_at, nth_f64, f64_bytes};
 
-fn wide(x: u8) -> u64
-    ensures { result ≡ x }
-{
-    x as u64
-}
-
 // The number that the w bytes from at on stand for, and that it has w digits.
 fn read_digits(bytes: &[u8], at: usize, w: usize) -> u64
     requires { (w ≤ 8) × (at + w ≤ length bytes.now) }
     ensures { (result ≡ be (take w (drop at bytes.now))) × (result < 256 ^ w) }
 {
     let mut x: u64 = 0;
-    let mut i = 0;
-    while i < w {
-        x = x * 256 + wide(bytes[at + i]);
-        i += 1;
+    for byte in &bytes[at..at + w] {
+        x = x * 256 + u64::from(*byte);
     }
     x
 }
@@ -39,9 +32,10 @@ pub fn read_be(bytes: &[u8], at: usize, w: usize) -> u64
 pub fn byte_or_zero(bytes: &[u8], at: usize) -> u8
     ensures { result ≡ get_or bytes.now at 0 }
 {
-    if at < bytes.len() { bytes[at] } else { 0 }
+    bytes.get(at).copied().unwrap_or(0)
 }
 
+// `read_be` at one width, here and below: the number fits its type, which is proved once, here, and not at each call.
 pub fn read_u16(bytes: &[u8], at: usize) -> u16
     requires { at + 2 ≤ length bytes.now }
     ensures { result ≡ be_at bytes.now at 2 }
@@ -62,10 +56,8 @@ pub fn put_be(bytes: &mut [u8], at: usize, w: usize, x: u64) -> usize
     ensures { (result ≡ at + w) × (bytes.new ≡ sets bytes.old at (be_bytes w x)) }
 {
     let mut y = x;
-    let mut i = w;
-    while 0 < i {
-        i -= 1;
-        bytes[at + i] = (y % 256) as u8;
+    for i in 0..w {
+        bytes[at + (w - 1 - i)] = (y % 256) as u8;
         y = y / 256;
     }
     at + w
@@ -115,6 +107,7 @@ pub fn nth_f64(bytes: &[u8], from: usize, k: usize) -> f64
     read_f64(bytes, from + 8 * k)
 }
 
+// `put_be` at one width, here and below: a trait with a width and its laws for each type would be longer than these.
 pub fn put_u8(bytes: &mut [u8], at: usize, x: u8) -> usize
     requires { at + 1 ≤ length bytes.old }
     ensures { (result ≡ at + 1) × (bytes.new ≡ sets bytes.old at (be_bytes 1 x)) }
@@ -134,10 +127,7 @@ pub fn put_bytes(bytes: &mut [u8], at: usize, src: &[u8]) -> usize
     requires { at + length src.now ≤ length bytes.old }
     ensures { (result ≡ at + length src.now) × (bytes.new ≡ sets bytes.old at src.now) }
 {
-    let mut i = 0;
-    while i < src.len() {
-        bytes[at + i] = src[i];
-        i += 1;
-    }
-    at + i
+    let end = at + src.len();
+    bytes[at..end].copy_from_slice(src);
+    end
 }

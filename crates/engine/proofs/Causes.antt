@@ -1,4 +1,5 @@
 -- What `Refused` tells of a call refused with 22 to 25 refuses it: the run's end, an answer that is not finite, or the level.
+use Rattle.std.specs.Prelude.{Option, Some}
 use mathlib.Core.Path.{◌≡◌, refl, sym, ◌∙◌, ap}
 use mathlib.Core.Bool.{Bool, true, false, ◌&&◌}
 use mathlib.Core.Logic.{◌⊎◌, inl, inr}
@@ -13,8 +14,6 @@ use Rattle.logic.proofs.Tests.{and_true}
 use Rattle.battery.specs.Answer.{plain_answer, answer_finite}
 use Rattle.battery.specs.Ledger.{ledger_of}
 use Rattle.battery.specs.declared.Battery.{Battery}
-use Rattle.battery.specs.declared.Given.{Given}
-use Rattle.battery.specs.declared.Given.TheVariants.{Value}
 use Rattle.battery.specs.declared.Demand.{Demand}
 use Rattle.battery.specs.declared.Hydronic.{Hydronic}
 use Rattle.battery.specs.declared.Answer.{Answer}
@@ -57,7 +56,7 @@ module _ (n : ℕ) (l : 22 ≤ n) (b : Battery) where
 
   module _ (d : Demand) (in_range : demand_in_range b.card d ≡ true) (runs : Runs b (DemandEnergy d)) where
     -- a demand with a return temperature that 21 doesn't refuse is served
-    is_served : le d.required tolerance ≡ false → (feed : Float) → d.feed ≡ Value feed → (d.commit && unserved (service_class b.card d.service)) ≡ false
+    is_served : le d.required tolerance ≡ false → (feed : Float) → d.feed ≡ Some feed → (d.commit && unserved (service_class b.card d.service)) ≡ false
     is_served asked feed e = on (d.commit && unserved (service_class b.card d.service)) refl
       where
         on : (t : Bool) → (d.commit && unserved (service_class b.card d.service)) ≡ t → t ≡ false
@@ -82,7 +81,7 @@ module _ (n : ℕ) (l : 22 ≤ n) (b : Battery) where
     demand_refuses : ((n ≡ 23) × NoDemandNotFinite b d) ⊎ DemandWhy n b d → (demand_energy b d).refusal ≡ n
     unfolding demand_energy demand_given
     demand_refuses (inl w) = rw w.1.asked (checked_refuses (plain_answer zero b) w.0 w.1.found)
-    demand_refuses (inr w) = rw w.asked (ap (λ (g : Given). (demand_given b d g).refusal) w.given ∙ from_refuses w)
+    demand_refuses (inr w) = rw w.asked (ap (λ (g : Option Float). (demand_given b d g).refusal) w.given ∙ from_refuses w)
 
   level_refuses : LevelWhy n b (λ soc. soc) → (read_level b (level b)).refusal ≡ n
   unfolding read_level
@@ -90,7 +89,7 @@ module _ (n : ℕ) (l : 22 ≤ n) (b : Battery) where
   level_refuses (inr w) = rw w.1.read (checked_refuses (plain_answer w.1.soc b) w.0 w.1.found)
 
   to_level_refuses :
-      (most : Given) (target : Float) → LevelWhy n b (λ soc. (charge_energy_demand b.card most target soc).0) → (demand_to_level b most target (level b)).refusal ≡ n
+      (most : Option Float) (target : Float) → LevelWhy n b (λ soc. (charge_energy_demand b.card most target soc).0) → (demand_to_level b most target (level b)).refusal ≡ n
   unfolding demand_to_level
   to_level_refuses most target (inl w) = rw w.1 (refused_number 25 b ∙ sym w.0)
   to_level_refuses most target (inr w) =
@@ -125,11 +124,11 @@ over_22 : (e : End) → e ≡ OverBudget → end_refusal e ≡ 22
 unfolding end_refusal
 over_22 e h = rw h
 
-logarithm_24 : (e : End) → e ≡ fault_end Logarithm → end_refusal e ≡ 24
+logarithm_24 : (e : End) → e ≡ fault_end (Some Logarithm) → end_refusal e ≡ 24
 unfolding end_refusal fault_end
 logarithm_24 e h = rw h
 
-not_finite_23 : (e : End) → e ≡ fault_end NotFinite → end_refusal e ≡ 23
+not_finite_23 : (e : End) → e ≡ fault_end (Some NotFinite) → end_refusal e ≡ 23
 unfolding end_refusal fault_end
 not_finite_23 e h = rw h
 
@@ -151,7 +150,7 @@ module _ (version : ℕ) (b : Battery) where
   unfolding battery_heat_loss loss_ended outcome_of
   loss_end = refl
 
-  demand_ended_lem : (n : ℕ) (f : Fault) → ((e : End) → e ≡ fault_end f → end_refusal e ≡ n) → (d : Demand) → DemandFaulted f b d → DemandWhy n b d
+  demand_ended_lem : (n : ℕ) (f : Option Fault) → ((e : End) → e ≡ fault_end f → end_refusal e ≡ n) → (d : Demand) → DemandFaulted f b d → DemandWhy n b d
   demand_ended_lem n f number d w =
       record { asked = w.asked; feed = w.feed; given = w.given; why = inl (number _ (demand_end_lem d w.feed ∙ w.ended)) }
 
@@ -166,7 +165,7 @@ module _ (version : ℕ) (b : Battery) where
   budget_why (ChargeEnergyDemand most target) w = absurd w
 
   pub logarithm_why : (call : Call) → NoLogarithmTaken b call → Why 24 version b call
-  logarithm_why (DemandEnergy d) w = inr (demand_ended_lem 24 Logarithm logarithm_24 d w)
+  logarithm_why (DemandEnergy d) w = inr (demand_ended_lem 24 (Some Logarithm) logarithm_24 d w)
   logarithm_why (ChargeElectric power target) w = absurd w
   logarithm_why (ChargeHydronic h) w = inl (logarithm_24 _ (hydronic_end_lem h ∙ w.ended))
   logarithm_why HeatLoss w = absurd w
@@ -175,12 +174,12 @@ module _ (version : ℕ) (b : Battery) where
   logarithm_why (ChargeEnergyDemand most target) w = absurd w
 
   -- a run's own substep, or its answer
-  run_23 : {A : Type 0} (end : End) (a : Answer) → (A → end ≡ fault_end NotFinite) → A ⊎ AnswerNotFinite end a → RunWhy 23 end a
+  run_23 : {A : Type 0} (end : End) (a : Answer) → (A → end ≡ fault_end (Some NotFinite)) → A ⊎ AnswerNotFinite end a → RunWhy 23 end a
   run_23 end a f (inl w) = inl (not_finite_23 end (f w))
   run_23 end a f (inr w) = inr (refl, w)
 
   pub not_finite_why : (call : Call) → NotFiniteFound version b call → Why 23 version b call
-  not_finite_why (DemandEnergy d) (inl w) = inr (demand_ended_lem 23 NotFinite not_finite_23 d w)
+  not_finite_why (DemandEnergy d) (inl w) = inr (demand_ended_lem 23 (Some NotFinite) not_finite_23 d w)
   not_finite_why (DemandEnergy d) (inr (inl w)) = inr (record { asked = w.asked; feed = w.feed; given = w.given; why = inr (refl, w.answer) })
   not_finite_why (DemandEnergy d) (inr (inr w)) = inl (refl, w)
   not_finite_why (ChargeElectric power target) w = run_23 _ _ (λ s. electric_end power target ∙ ap fault_end s.fault) w

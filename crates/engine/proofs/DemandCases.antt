@@ -1,4 +1,5 @@
 -- 20 and 21 are given by a demand exactly in their cases; every other refusal of a step is from 22 on.
+use Rattle.std.specs.Prelude.{None, Option, Some}
 use mathlib.Core.Path.{◌≡◌, refl, sym, ◌∙◌}
 use mathlib.Core.Logic.{◌⊎◌, inl, inr}
 use mathlib.Core.Bool.{Bool, true, false, cond, ◌&&◌}
@@ -22,8 +23,6 @@ use Rattle.battery.specs.declared.Answer.{Answer}
 use Rattle.battery.specs.declared.Call.{Call}
 use Rattle.battery.specs.declared.Call.TheVariants.{DemandEnergy, ChargeElectric, ChargeHydronic, HeatLoss, CloseTimestep, ReadStateOfCharge, ChargeEnergyDemand}
 use Rattle.battery.specs.declared.Demand.{Demand}
-use Rattle.battery.specs.declared.Given.{Given}
-use Rattle.battery.specs.declared.Given.TheVariants.{Absent, Value}
 use Rattle.runs.specs.Runs.{end_refusal}
 use Rattle.runs.specs.Charge.{charge_battery, battery_heat_loss, charge_energy_demand}
 use Rattle.engine_replies.specs.Classes.{service_class, unserved}
@@ -35,8 +34,6 @@ use Rattle.runs.specs.Zoned.{Zoned}
 use Rattle.runs.specs.declared.Stopped.{Stopped}
 use Rattle.runs.specs.declared.Source.{Source}
 use Rattle.runs.specs.declared.Source.TheVariants.{Electric}
-use Rattle.zone.specs.declared.StateOfCharge.{StateOfCharge}
-use Rattle.zone.specs.declared.StateOfCharge.TheVariants.{Level as Charged, Above}
 
 -- ---- 0, or from 22 on
 
@@ -86,30 +83,30 @@ module _ (b : Battery) where
   unfolding plain_answer
   plain_late c energy = checked_late b (plain_answer energy c) refl
 
-  pub level_late : (s : StateOfCharge) → Late (read_level b s).refusal
+  pub level_late : (s : Option Float) → Late (read_level b s).refusal
   unfolding read_level refused_with
-  level_late Above = inr (omega arith)
-  level_late (Charged soc) = plain_late b soc
+  level_late None = inr (omega arith)
+  level_late (Some soc) = plain_late b soc
 
-  pub to_level_late : (most : Given) (target : Float) (s : StateOfCharge) → Late (demand_to_level b most target s).refusal
+  pub to_level_late : (most : Option Float) (target : Float) (s : Option Float) → Late (demand_to_level b most target s).refusal
   unfolding demand_to_level refused_with
-  to_level_late most target Above = inr (omega arith)
-  to_level_late most target (Charged soc) = plain_late b (charge_energy_demand b.card most target soc).0
+  to_level_late most target None = inr (omega arith)
+  to_level_late most target (Some soc) = plain_late b (charge_energy_demand b.card most target soc).0
 
 -- ---- a demand
 
 -- which way a demand goes
 pub data DemandWay (b : Battery) (d : Demand) (r : ℕ) : Type 0 where
   late : Late r → DemandWay b d r
-  twenty : le d.required tolerance ≡ false → d.feed ≡ Absent → r ≡ 20 → DemandWay b d r
-  twenty_one : le d.required tolerance ≡ false → (feed : Float) → d.feed ≡ Value feed → d.commit ≡ true → unserved (service_class b.card d.service) ≡ true → r ≡ 21
+  twenty : le d.required tolerance ≡ false → d.feed ≡ None → r ≡ 20 → DemandWay b d r
+  twenty_one : le d.required tolerance ≡ false → (feed : Float) → d.feed ≡ Some feed → d.commit ≡ true → unserved (service_class b.card d.service) ≡ true → r ≡ 21
       → DemandWay b d r
 
 module _ (b : Battery) (d : Demand) where
   abbrev combi : Bool
   combi = unserved (service_class b.card d.service)
 
-  from_way : le d.required tolerance ≡ false → (feed : Float) → d.feed ≡ Value feed → DemandWay b d (demand_from b d feed).refusal
+  from_way : le d.required tolerance ≡ false → (feed : Float) → d.feed ≡ Some feed → DemandWay b d (demand_from b d feed).refusal
   unfolding demand_from demand_answer
   from_way h feed e = on (d.commit && combi) refl
     where
@@ -120,10 +117,10 @@ module _ (b : Battery) (d : Demand) where
       on true k = let p = and_true d.commit combi k in unfold refused_with in twenty_one h feed e p.0 p.1 refl
       on false k = late (run_late b (demand_answer b d r) (unfold demand_answer in refl) r.part.end)
 
-  given_way : le d.required tolerance ≡ false → (g : Given) → d.feed ≡ g → DemandWay b d (demand_given b d g).refusal
+  given_way : le d.required tolerance ≡ false → (g : Option Float) → d.feed ≡ g → DemandWay b d (demand_given b d g).refusal
   unfolding demand_given refused_with
-  given_way h Absent e = twenty h e refl
-  given_way h (Value feed) e = from_way h feed e
+  given_way h None e = twenty h e refl
+  given_way h (Some feed) e = from_way h feed e
 
   pub demand_way : DemandWay b d (demand_energy b d).refusal
   unfolding demand_energy
@@ -133,11 +130,11 @@ module _ (b : Battery) (d : Demand) where
       on true h = late (plain_late b b zero)
       on false h = given_way h d.feed refl
 
-  pub demand_20 : le d.required tolerance ≡ false → d.feed ≡ Absent → (demand_energy b d).refusal ≡ 20
+  pub demand_20 : le d.required tolerance ≡ false → d.feed ≡ None → (demand_energy b d).refusal ≡ 20
   unfolding demand_energy demand_given refused_with
   demand_20 h e = rw (h, e)
 
-  pub demand_21 : le d.required tolerance ≡ false → (feed : Float) → d.feed ≡ Value feed → d.commit ≡ true → combi ≡ true → (demand_energy b d).refusal ≡ 21
+  pub demand_21 : le d.required tolerance ≡ false → (feed : Float) → d.feed ≡ Some feed → d.commit ≡ true → combi ≡ true → (demand_energy b d).refusal ≡ 21
   unfolding demand_energy demand_given demand_from refused_with
   demand_21 h feed e k s = rw (h, e, true_and k s)
 

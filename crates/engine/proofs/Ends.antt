@@ -1,5 +1,6 @@
 -- The runs to their ends: the places above the count stay, the substeps are within the budget, and a run ends for the budget's sake
 -- only with the budget used and another substep due.
+use Rattle.std.specs.Prelude.{Some}
 use mathlib.Core.Path.{◌≡◌, refl, sym, ◌∙◌, ap, subst}
 use mathlib.Core.Logic.{inl, inr}
 use Prim.Native.Nat.{ℕ, suc, ◌≤◌, ◌+◌}
@@ -14,7 +15,6 @@ use Rattle.runs.specs.declared.HydronicTask.{HydronicTask}
 use Rattle.runs.specs.declared.HydronicState.{HydronicState}
 use Rattle.runs.specs.declared.End.{End}
 use Rattle.runs.specs.declared.End.TheVariants.{OverBudget}
-use Rattle.runs.specs.declared.Next.TheVariants.{Stop}
 use Rattle.run_demand.specs.Demand.{demand_run}
 use Rattle.runs.specs.Hydronic.{hydronic_state, hydronic_end, hydronic_run, hydronic_step}
 use Rattle.runs.proofs.Runs.{on_counts}
@@ -44,7 +44,7 @@ module _ (x : DemandTask) (salts : ℕ → Salt) where
       demand_induction x salts (λ k n s d. d.part.end ≡ OverBudget → DemandOver (n + k) d.part)
       (λ k n s h. never (cc))
       (λ n s p h. record { ended = refl; used = omega arith; due = p })
-      (λ k n s e p h. absurd ((demand_keeps x salts s).within (p ∙ ap Stop h)))
+      (λ k n s e p h. absurd ((demand_keeps x salts s).within (p ∙ ap Some h)))
       (λ k n s d p r h. let q = r h in let u = q.used in record { ended = h; used = omega arith; due = q.due })
 
 module _ (x : HydronicTask) (salts : ℕ → Salt) where
@@ -65,7 +65,7 @@ module _ (x : HydronicTask) (salts : ℕ → Salt) where
       (λ k n s d q h r l. r ((hydronic_keeps x salts n s).count (omega arith)))
 
   last_turn :
-      (steps n : ℕ) (s : Zoned HydronicState) (e : End) → (hydronic_step x salts n s).part.next ≡ Stop OverBudget → e ≡ OverBudget →
+      (steps n : ℕ) (s : Zoned HydronicState) (e : End) → (hydronic_step x salts n s).part.next ≡ Some OverBudget → e ≡ OverBudget →
       HydronicOver x salts steps (hydronic_end (on_part hydronic_state (hydronic_step x salts n s)) e (hydronic_step x salts n s).part.substeps)
   last_turn steps n s e p h =
       let k = hydronic_keeps x salts n s in
@@ -76,7 +76,7 @@ module _ (x : HydronicTask) (salts : ℕ → Salt) where
       hydronic_induction x salts (λ k n s d. d.part.end ≡ OverBudget → HydronicOver x salts (n + k) d)
       (λ n s h. never (cc))
       (λ k n s p h. record { ended = refl; used = p; due = inl (omega arith) })
-      (λ k n s e q p h. last_turn (n + suc k) n s e (p ∙ ap Stop h) h)
+      (λ k n s e q p h. last_turn (n + suc k) n s e (p ∙ ap Some h) h)
       (λ k n s d q p r h.
       let m = on_counts x salts n s p in
       let t : (hydronic_step x salts n s).part.substeps + k ≡ n + suc k = omega arith in

@@ -1,4 +1,5 @@
 -- The zones that a run leaves are finite where it started from finite ones and answers: each of its substeps tested its own.
+use Rattle.std.specs.Prelude.{None, Option, Some}
 use mathlib.Core.Path.{◌≡◌, refl, ◌∙◌, ap}
 use mathlib.Core.Bool.{true}
 use mathlib.Core.List.{List}
@@ -9,8 +10,6 @@ use lib.Ieee.{Float, lt, neg}
 use lib.Ieee.Bits.{is_true}
 use Rattle.floats.specs.F64.{◌⊕◌}
 use Rattle.floats.specs.Constants as Constants
-use Rattle.floats.specs.declared.Log.{Log}
-use Rattle.floats.specs.declared.Log.TheVariants.{Value, Refused}
 use Rattle.logic.proofs.Branch.{by_test}
 use Rattle.zone.specs.declared.Salt.{Salt}
 use Rattle.zone.specs.Heat.{kj}
@@ -29,7 +28,7 @@ use Rattle.substep.specs.declared.SubstepInput.{SubstepInput}
 use Rattle.substep.specs.Progress.{Progress}
 use Rattle.substep.specs.declared.Substep.{Substep}
 use Rattle.substep.specs.declared.Fault.{Fault}
-use Rattle.substep.specs.declared.Fault.TheVariants.{Nothing, Logarithm, NotFinite}
+use Rattle.substep.specs.declared.Fault.TheVariants.{Logarithm, NotFinite}
 use Rattle.run_demand.specs.declared.DemandTask.{DemandTask}
 use Rattle.run_demand.specs.declared.DemandTurn.{DemandTurn}
 use Rattle.run_demand.specs.declared.DemandState.{DemandState}
@@ -59,29 +58,29 @@ Finite n zones = zones_finite zones n ≡ true
 
 -- one substep without a fault
 
-progress_tested : (c : Card) (p : Progress) (sum : Kilojoules) → progress_fault c p sum ≡ Nothing → Finite c.layers p.zones
+progress_tested : (c : Card) (p : Progress) (sum : Kilojoules) → progress_fault c p sum ≡ None → Finite c.layers p.zones
 unfolding progress_fault progress_finite
 progress_tested c p sum =
-    by_test (λ (f : Fault). f ≡ Nothing → Finite c.layers p.zones) (progress_finite c p sum) Nothing NotFinite
+    by_test (λ (f : Option Fault). f ≡ None → Finite c.layers p.zones) (progress_finite c p sum) None (Some NotFinite)
     (λ t h. (and_true (zones_finite p.zones c.layers) _ (is_true (progress_finite c p sum) t)).0)
     (λ t h. never (cc))
 
 module _ (c : Card) (pcm : HeatBatteryPcm) (salts : ℕ → Salt) (d : SubstepInput) (zones : List Float) where
-  transfer_tested : (l : Log) → (with_transfer c pcm salts d zones l).fault ≡ Nothing → Finite c.layers (with_transfer c pcm salts d zones l).zones
+  transfer_tested : (l : Option Float) → (with_transfer c pcm salts d zones l).fault ≡ None → Finite c.layers (with_transfer c pcm salts d zones l).zones
   unfolding with_transfer without_logarithm substep_from
-  transfer_tested Refused h = never (cc)
-  transfer_tested (Value u) h = progress_tested c _ _ h
+  transfer_tested None h = never (cc)
+  transfer_tested (Some u) h = progress_tested c _ _ h
 
-  pub substep_finite : (process_heat_battery_zones c pcm salts d zones).fault ≡ Nothing → Finite c.layers (process_heat_battery_zones c pcm salts d zones).zones
+  pub substep_finite : (process_heat_battery_zones c pcm salts d zones).fault ≡ None → Finite c.layers (process_heat_battery_zones c pcm salts d zones).zones
   unfolding process_heat_battery_zones
   substep_finite h = transfer_tested (zone_transfer d.mode c d) h
 
 -- an end that a substep's fault makes answers only where there is none
-answers_faultless : (f : Fault) → end_refusal (fault_end f) ≡ 0 → f ≡ Nothing
+answers_faultless : (f : Option Fault) → end_refusal (fault_end f) ≡ 0 → f ≡ None
 unfolding end_refusal fault_end
-answers_faultless Nothing h = refl
-answers_faultless Logarithm h = absurd (omega arith)
-answers_faultless NotFinite h = absurd (omega arith)
+answers_faultless None h = refl
+answers_faultless (Some Logarithm) h = absurd (omega arith)
+answers_faultless (Some NotFinite) h = absurd (omega arith)
 
 -- one turn of a demand: its zones are the substep's, or those before it
 
@@ -89,11 +88,11 @@ module _ (x : DemandTask) (salts : ℕ → Salt) (s : Zoned DemandState) (h : Fi
   abbrev DemandFinite : Zoned DemandTurn → Type 0
   DemandFinite t = Finite x.card.layers t.zones
 
-  demand_by_finite : (u : Substep) → (u.fault ≡ Nothing → Finite x.card.layers u.zones) → (f : Fault) → u.fault ≡ f → DemandFinite (demand_by x s (outcome u) f)
+  demand_by_finite : (u : Substep) → (u.fault ≡ None → Finite x.card.layers u.zones) → (f : Option Fault) → u.fault ≡ f → DemandFinite (demand_by x s (outcome u) f)
   unfolding demand_by
-  demand_by_finite u g Nothing e = g e
-  demand_by_finite u g Logarithm e = h
-  demand_by_finite u g NotFinite e = h
+  demand_by_finite u g None e = g e
+  demand_by_finite u g (Some Logarithm) e = h
+  demand_by_finite u g (Some NotFinite) e = h
 
   demand_turn_finite : DemandFinite (demand_substep x salts s)
   unfolding demand_substep outcome_of
@@ -115,12 +114,12 @@ module _ (x : HydronicTask) (salts : ℕ → Salt) (n : ℕ) (s : Zoned Hydronic
   WetFinite t = Finite x.card.layers t.zones
 
   replay_by_finite :
-      (m : ℕ) (seconds reynold : Float) (u : Substep) → (u.fault ≡ Nothing → Finite x.card.layers u.zones) → (f : Fault) → u.fault ≡ f →
+      (m : ℕ) (seconds reynold : Float) (u : Substep) → (u.fault ≡ None → Finite x.card.layers u.zones) → (f : Option Fault) → u.fault ≡ f →
       WetFinite (replay_by x m s seconds reynold (outcome u) f)
   unfolding replay_by
-  replay_by_finite m seconds reynold u g Nothing e = g e
-  replay_by_finite m seconds reynold u g Logarithm e = h
-  replay_by_finite m seconds reynold u g NotFinite e = h
+  replay_by_finite m seconds reynold u g None e = g e
+  replay_by_finite m seconds reynold u g (Some Logarithm) e = h
+  replay_by_finite m seconds reynold u g (Some NotFinite) e = h
 
   replay_finite : (seconds reynold : Float) → WetFinite (replayed x salts n s seconds reynold)
   unfolding replayed outcome_of
@@ -142,11 +141,11 @@ module _ (x : HydronicTask) (salts : ℕ → Salt) (n : ℕ) (s : Zoned Hydronic
       (λ b. g))
       (λ a. g)
 
-  hydronic_by_finite : (u : Substep) → (u.fault ≡ Nothing → Finite x.card.layers u.zones) → (f : Fault) → u.fault ≡ f → WetFinite (hydronic_by x salts n s (outcome u) f)
+  hydronic_by_finite : (u : Substep) → (u.fault ≡ None → Finite x.card.layers u.zones) → (f : Option Fault) → u.fault ≡ f → WetFinite (hydronic_by x salts n s (outcome u) f)
   unfolding hydronic_by
-  hydronic_by_finite u g Nothing e = whole_finite u (g e)
-  hydronic_by_finite u g Logarithm e = h
-  hydronic_by_finite u g NotFinite e = h
+  hydronic_by_finite u g None e = whole_finite u (g e)
+  hydronic_by_finite u g (Some Logarithm) e = h
+  hydronic_by_finite u g (Some NotFinite) e = h
 
 hydronic_turn_finite :
     (x : HydronicTask) (salts : ℕ → Salt) (n : ℕ) (s : Zoned HydronicState) → Finite x.card.layers s.zones → Finite x.card.layers (hydronic_step x salts n s).zones

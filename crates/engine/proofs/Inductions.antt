@@ -1,4 +1,5 @@
 -- What holds of each way out of a run, and is carried back over a turn, holds of the run.
+use Rattle.std.specs.Prelude.{None, Option, Some}
 use mathlib.Core.Path.{◌≡◌, refl}
 use Prim.Native.Nat.{ℕ, zero, suc, ◌+◌}
 use borrow.Author.Tests.{eqb-false}
@@ -15,8 +16,6 @@ use Rattle.runs.specs.declared.HydronicState.{HydronicState}
 use Rattle.runs.specs.declared.HydronicEnd.{HydronicEnd}
 use Rattle.runs.specs.declared.End.{End}
 use Rattle.runs.specs.declared.End.TheVariants.{NoStep, OverBudget, Time}
-use Rattle.runs.specs.declared.Next.{Next}
-use Rattle.runs.specs.declared.Next.TheVariants.{On, Stop}
 use Rattle.run_demand.specs.Demand.{turn_state, demand_end, demand_then, demand_run, demand_substep}
 use Rattle.runs.specs.Hydronic.{hydronic_state, hydronic_end, hydronic_then, hydronic_run, hydronic_step}
 use Rattle.runs.specs.Zoned.{Zoned, on_part}
@@ -26,13 +25,13 @@ module _
     (x : DemandTask) (salts : ℕ → Salt) (P : ℕ → ℕ → Zoned DemandState → Zoned DemandEnd → Type 0)
     (no_step : (k n : ℕ) (s : Zoned DemandState) → P k n s (demand_end s NoStep n))
     (over : (n : ℕ) (s : Zoned DemandState) → T (lt Constants.zero s.part.step) → P zero n s (demand_end s OverBudget n))
-    (stop : (k n : ℕ) (s : Zoned DemandState) (e : End) → (demand_substep x salts s).part.next ≡ Stop e → P (suc k) n s (demand_end (on_part turn_state (demand_substep x salts s)) e (n + 1)))
-    (on : (k n : ℕ) (s : Zoned DemandState) (d : Zoned DemandEnd) → (demand_substep x salts s).part.next ≡ On → P k (n + 1) (on_part turn_state (demand_substep x salts s)) d → P (suc k) n s d) where
+    (stop : (k n : ℕ) (s : Zoned DemandState) (e : End) → (demand_substep x salts s).part.next ≡ Some e → P (suc k) n s (demand_end (on_part turn_state (demand_substep x salts s)) e (n + 1)))
+    (on : (k n : ℕ) (s : Zoned DemandState) (d : Zoned DemandEnd) → (demand_substep x salts s).part.next ≡ None → P k (n + 1) (on_part turn_state (demand_substep x salts s)) d → P (suc k) n s d) where
   demand_turned :
       (k n : ℕ) (s : Zoned DemandState) → P k (n + 1) (on_part turn_state (demand_substep x salts s)) (demand_run x salts k (n + 1) (on_part turn_state (demand_substep x salts s))) →
-      (e : Next) → (demand_substep x salts s).part.next ≡ e → P (suc k) n s (demand_then (demand_run x salts k (n + 1)) (n + 1) (on_part turn_state (demand_substep x salts s)) e)
-  demand_turned k n s r On h = on k n s _ h r
-  demand_turned k n s r (Stop e) h = stop k n s e h
+      (e : Option End) → (demand_substep x salts s).part.next ≡ e → P (suc k) n s (demand_then (demand_run x salts k (n + 1)) (n + 1) (on_part turn_state (demand_substep x salts s)) e)
+  demand_turned k n s r None h = on k n s _ h r
+  demand_turned k n s r (Some e) h = stop k n s e h
 
   pub demand_induction : (k n : ℕ) (s : Zoned DemandState) → P k n s (demand_run x salts k n s)
   unfolding demand_run
@@ -47,16 +46,16 @@ module _
     (x : HydronicTask) (salts : ℕ → Salt) (P : ℕ → ℕ → Zoned HydronicState → Zoned HydronicEnd → Type 0)
     (time : (n : ℕ) (s : Zoned HydronicState) → P zero n s (hydronic_end s Time n))
     (over : (k n : ℕ) (s : Zoned HydronicState) → n ≡ x.card.budget → P (suc k) n s (hydronic_end s OverBudget n))
-    (stop : (k n : ℕ) (s : Zoned HydronicState) (e : End) → (n ≡ x.card.budget → ⊥) → (hydronic_step x salts n s).part.next ≡ Stop e →
+    (stop : (k n : ℕ) (s : Zoned HydronicState) (e : End) → (n ≡ x.card.budget → ⊥) → (hydronic_step x salts n s).part.next ≡ Some e →
     P (suc k) n s (hydronic_end (on_part hydronic_state (hydronic_step x salts n s)) e (hydronic_step x salts n s).part.substeps))
-    (on : (k n : ℕ) (s : Zoned HydronicState) (d : Zoned HydronicEnd) → (n ≡ x.card.budget → ⊥) → (hydronic_step x salts n s).part.next ≡ On →
+    (on : (k n : ℕ) (s : Zoned HydronicState) (d : Zoned HydronicEnd) → (n ≡ x.card.budget → ⊥) → (hydronic_step x salts n s).part.next ≡ None →
     P k (hydronic_step x salts n s).part.substeps (on_part hydronic_state (hydronic_step x salts n s)) d → P (suc k) n s d) where
   hydronic_turned :
       (k n : ℕ) (s : Zoned HydronicState) → (n ≡ x.card.budget → ⊥) →
       P k (hydronic_step x salts n s).part.substeps (on_part hydronic_state (hydronic_step x salts n s)) (hydronic_run x salts k (hydronic_step x salts n s).part.substeps (on_part hydronic_state (hydronic_step x salts n s))) →
-      (e : Next) → (hydronic_step x salts n s).part.next ≡ e → P (suc k) n s (hydronic_then (hydronic_run x salts k) (on_part hydronic_state (hydronic_step x salts n s)) e (hydronic_step x salts n s).part.substeps)
-  hydronic_turned k n s q r On h = on k n s _ q h r
-  hydronic_turned k n s q r (Stop e) h = stop k n s e q h
+      (e : Option End) → (hydronic_step x salts n s).part.next ≡ e → P (suc k) n s (hydronic_then (hydronic_run x salts k) (on_part hydronic_state (hydronic_step x salts n s)) e (hydronic_step x salts n s).part.substeps)
+  hydronic_turned k n s q r None h = on k n s _ q h r
+  hydronic_turned k n s q r (Some e) h = stop k n s e q h
 
   pub hydronic_induction : (k n : ℕ) (s : Zoned HydronicState) → P k n s (hydronic_run x salts k n s)
   unfolding hydronic_run

@@ -1,4 +1,5 @@
 -- 24 only where the logarithm of a demand's or hydronic substep refuses its argument.
+use Rattle.std.specs.Prelude.{Some, Option, None}
 use mathlib.Core.Path.{◌≡◌, refl, sym, ◌∙◌, ap}
 use mathlib.Core.Bool.{false}
 use mathlib.Core.Logic.{inl, inr}
@@ -11,7 +12,6 @@ use Rattle.zone.specs.Layer.{salt_at}
 use Rattle.card.specs.Derived.{salts_of, derived}
 use Rattle.battery.specs.Ledger.{ledger_of}
 use Rattle.battery.specs.declared.Battery.{Battery}
-use Rattle.battery.specs.declared.Given.TheVariants.{Value}
 use Rattle.battery.specs.declared.Demand.{Demand}
 use Rattle.battery.specs.declared.Hydronic.{Hydronic}
 use Rattle.battery.specs.declared.Answer.{Answer}
@@ -19,17 +19,17 @@ use Rattle.battery.specs.declared.Call.{Call}
 use Rattle.battery.specs.declared.Call.TheVariants.{DemandEnergy, ChargeElectric, ChargeHydronic, HeatLoss, CloseTimestep, ReadStateOfCharge, ChargeEnergyDemand}
 use Rattle.substep.specs.Substep.{outcome_of}
 use Rattle.substep.specs.declared.Fault.{Fault}
-use Rattle.substep.specs.declared.Fault.TheVariants.{Nothing, Logarithm, NotFinite}
+use Rattle.substep.specs.declared.Fault.TheVariants.{Logarithm, NotFinite}
 use Rattle.runs.specs.Runs.{fault_end, end_refusal}
 use Rattle.run_demand.specs.Demand.{end_state, demand_input, demand_ended}
 use Rattle.runs.specs.Hydronic.{hydronic_ended, whole_substeps}
-use Rattle.runs.specs.Charge.{electric_input, electric_ended, charge_electric, hydronic_start, charge_hydronic, charge_battery, loss_input, loss_ended, battery_heat_loss}
+use Rattle.runs.specs.Charge.{electric_input, electric_ended, charge_electric, hydronic_start, charge_hydronic, charge_battery, loss_input, loss_ended, battery_heat_loss, wet_of}
 use Rattle.runs.specs.declared.End.{End}
 use Rattle.runs.specs.declared.End.TheVariants.{Done, Negative, Met, NoStep, Level, Limit, Time, OverBudget, NoLogarithm, NotFiniteRun}
 use Rattle.runs.specs.declared.Source.TheVariants.{Electric}
 use Rattle.engine_replies.specs.Replies.{demand_start}
 use Rattle.runs.specs.Zoned.{zoned, on_part}
-use Rattle.engine.specs.Steps.{demand_run_of, demand_ran, demand_task, wet_source, step_of, wet_of}
+use Rattle.engine.specs.Steps.{demand_run_of, demand_ran, demand_task, wet_source, step_of}
 use Rattle.engine.specs.Budget.{hydronic_task_of, hydronic_run_of}
 use Rattle.engine.specs.Faults.{DemandFaulted, HydronicFaulted, NoLogarithmTaken}
 use Rattle.engine.proofs.Turns.{never}
@@ -37,7 +37,7 @@ use Rattle.engine.proofs.Faulty.{logarithm_only, substep_fault, demand_from_run,
 use Rattle.engine.proofs.Refused.{RunWhy, LevelWhy, Why, refused_why}
 
 -- the ends of the two faults, by their numbers
-pub end_fault_24 : (e : End) → end_refusal e ≡ 24 → end_fault e ≡ Logarithm
+pub end_fault_24 : (e : End) → end_refusal e ≡ 24 → end_fault e ≡ Some Logarithm
 unfolding end_refusal
 end_fault_24 Done h = absurd (omega arith)
 end_fault_24 Negative h = absurd (omega arith)
@@ -50,7 +50,7 @@ end_fault_24 OverBudget h = absurd (omega arith)
 end_fault_24 NoLogarithm h = refl
 end_fault_24 NotFiniteRun h = absurd (omega arith)
 
-pub end_fault_23 : (e : End) → end_refusal e ≡ 23 → end_fault e ≡ NotFinite
+pub end_fault_23 : (e : End) → end_refusal e ≡ 23 → end_fault e ≡ Some NotFinite
 unfolding end_refusal
 end_fault_23 Done h = absurd (omega arith)
 end_fault_23 Negative h = absurd (omega arith)
@@ -63,14 +63,14 @@ end_fault_23 OverBudget h = absurd (omega arith)
 end_fault_23 NoLogarithm h = absurd (omega arith)
 end_fault_23 NotFiniteRun h = refl
 
-pub fault_of_end : (f : Fault) → end_fault (fault_end f) ≡ f
+pub fault_of_end : (f : Option Fault) → end_fault (fault_end f) ≡ f
 unfolding fault_end
-fault_of_end Nothing = refl
-fault_of_end Logarithm = refl
-fault_of_end NotFinite = refl
+fault_of_end None = refl
+fault_of_end (Some Logarithm) = refl
+fault_of_end (Some NotFinite) = refl
 
 -- a run that ended for the fault f
-module _ (f : Fault) (some : f ≡ Nothing → ⊥) where
+module _ (f : Option Fault) (some : f ≡ None → ⊥) where
   end_of_fault : (e : End) → end_fault e ≡ f → e ≡ fault_end f
   unfolding fault_end
   end_of_fault Done h = absurd (some (sym h))
@@ -96,7 +96,7 @@ module _ (f : Fault) (some : f ≡ Nothing → ⊥) where
   demand_ended_lem b d feed h = end_of_fault (demand_run_of b d feed).part.end h
 
   pub demand_faults :
-      (b : Battery) (d : Demand) → le d.required tolerance ≡ false → (feed : Float) → d.feed ≡ Value feed →
+      (b : Battery) (d : Demand) → le d.required tolerance ≡ false → (feed : Float) → d.feed ≡ Some feed →
       end_fault (demand_ran b d feed).part.end ≡ f → DemandFaulted f b d
   unfolding demand_task
   demand_faults b d asked feed given h =
@@ -118,7 +118,7 @@ module _ (f : Fault) (some : f ≡ Nothing → ⊥) where
         fault = rw e at (hydronic_run_faults x (salt_at (salts_of b.card)) (whole_substeps x) 0 (zoned (hydronic_start b.card (wet_of h)) b.zones) (λ z. some (sym e ∙ z)));
       }
 
-pub some_logarithm : Logarithm ≡ Nothing → ⊥
+pub some_logarithm : (Some Logarithm) ≡ None → ⊥
 some_logarithm h = never (cc)
 
 -- kinds 2 and 4 take none
@@ -128,27 +128,27 @@ modes_apart h = never (cc)
 losses_apart : Losses ≡ Normal → ⊥
 losses_apart h = never (cc)
 
-run_24 : (end : End) (a : Answer) → RunWhy 24 end a → end_fault end ≡ Logarithm
+run_24 : (end : End) (a : Answer) → RunWhy 24 end a → end_fault end ≡ Some Logarithm
 run_24 end a (inl h) = end_fault_24 end h
 run_24 end a (inr w) = let n = w.0 in absurd (omega arith)
 
-demand_24 : (version : ℕ) (b : Battery) (d : Demand) → Why 24 version b (DemandEnergy d) → DemandFaulted Logarithm b d
+demand_24 : (version : ℕ) (b : Battery) (d : Demand) → Why 24 version b (DemandEnergy d) → DemandFaulted (Some Logarithm) b d
 demand_24 version b d (inl w) = let n = w.0 in absurd (omega arith)
 demand_24 version b d (inr w) =
-    demand_faults Logarithm some_logarithm b d w.asked w.feed w.given (run_24 _ _ w.why)
+    demand_faults (Some Logarithm) some_logarithm b d w.asked w.feed w.given (run_24 _ _ w.why)
 
 level_24 : (b : Battery) (energy : Float → Float) → LevelWhy 24 b energy → ⊥
 level_24 b energy (inl w) = let n = w.0 in omega arith
 level_24 b energy (inr w) = let n = w.0 in omega arith
 
 module _ (b : Battery) where
-  electric_24 : (power target : Float) → end_fault (charge_battery b (Electric power) target).part.end ≡ Logarithm → ⊥
+  electric_24 : (power target : Float) → end_fault (charge_battery b (Electric power) target).part.end ≡ Some Logarithm → ⊥
   unfolding charge_battery charge_electric electric_ended electric_input outcome_of
   electric_24 power target h =
       let m = (logarithm_only b.card (derived b.card) (salt_at (salts_of b.card)) (electric_input (ledger_of b) power target) b.zones (sym (fault_of_end _) ∙ h)).normal in
       modes_apart m
 
-  loss_24 : end_fault (battery_heat_loss b).part.end ≡ Logarithm → ⊥
+  loss_24 : end_fault (battery_heat_loss b).part.end ≡ Some Logarithm → ⊥
   unfolding battery_heat_loss loss_ended loss_input outcome_of
   loss_24 h =
       let m = (logarithm_only b.card (derived b.card) (salt_at (salts_of b.card)) (loss_input b.card) b.zones (sym (fault_of_end _) ∙ h)).normal in
@@ -157,7 +157,7 @@ module _ (b : Battery) where
 why_24 : (version : ℕ) (b : Battery) (call : Call) → Why 24 version b call → NoLogarithmTaken b call
 why_24 version b (DemandEnergy d) w = demand_24 version b d w
 why_24 version b (ChargeElectric power target) w = electric_24 b power target (run_24 _ _ w)
-why_24 version b (ChargeHydronic h) w = hydronic_faults Logarithm some_logarithm b h (run_24 _ _ w)
+why_24 version b (ChargeHydronic h) w = hydronic_faults (Some Logarithm) some_logarithm b h (run_24 _ _ w)
 why_24 version b HeatLoss w = loss_24 b (run_24 _ _ w)
 why_24 version b CloseTimestep w = let n = w.0 in omega arith
 why_24 version b ReadStateOfCharge w = level_24 b _ w

@@ -1,4 +1,5 @@
 -- 22 only where the count equals the budget and another substep is due.
+use Rattle.std.specs.Prelude.{None, Option, Some}
 use mathlib.Core.Path.{◌≡◌, refl, sym, ◌∙◌}
 use mathlib.Core.Bool.{false, ◌&&◌}
 use Prim.Native.Nat.{ℕ}
@@ -9,17 +10,13 @@ use lib.Ieee.{Float, le}
 use Rattle.floats.specs.Constants as Constants
 use Rattle.floats.specs.Constants.{tolerance}
 use Rattle.logic.proofs.Branch.{by_test}
-use Rattle.zone.specs.declared.StateOfCharge.{StateOfCharge}
-use Rattle.zone.specs.declared.StateOfCharge.TheVariants.{Level, Above}
 use Rattle.zone.specs.Layer.{salt_at}
 use Rattle.card.specs.Derived.{salts_of}
 use Rattle.substep.specs.declared.Fault.{Fault}
-use Rattle.substep.specs.declared.Fault.TheVariants.{Nothing, Logarithm, NotFinite}
+use Rattle.substep.specs.declared.Fault.TheVariants.{Logarithm, NotFinite}
 use Rattle.battery.specs.Answer.{refused_with, plain_answer, answer_finite}
 use Rattle.battery.specs.Ledger.{ledger_of}
 use Rattle.battery.specs.declared.Battery.{Battery}
-use Rattle.battery.specs.declared.Given.{Given}
-use Rattle.battery.specs.declared.Given.TheVariants.{Absent, Value}
 use Rattle.battery.specs.declared.Demand.{Demand}
 use Rattle.battery.specs.declared.Hydronic.{Hydronic}
 use Rattle.battery.specs.declared.Answer.{Answer}
@@ -30,11 +27,11 @@ use Rattle.runs.specs.declared.End.{End}
 use Rattle.runs.specs.Runs.{fault_end, end_refusal}
 use Rattle.run_demand.specs.Demand.{demand_ended}
 use Rattle.runs.specs.Hydronic.{hydronic_ended, whole_substeps}
-use Rattle.runs.specs.Charge.{electric_ended, charge_electric, hydronic_task, hydronic_start, charge_hydronic, charge_battery, loss_ended, battery_heat_loss, charge_energy_demand}
+use Rattle.runs.specs.Charge.{electric_ended, charge_electric, hydronic_task, hydronic_start, charge_hydronic, charge_battery, loss_ended, battery_heat_loss, charge_energy_demand, wet_of}
 use Rattle.engine_replies.specs.Classes.{service_class, unserved}
 use Rattle.engine_replies.specs.Replies.{checked, unless_refused, demand_start, demand_answer, charged_battery, cooled_battery, closed_battery, charged_answer, cooled_answer}
 use Rattle.engine_replies.proofs.Settled.{run_answers, demand_answers}
-use Rattle.engine.specs.Steps.{demand_ran, demand_task, demand_from, demand_given, demand_energy, charge, heat_loss, level, read_level, demand_to_level, wet_source, step_of, wet_of}
+use Rattle.engine.specs.Steps.{demand_ran, demand_task, demand_from, demand_given, demand_energy, charge, heat_loss, level, read_level, demand_to_level, wet_source, step_of}
 use Rattle.runs.specs.declared.Source.TheVariants.{Electric}
 use Rattle.runs.specs.declared.End.TheVariants.{OverBudget}
 use Rattle.runs.specs.Zoned.{zoned}
@@ -58,20 +55,20 @@ run_over b end a z =
     (λ t h. end_over_budget end (sym (refused_number (end_refusal end) b) ∙ h))
 
 -- one substep never uses a budget up
-fault_not_over : (f : Fault) → fault_end f ≡ OverBudget → ⊥
+fault_not_over : (f : Option Fault) → fault_end f ≡ OverBudget → ⊥
 unfolding fault_end
-fault_not_over Nothing h = let z : ◌≡◌ {A = ℕ} 0 1 = cc in omega arith
-fault_not_over Logarithm h = let z : ◌≡◌ {A = ℕ} 0 1 = cc in omega arith
-fault_not_over NotFinite h = let z : ◌≡◌ {A = ℕ} 0 1 = cc in omega arith
+fault_not_over None h = let z : ◌≡◌ {A = ℕ} 0 1 = cc in omega arith
+fault_not_over (Some Logarithm) h = let z : ◌≡◌ {A = ℕ} 0 1 = cc in omega arith
+fault_not_over (Some NotFinite) h = let z : ◌≡◌ {A = ℕ} 0 1 = cc in omega arith
 
 module _ (b : Battery) (d : Demand) (asked : le d.required tolerance ≡ false) where
-  ran : (feed : Float) → d.feed ≡ Value feed → (demand_ran b d feed).part.end ≡ OverBudget → DemandUsed b d
+  ran : (feed : Float) → d.feed ≡ Some feed → (demand_ran b d feed).part.end ≡ OverBudget → DemandUsed b d
   unfolding demand_ended
   ran feed e h =
       let o = demand_run_over (demand_task (ledger_of b) d feed) (salt_at (salts_of b.card)) b.card.budget 0 (zoned (demand_start (ledger_of b)) b.zones) h in
       record { asked = asked; feed = feed; given = e; over = record { ended = o.ended; used = o.used ∙ zero-add b.card.budget; due = o.due } }
 
-  demand_from_lem : (feed : Float) → d.feed ≡ Value feed → (demand_from b d feed).refusal ≡ 22 → DemandUsed b d
+  demand_from_lem : (feed : Float) → d.feed ≡ Some feed → (demand_from b d feed).refusal ≡ 22 → DemandUsed b d
   unfolding demand_from
   demand_from_lem feed e =
       let r = demand_ran b d feed in
@@ -80,10 +77,10 @@ module _ (b : Battery) (d : Demand) (asked : le d.required tolerance ≡ false) 
       (λ t h. absurd (omega arith))
       (λ t h. ran feed e (run_over b r.part.end (demand_answer b d r) (demand_answers b d r) h))
 
-  demand_given_lem : (g : Given) → d.feed ≡ g → (demand_given b d g).refusal ≡ 22 → DemandUsed b d
+  demand_given_lem : (g : Option Float) → d.feed ≡ g → (demand_given b d g).refusal ≡ 22 → DemandUsed b d
   unfolding demand_given
-  demand_given_lem Absent e h = let n = refused_number 20 b in absurd (omega arith)
-  demand_given_lem (Value feed) e h = demand_from_lem feed e h
+  demand_given_lem None e h = let n = refused_number 20 b in absurd (omega arith)
+  demand_given_lem (Some feed) e h = demand_from_lem feed e h
 
 module _ (b : Battery) where
   demand_over : (d : Demand) → (demand_energy b d).refusal ≡ 22 → DemandUsed b d
@@ -113,15 +110,15 @@ module _ (b : Battery) where
       let r = battery_heat_loss b in
       fault_not_over _ (run_over b r.part.end (cooled_answer b r) (run_answers _ r.part (cooled_battery b r)) h)
 
-  level_over : (s : StateOfCharge) → (read_level b s).refusal ≡ 22 → ⊥
+  level_over : (s : Option Float) → (read_level b s).refusal ≡ 22 → ⊥
   unfolding read_level
-  level_over Above h = let n = refused_number 25 b in omega arith
-  level_over (Level soc) h = checked_not_over b (plain_answer soc b) (plain_answers soc b) h
+  level_over None h = let n = refused_number 25 b in omega arith
+  level_over (Some soc) h = checked_not_over b (plain_answer soc b) (plain_answers soc b) h
 
-  to_level_over : (most : Given) (target : Float) (s : StateOfCharge) → (demand_to_level b most target s).refusal ≡ 22 → ⊥
+  to_level_over : (most : Option Float) (target : Float) (s : Option Float) → (demand_to_level b most target s).refusal ≡ 22 → ⊥
   unfolding demand_to_level
-  to_level_over most target Above h = let n = refused_number 25 b in omega arith
-  to_level_over most target (Level soc) h =
+  to_level_over most target None h = let n = refused_number 25 b in omega arith
+  to_level_over most target (Some soc) h =
       let e = (charge_energy_demand b.card most target soc).0 in
       checked_not_over b (plain_answer e b) (plain_answers e b) h
 

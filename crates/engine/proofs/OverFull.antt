@@ -1,4 +1,5 @@
 -- 25 only at a state of charge above 1.0 + 1e-10, and only from kinds 6 and 7.
+use Rattle.std.specs.Prelude.{None, Option, Some}
 use mathlib.Core.Path.{◌≡◌}
 use mathlib.Core.Bool.{true}
 use mathlib.Core.Logic.{inl, inr}
@@ -11,8 +12,6 @@ use Rattle.floats.specs.Constants.{one, tolerance}
 use Rattle.floats.specs.Standins.{min}
 use Rattle.logic.proofs.Branch.{by_test}
 use Rattle.zone.specs.Layer.{salt_at, stored_energy, level_of, state_of_charge}
-use Rattle.zone.specs.declared.StateOfCharge.{StateOfCharge}
-use Rattle.zone.specs.declared.StateOfCharge.TheVariants.{Level, Above}
 use Rattle.card.specs.Derived.{salts_of, stored_maximum}
 use Rattle.battery.specs.declared.Battery.{Battery}
 use Rattle.battery.specs.declared.Demand.{Demand}
@@ -27,14 +26,14 @@ use Rattle.engine.specs.Faults.{AboveFull, OverFull}
 use Rattle.engine.proofs.Turns.{never}
 use Rattle.engine.proofs.Refused.{RunWhy, LevelWhy, Why, refused_why}
 
-level_above : (soc : Float) → level_of soc ≡ Above → lt (one ⊕ tolerance) soc ≡ true
+level_above : (soc : Float) → level_of soc ≡ None → lt (one ⊕ tolerance) soc ≡ true
 unfolding level_of
 level_above soc =
-    by_test (λ (s : StateOfCharge). s ≡ Above → lt (one ⊕ tolerance) soc ≡ true) (lt (one ⊕ tolerance) soc) Above (Level (min soc one))
+    by_test (λ (s : Option Float). s ≡ None → lt (one ⊕ tolerance) soc ≡ true) (lt (one ⊕ tolerance) soc) None (Some (min soc one))
     (λ t h. is_true (lt (one ⊕ tolerance) soc) t)
     (λ t h. never (cc))
 
-above_full : (b : Battery) → level b ≡ Above → AboveFull b
+above_full : (b : Battery) → level b ≡ None → AboveFull b
 unfolding level state_of_charge
 above_full b h =
     record { above = h; passed = level_above ((stored_energy (salt_at (salts_of b.card)) b.card.reference b.zones b.card.layers).0 ⊘ (stored_maximum (salts_of b.card) b.card).0) h }

@@ -1,4 +1,5 @@
 -- Why a call is refused with 22 to 25: the run's end, an answer that is not finite, or the level.
+use Rattle.std.specs.Prelude.{None, Option, Some}
 use mathlib.Core.Path.{◌≡◌, refl, sym, ◌∙◌}
 use mathlib.Core.Bool.{false, ◌&&◌}
 use mathlib.Core.Logic.{◌⊎◌, inl, inr}
@@ -9,12 +10,8 @@ use lib.Ieee.{Float, le}
 use lib.Ieee.Bits.{is_true}
 use Rattle.floats.specs.Constants.{zero, tolerance}
 use Rattle.logic.proofs.Branch.{by_test}
-use Rattle.zone.specs.declared.StateOfCharge.{StateOfCharge}
-use Rattle.zone.specs.declared.StateOfCharge.TheVariants.{Level, Above}
 use Rattle.battery.specs.Answer.{refused_with, plain_answer, answer_finite}
 use Rattle.battery.specs.declared.Battery.{Battery}
-use Rattle.battery.specs.declared.Given.{Given}
-use Rattle.battery.specs.declared.Given.TheVariants.{Absent, Value}
 use Rattle.battery.specs.declared.Demand.{Demand}
 use Rattle.battery.specs.declared.Answer.{Answer}
 use Rattle.battery.specs.declared.Call.{Call}
@@ -39,11 +36,11 @@ RunWhy n end a = (end_refusal end ≡ n) ⊎ ((n ≡ 23) × AnswerNotFinite end 
 pub record DemandWhy (n : ℕ) (b : Battery) (d : Demand) : Type 0 where
   pub asked : le d.required tolerance ≡ false
   pub feed : Float
-  pub given : d.feed ≡ Value feed
+  pub given : d.feed ≡ Some feed
   pub why : RunWhy n (demand_ran b d feed).part.end (demand_answer b d (demand_ran b d feed))
 
 abbrev pub LevelWhy : ℕ → Battery → (Float → Float) → Type 0
-LevelWhy n b energy = ((n ≡ 25) × (level b ≡ Above)) ⊎ ((n ≡ 23) × LevelNotFinite b energy)
+LevelWhy n b energy = ((n ≡ 25) × (level b ≡ None)) ⊎ ((n ≡ 23) × LevelNotFinite b energy)
 
 abbrev pub ChargeWhy : ℕ → ℕ → Battery → Source → Float → Type 0
 ChargeWhy n version b source target = RunWhy n (charge_battery b source target).part.end (charged_answer version b (charge_battery b source target))
@@ -74,7 +71,7 @@ module _ (n : ℕ) (l : 22 ≤ n) (b : Battery) where
       (λ t h. inl (sym (refused_number (end_refusal end) b) ∙ h))
 
   module _ (d : Demand) (asked : le d.required tolerance ≡ false) where
-    demand_from_lem : (feed : Float) → d.feed ≡ Value feed → (demand_from b d feed).refusal ≡ n → DemandWhy n b d
+    demand_from_lem : (feed : Float) → d.feed ≡ Some feed → (demand_from b d feed).refusal ≡ n → DemandWhy n b d
     unfolding demand_from
     demand_from_lem feed e =
         let r = demand_ran b d feed in
@@ -83,10 +80,10 @@ module _ (n : ℕ) (l : 22 ≤ n) (b : Battery) where
         (λ t h. absurd (omega arith))
         (λ t h. record { asked = asked; feed = feed; given = e; why = run_why r.part.end (demand_answer b d r) (demand_answers b d r) h })
 
-    demand_given_lem : (g : Given) → d.feed ≡ g → (demand_given b d g).refusal ≡ n → DemandWhy n b d
+    demand_given_lem : (g : Option Float) → d.feed ≡ g → (demand_given b d g).refusal ≡ n → DemandWhy n b d
     unfolding demand_given
-    demand_given_lem Absent e h = let m = refused_number 20 b in absurd (omega arith)
-    demand_given_lem (Value feed) e h = demand_from_lem feed e h
+    demand_given_lem None e h = let m = refused_number 20 b in absurd (omega arith)
+    demand_given_lem (Some feed) e h = demand_from_lem feed e h
 
   demand_why : (d : Demand) → (demand_energy b d).refusal ≡ n → ((n ≡ 23) × NoDemandNotFinite b d) ⊎ DemandWhy n b d
   unfolding demand_energy
@@ -107,19 +104,19 @@ module _ (n : ℕ) (l : 22 ≤ n) (b : Battery) where
       let r = battery_heat_loss b in
       run_why r.part.end (cooled_answer b r) (run_answers _ r.part (cooled_battery b r)) h
 
-  level_why : (s : StateOfCharge) → level b ≡ s → (read_level b s).refusal ≡ n → LevelWhy n b (λ soc. soc)
+  level_why : (s : Option Float) → level b ≡ s → (read_level b s).refusal ≡ n → LevelWhy n b (λ soc. soc)
   unfolding read_level
-  level_why Above e h = inl (sym h ∙ refused_number 25 b, e)
-  level_why (Level soc) e h =
+  level_why None e h = inl (sym h ∙ refused_number 25 b, e)
+  level_why (Some soc) e h =
       let w = checked_why (plain_answer soc b) (plain_answers soc b) h in
       inr (w.0, record { soc = soc; read = e; found = w.1 })
 
   to_level_why :
-      (most : Given) (target : Float) (s : StateOfCharge) → level b ≡ s → (demand_to_level b most target s).refusal ≡ n →
+      (most : Option Float) (target : Float) (s : Option Float) → level b ≡ s → (demand_to_level b most target s).refusal ≡ n →
       LevelWhy n b (λ soc. (charge_energy_demand b.card most target soc).0)
   unfolding demand_to_level
-  to_level_why most target Above e h = inl (sym h ∙ refused_number 25 b, e)
-  to_level_why most target (Level soc) e h =
+  to_level_why most target None e h = inl (sym h ∙ refused_number 25 b, e)
+  to_level_why most target (Some soc) e h =
       let g = (charge_energy_demand b.card most target soc).0 in
       let w = checked_why (plain_answer g b) (plain_answers g b) h in
       inr (w.0, record { soc = soc; read = e; found = w.1 })

@@ -1,4 +1,5 @@
 -- The laws of the steps, by name, for every version, battery and call.
+use Rattle.std.specs.Prelude.{Option}
 use mathlib.Core.Path.{◌≡◌, refl}
 use mathlib.Core.Bool.{true, false}
 use mathlib.Core.Logic.{◌⊎◌}
@@ -16,7 +17,6 @@ use Rattle.battery.specs.declared.Battery.{Battery}
 use Rattle.battery.specs.declared.Call.{Call}
 use Rattle.battery.specs.declared.Call.TheVariants.{DemandEnergy, ReadStateOfCharge, ChargeEnergyDemand}
 use Rattle.battery.specs.declared.Demand.{Demand}
-use Rattle.battery.specs.declared.Given.{Given}
 use Rattle.battery.proofs.Accepted.{accepted_battery}
 use Rattle.battery.proofs.AnswerLaws.{finite_answer}
 use Rattle.engine.specs.Steps.{step_of}
@@ -102,6 +102,6 @@ module _ (version : ℕ) (b : Battery) where
   unfolding only_asks
   state_of_charge_keeps_state = asking_keeps_state version b ReadStateOfCharge refl
 
-  pub charge_energy_demand_keeps_state : (most : Given) (target : Float) → (step_of version b (ChargeEnergyDemand most target)).battery ≡ b
+  pub charge_energy_demand_keeps_state : (most : Option Float) (target : Float) → (step_of version b (ChargeEnergyDemand most target)).battery ≡ b
   unfolding only_asks
   charge_energy_demand_keeps_state most target = asking_keeps_state version b (ChargeEnergyDemand most target) refl

@@ -1,4 +1,5 @@
 -- The outcome of each of the seven kinds.
+use Rattle.std.specs.Prelude.{None, Option, Some}
 use mathlib.Core.Path.{◌≡◌, refl}
 use mathlib.Core.Bool.{true, false, not, ◌&&◌}
 use mathlib.Core.Logic.{inr}
@@ -7,16 +8,12 @@ use native.Mathlib.Omega.{arith}
 use lib.Ieee.{Float, le}
 use Rattle.floats.specs.Constants.{zero, tolerance}
 use Rattle.logic.proofs.Branch.{by_test, at_not}
-use Rattle.zone.specs.declared.StateOfCharge.{StateOfCharge}
-use Rattle.zone.specs.declared.StateOfCharge.TheVariants.{Level, Above}
 use Rattle.zone.specs.Layer.{salt_at}
 use Rattle.card.specs.Derived.{salts_of, derived}
 use Rattle.battery.specs.Answer.{plain_answer}
 use Rattle.battery.specs.Kinds.{is_charge, only_asks}
 use Rattle.battery.specs.Ledger.{ledger_of}
 use Rattle.battery.specs.declared.Battery.{Battery}
-use Rattle.battery.specs.declared.Given.{Given}
-use Rattle.battery.specs.declared.Given.TheVariants.{Absent, Value}
 use Rattle.battery.specs.declared.Demand.{Demand}
 use Rattle.battery.specs.declared.Call.{Call}
 use Rattle.battery.specs.declared.Call.TheVariants.{DemandEnergy, ChargeElectric, ChargeHydronic, HeatLoss, CloseTimestep, ReadStateOfCharge, ChargeEnergyDemand}
@@ -97,10 +94,10 @@ module _ (b : Battery) (d : Demand) where
       (λ h. refused_outcome b false (not d.commit) 21 (omega arith) (omega arith))
       (λ h. run_outcome b false (not d.commit) (demand_answer b d r) (demand_kept_lem r (demand_ended_lem b d feed)) r.part.end)
 
-  demand_given_lem : (g : Given) → Demanded (demand_given b d g)
+  demand_given_lem : (g : Option Float) → Demanded (demand_given b d g)
   unfolding demand_given
-  demand_given_lem Absent = refused_outcome b false (not d.commit) 20 (omega arith) (omega arith)
-  demand_given_lem (Value feed) = demand_from_lem feed
+  demand_given_lem None = refused_outcome b false (not d.commit) 20 (omega arith) (omega arith)
+  demand_given_lem (Some feed) = demand_from_lem feed
 
   demand_outcome : Demanded (demand_energy b d)
   unfolding demand_energy
@@ -124,15 +121,15 @@ module _ (b : Battery) where
       let k = loss_ended_lem b in
       run_outcome b false false (cooled_answer b r) (cooled_kept b r k.above k.substeps) r.part.end
 
-  level_outcome : (s : StateOfCharge) → Outcome b false true (read_level b s)
+  level_outcome : (s : Option Float) → Outcome b false true (read_level b s)
   unfolding read_level
-  level_outcome Above = refused_outcome b false true 25 (omega arith) (omega arith)
-  level_outcome (Level soc) = checked_outcome b false true (plain_answer soc b) (plain_kept b true soc)
+  level_outcome None = refused_outcome b false true 25 (omega arith) (omega arith)
+  level_outcome (Some soc) = checked_outcome b false true (plain_answer soc b) (plain_kept b true soc)
 
-  to_level_outcome : (most : Given) (target : Float) (s : StateOfCharge) → Outcome b false true (demand_to_level b most target s)
+  to_level_outcome : (most : Option Float) (target : Float) (s : Option Float) → Outcome b false true (demand_to_level b most target s)
   unfolding demand_to_level
-  to_level_outcome most target Above = refused_outcome b false true 25 (omega arith) (omega arith)
-  to_level_outcome most target (Level soc) =
+  to_level_outcome most target None = refused_outcome b false true 25 (omega arith) (omega arith)
+  to_level_outcome most target (Some soc) =
       let e = (charge_energy_demand b.card most target soc).0 in
       checked_outcome b false true (plain_answer e b) (plain_kept b true e)
 

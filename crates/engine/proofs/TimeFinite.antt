@@ -1,4 +1,5 @@
 -- The time of a hydronic run on an accepted card is finite: at most 65,535 substeps of at most 3,600 s, and a fractional one whose heat is finite.
+use Rattle.std.specs.Prelude.{None}
 use mathlib.Core.Path.{◌≡◌, refl, subst}
 use mathlib.Core.Logic.{inl, inr}
 use mathlib.Core.Bool.{true}
@@ -31,7 +32,6 @@ use Rattle.card.proofs.Within.{within_low, within_high}
 use Rattle.battery.specs.declared.Battery.{Battery}
 use Rattle.battery.specs.declared.Hydronic.{Hydronic}
 use Rattle.substep.specs.declared.Substep.{Substep}
-use Rattle.substep.specs.declared.Fault.TheVariants.{Nothing}
 use Rattle.substep.proofs.Seconds.{seconds_finite}
 use Rattle.runs.specs.Runs.{end_refusal}
 use Rattle.runs.specs.Hydronic.{wet_input, fraction_seconds, whole_substeps}
@@ -128,7 +128,7 @@ module _ (version : ℕ) (b : Battery) (w : Hydronic) (good : card_refusal versi
     seconds = fraction_seconds x (absorbed_with (after_turns x salts (hydronic_from b w) n).part u) (heat_of u)
 
     -- the seconds of a fractional substep that works
-    fraction_finite : (fraction_after x salts (hydronic_from b w) n).fault ≡ Nothing → T (finite64 seconds)
+    fraction_finite : (fraction_after x salts (hydronic_from b w) n).fault ≡ None → T (finite64 seconds)
     unfolding finite64 hydronic_task wet_input fraction_seconds
     fraction_finite h =
         let l = accepted_layers version b.card good in

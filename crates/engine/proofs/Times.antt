@@ -1,4 +1,5 @@
 -- The time of a hydronic run is the sum of the substeps that it ran, and what an answered hydronic charge shows of it.
+use Rattle.std.specs.Prelude.{None, Some, Option}
 use mathlib.Core.Path.{◌≡◌, refl, sym, ◌∙◌, ap, subst}
 use mathlib.Core.Logic.{inl, inr}
 use mathlib.Core.Bool.{Bool, false, cond}
@@ -23,7 +24,7 @@ use Rattle.battery.specs.declared.Call.TheVariants.{ChargeHydronic}
 use Rattle.substep.specs.Substep.{outcome_of, process_heat_battery_zones}
 use Rattle.substep.specs.declared.Substep.{Substep}
 use Rattle.substep.specs.declared.Fault.{Fault}
-use Rattle.substep.specs.declared.Fault.TheVariants.{Nothing, Logarithm, NotFinite}
+use Rattle.substep.specs.declared.Fault.TheVariants.{Logarithm, NotFinite}
 use Rattle.runs.specs.Runs.{outcome, reynold_between, end_refusal}
 use Rattle.runs.specs.declared.HydronicTask.{HydronicTask}
 use Rattle.runs.specs.declared.HydronicState.{HydronicState}
@@ -31,12 +32,11 @@ use Rattle.runs.specs.declared.HydronicTurn.{HydronicTurn}
 use Rattle.runs.specs.declared.Stopped.{Stopped}
 use Rattle.runs.specs.declared.End.{End}
 use Rattle.runs.specs.declared.End.TheVariants.{Limit, OverBudget, NoLogarithm, NotFiniteRun}
-use Rattle.runs.specs.declared.Next.TheVariants.{On, Stop}
 use Rattle.runs.specs.Hydronic.{clearly_below, limit_reached, replay_by, replayed, fraction_seconds, hydronic_whole, hydronic_by, hydronic_state, hydronic_step, hydronic_run, hydronic_ended, whole_substeps}
-use Rattle.runs.specs.Charge.{hydronic_start, charge_hydronic, charge_battery}
+use Rattle.runs.specs.Charge.{hydronic_start, charge_hydronic, charge_battery, wet_of}
 use Rattle.runs.specs.Zoned.{Zoned, zoned, on_part}
 use Rattle.engine_replies.specs.Replies.{checked, unless_refused, charged_battery, charged_time, run_answer, charged_answer}
-use Rattle.engine.specs.Steps.{charge, wet_of, wet_source, step_of}
+use Rattle.engine.specs.Steps.{charge, wet_source, step_of}
 use Rattle.engine.specs.Budget.{whole_from, FractionDue, hydronic_task_of, hydronic_run_of}
 use Rattle.engine.specs.Faults.{heat_of, absorbed_with, fraction_input}
 use Rattle.engine.specs.Times.{added_up, after_turns, whole_after, DueAfter, fraction_after, TimeRun}
@@ -64,11 +64,11 @@ fraction_from x salts s u = process_heat_battery_zones x.card x.pcm salts (fract
 
 -- what a turn from s adds to the time: n substeps are done, u the last of them
 data TurnTime (x : HydronicTask) (salts : ℕ → Salt) (n : ℕ) (s : Zoned HydronicState) (u : Substep) (t : HydronicTurn) : Type 0 where
-  went_on : t.next ≡ On → t.substeps ≡ n → t.state.time ≡ s.part.time ⊕ x.card.substep → TurnTime x salts n s u t
-  whole : (e : End) → t.next ≡ Stop e → t.substeps ≡ n → t.state.time ≡ s.part.time ⊕ x.card.substep → (e ≡ Limit → FractionDue x s.part u → ⊥) → TurnTime x salts n s u t
-  replaced : t.next ≡ Stop Limit → t.substeps ≡ n + 1 → t.state.time ≡ s.part.time ⊕ fraction_seconds x (absorbed_with s.part u) (heat_of u) → FractionDue x s.part u → (fraction_from x salts s u).fault ≡ Nothing
+  went_on : t.next ≡ None → t.substeps ≡ n → t.state.time ≡ s.part.time ⊕ x.card.substep → TurnTime x salts n s u t
+  whole : (e : End) → t.next ≡ Some e → t.substeps ≡ n → t.state.time ≡ s.part.time ⊕ x.card.substep → (e ≡ Limit → FractionDue x s.part u → ⊥) → TurnTime x salts n s u t
+  replaced : t.next ≡ Some Limit → t.substeps ≡ n + 1 → t.state.time ≡ s.part.time ⊕ fraction_seconds x (absorbed_with s.part u) (heat_of u) → FractionDue x s.part u → (fraction_from x salts s u).fault ≡ None
       → TurnTime x salts n s u t
-  refused : (e : End) → t.next ≡ Stop e → (end_refusal e ≡ 0 → ⊥) → TurnTime x salts n s u t
+  refused : (e : End) → t.next ≡ Some e → (end_refusal e ≡ 0 → ⊥) → TurnTime x salts n s u t
 
 module _ (x : HydronicTask) (salts : ℕ → Salt) (n : ℕ) (s : Zoned HydronicState) (u : Substep) where
   abbrev Turned : Zoned HydronicTurn → Type 0
@@ -81,11 +81,11 @@ module _ (x : HydronicTask) (salts : ℕ → Salt) (n : ℕ) (s : Zoned Hydronic
     abbrev reynold : Float
     reynold = reynold_between x.wet.inlet u.outlet x.wet.velocity x.wet.diameter
 
-    replay_by_lem : (e : Fault) → (fraction_from x salts s u).fault ≡ e → Turned (replay_by x (n + 1) s seconds reynold (outcome (fraction_from x salts s u)) e)
+    replay_by_lem : (e : Option Fault) → (fraction_from x salts s u).fault ≡ e → Turned (replay_by x (n + 1) s seconds reynold (outcome (fraction_from x salts s u)) e)
     unfolding replay_by
-    replay_by_lem Nothing w = replaced refl refl refl f w
-    replay_by_lem Logarithm w = refused NoLogarithm refl refuses_24
-    replay_by_lem NotFinite w = refused NotFiniteRun refl refuses_23
+    replay_by_lem None w = replaced refl refl refl f w
+    replay_by_lem (Some Logarithm) w = refused NoLogarithm refl refuses_24
+    replay_by_lem (Some NotFinite) w = refused NotFiniteRun refl refuses_23
 
     replay_time : Turned (replayed x salts n s seconds reynold)
     unfolding replayed outcome_of
@@ -94,7 +94,7 @@ module _ (x : HydronicTask) (salts : ℕ → Salt) (n : ℕ) (s : Zoned Hydronic
         (λ h. refused OverBudget refl refuses_22)
         (λ h. replay_by_lem (fraction_from x salts s u).fault refl)
 
-  whole_time : u.fault ≡ Nothing → Turned (hydronic_whole x salts n s (outcome u))
+  whole_time : u.fault ≡ None → Turned (hydronic_whole x salts n s (outcome u))
   unfolding hydronic_whole outcome_of
   whole_time w =
       let this = kj (neg u.delivered.0) in
@@ -110,11 +110,11 @@ module _ (x : HydronicTask) (salts : ℕ → Salt) (n : ℕ) (s : Zoned Hydronic
       not_due : {t : Bool} → t ≡ false → T t → ⊥
       not_due {t} e h = rw e at h
 
-  by_time : (f : Fault) → u.fault ≡ f → Turned (hydronic_by x salts n s (outcome u) f)
+  by_time : (f : Option Fault) → u.fault ≡ f → Turned (hydronic_by x salts n s (outcome u) f)
   unfolding hydronic_by
-  by_time Nothing w = whole_time w
-  by_time Logarithm w = refused NoLogarithm refl refuses_24
-  by_time NotFinite w = refused NotFiniteRun refl refuses_23
+  by_time None w = whole_time w
+  by_time (Some Logarithm) w = refused NoLogarithm refl refuses_24
+  by_time (Some NotFinite) w = refused NotFiniteRun refl refuses_23
 
 turn_time : (x : HydronicTask) (salts : ℕ → Salt) (n : ℕ) (s : Zoned HydronicState) → TurnTime x salts (n + 1) s (whole_from x salts s) (hydronic_step x salts n s).part
 unfolding hydronic_step outcome_of
@@ -141,7 +141,7 @@ module _ (x : HydronicTask) (salts : ℕ → Salt) (start : Zoned HydronicState)
     unfolding after_turns
     further = ap (λ (v : Zoned HydronicState). on_part hydronic_state (hydronic_step x salts n v)) r.state
 
-    next_reached : t.next ≡ On → Reached t.substeps (on_part hydronic_state (hydronic_step x salts n s))
+    next_reached : t.next ≡ None → Reached t.substeps (on_part hydronic_state (hydronic_step x salts n s))
     next_reached h = on (turn_time x salts n s)
       where
         on : TurnTime x salts (n + 1) s (whole_from x salts s) t → Reached t.substeps (on_part hydronic_state (hydronic_step x salts n s))
@@ -156,8 +156,8 @@ module _ (x : HydronicTask) (salts : ℕ → Salt) (start : Zoned HydronicState)
     was_due : DueAfter x salts start n → FractionDue x s.part (whole_from x salts s)
     was_due = subst (λ (v : Zoned HydronicState). FractionDue x v.part (whole_from x salts v)) (sym r.state)
 
-    fraction_worked : (fraction_from x salts s (whole_from x salts s)).fault ≡ Nothing → (fraction_after x salts start n).fault ≡ Nothing
-    fraction_worked = subst (λ (v : Zoned HydronicState). (fraction_from x salts v (whole_from x salts v)).fault ≡ Nothing) r.state
+    fraction_worked : (fraction_from x salts s (whole_from x salts s)).fault ≡ None → (fraction_after x salts start n).fault ≡ None
+    fraction_worked = subst (λ (v : Zoned HydronicState). (fraction_from x salts v (whole_from x salts v)).fault ≡ None) r.state
 
     -- the seconds of the fractional substep, from the state that the run reached
     same_seconds : s.part.time ⊕ fraction_seconds x (absorbed_with s.part (whole_from x salts s)) (heat_of (whole_from x salts s))
@@ -166,7 +166,7 @@ module _ (x : HydronicTask) (salts : ℕ → Salt) (start : Zoned HydronicState)
         ap (λ (f : Float). f ⊕ fraction_seconds x (absorbed_with s.part (whole_from x salts s)) (heat_of (whole_from x salts s))) r.time
         ∙ ap (λ (v : Zoned HydronicState). added_up x.card.substep n ⊕ fraction_seconds x (absorbed_with v.part (whole_from x salts v)) (heat_of (whole_from x salts v))) r.state
 
-    stopped : (e : End) → t.next ≡ Stop e → end_refusal e ≡ 0 → TimeRun x salts start (record { state = t.state; end = e; substeps = t.substeps })
+    stopped : (e : End) → t.next ≡ Some e → end_refusal e ≡ 0 → TimeRun x salts start (record { state = t.state; end = e; substeps = t.substeps })
     stopped e h z = on (turn_time x salts n s)
       where
         on : TurnTime x salts (n + 1) s (whole_from x salts s) t → TimeRun x salts start (record { state = t.state; end = e; substeps = t.substeps })

@@ -1,5 +1,5 @@
 -- Refusal 22: the budget is used and another substep is due.
-use Rattle.std.specs.Prelude.{ℕ, ◌<◌, ◌≡◌, ◌⊎◌, false, T, Float}
+use Rattle.std.specs.Prelude.{ℕ, ◌<◌, ◌≡◌, ◌⊎◌, false, T, Float, Some, None}
 use Rattle.std.specs.Float.Ieee.{lt, le, neg}
 use Rattle.floats.specs.F64.{◌⊕◌}
 use Rattle.floats.specs.Constants.{zero, tolerance}
@@ -8,23 +8,21 @@ use Rattle.zone.specs.Layer.{salt_at}
 use Rattle.zone.specs.declared.Salt.{Salt}
 use Rattle.card.specs.Derived.{salts_of}
 use Rattle.battery.specs.declared.Battery.{Battery}
-use Rattle.battery.specs.declared.Given.TheVariants.{Value}
 use Rattle.battery.specs.declared.Demand.{Demand}
 use Rattle.battery.specs.declared.Hydronic.{Hydronic}
 use Rattle.battery.specs.declared.Call.{Call}
 use Rattle.battery.specs.declared.Call.TheVariants.{DemandEnergy, ChargeElectric, ChargeHydronic, HeatLoss, CloseTimestep, ReadStateOfCharge, ChargeEnergyDemand}
 use Rattle.substep.specs.Substep.{process_heat_battery_zones}
 use Rattle.substep.specs.declared.Substep.{Substep}
-use Rattle.substep.specs.declared.Fault.TheVariants.{Nothing}
 use Rattle.run_demand.specs.declared.DemandEnd.{DemandEnd}
 use Rattle.runs.specs.declared.HydronicTask.{HydronicTask}
 use Rattle.runs.specs.declared.HydronicState.{HydronicState}
 use Rattle.runs.specs.declared.HydronicEnd.{HydronicEnd}
 use Rattle.runs.specs.declared.End.TheVariants.{OverBudget}
 use Rattle.runs.specs.Hydronic.{wet_input, clearly_below, limit_reached, hydronic_run, hydronic_end_state, whole_substeps}
-use Rattle.runs.specs.Charge.{hydronic_task, hydronic_start}
+use Rattle.runs.specs.Charge.{hydronic_task, hydronic_start, wet_of}
 use Rattle.runs.specs.Zoned.{Zoned, zoned, on_part}
-use Rattle.engine.specs.Steps.{demand_run_of, wet_of}
+use Rattle.engine.specs.Steps.{demand_run_of}
 
 -- a run of a demand, with its budget: its next step is positive
 pub record DemandOver (budget : ℕ) (run : DemandEnd) : Type 0 where
@@ -38,7 +36,7 @@ whole_from task salts run = process_heat_battery_zones task.card task.pcm salts 
 
 -- after the whole substep u from s the limit is passed, and its heat is to be cut: the fractional substep is due
 pub record FractionDue (task : HydronicTask) (state : HydronicState) (substep : Substep) : Type 0 where
-  pub worked : substep.fault ≡ Nothing
+  pub worked : substep.fault ≡ None
   pub below : T (clearly_below substep.outlet task.wet.inlet)
   pub passed : T (limit_reached (kj (state.absorbed.0 ⊕ neg substep.delivered.0)) task.limit)
   pub heat : T (lt zero (neg substep.delivered.0))
@@ -53,7 +51,7 @@ pub record HydronicOver (task : HydronicTask) (salts : ℕ → Salt) (steps : �
 pub record DemandUsed (battery : Battery) (demand : Demand) : Type 0 where
   pub asked : le demand.required tolerance ≡ false
   pub feed : Float
-  pub given : demand.feed ≡ Value feed
+  pub given : demand.feed ≡ Some feed
   pub over : DemandOver battery.card.budget (demand_run_of battery demand feed).part
 
 abbrev pub hydronic_task_of : Battery → Hydronic → HydronicTask

@@ -1,11 +1,10 @@
 -- Document 01, 'Who can cause a refusal': the case of each of 20 to 25, by the battery and the call. A case says what its number's sentence says, and that
 -- what comes before it doesn't apply.
-use Rattle.std.specs.Prelude.{ℕ, ◌≡◌, true, Float}
+use Rattle.std.specs.Prelude.{ℕ, ◌≡◌, true, Float, Some, None}
 use Rattle.std.specs.Float.Ieee.{lt}
 use Rattle.floats.specs.Constants.{tolerance}
 use Rattle.battery.specs.declared.Battery.{Battery}
 use Rattle.battery.specs.declared.Demand.{Demand}
-use Rattle.battery.specs.declared.Given.TheVariants.{Absent, Value}
 use Rattle.battery.specs.declared.Call.{Call}
 use Rattle.battery.specs.declared.Call.TheVariants.{DemandEnergy, ChargeElectric, ChargeHydronic, HeatLoss, CloseTimestep, ReadStateOfCharge, ChargeEnergyDemand}
 use Rattle.engine.specs.Budget.{BudgetUsed}
@@ -14,14 +13,14 @@ use Rattle.engine.specs.Faults.{NotFiniteFound, NoLogarithmTaken, OverFull}
 -- '20 required above 1e-10 without return temperature'
 pub record NoReturn (demand : Demand) : Type 0 where
   pub above : lt tolerance demand.required ≡ true
-  pub absent : demand.feed ≡ Absent
+  pub absent : demand.feed ≡ None
 
 -- '21 committed, required above 1e-10, service type 0'; '20 before 21'. Document 02, Four: 'a demand for an unlisted number is 21, under 21's conditions': the reader
 -- gives it type 0
 pub record NoService (demand : Demand) : Type 0 where
   pub above : lt tolerance demand.required ≡ true
   pub temperature : Float
-  pub given : demand.feed ≡ Value temperature
+  pub given : demand.feed ≡ Some temperature
   pub committed : demand.commit ≡ true
   pub combi : demand.service ≡ 0
 

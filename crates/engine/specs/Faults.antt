@@ -1,23 +1,20 @@
 -- Refusals 23, 24 and 25: the substep or the answer that is refused, and its test.
-use Rattle.std.specs.Prelude.{ℕ, ◌≡◌, true, false, List, ◌⊎◌, Float}
+use Rattle.std.specs.Prelude.{ℕ, ◌≡◌, true, false, List, ◌⊎◌, Float, Some, None, Option}
 use Rattle.std.specs.Float.Ieee.{lt, le, neg}
 use Rattle.floats.specs.F64.{◌⊕◌, ◌⊗◌, ◌⊘◌}
 use Rattle.floats.specs.Constants.{zero, one, tolerance, smallest_normal, largest_finite}
 use Rattle.floats.specs.Sum2.{sum2}
-use Rattle.floats.specs.declared.Log.TheVariants.{Value}
 use Rattle.zone.specs.Heat.{kj}
 use Rattle.zone.specs.Layer.{salt_at, stored_energy}
 use Rattle.zone.specs.declared.Kilojoules.{Kilojoules}
 use Rattle.zone.specs.declared.Salt.{Salt}
 use Rattle.zone_water.specs.declared.Mode.TheVariants.{Normal}
-use Rattle.zone.specs.declared.StateOfCharge.TheVariants.{Level, Above}
 use Rattle.card.specs.Derived.{salts_of, stored_maximum, derived}
 use Rattle.card.specs.declared.Card.{Card}
 use Rattle.card.specs.declared.HeatBatteryPcm.{HeatBatteryPcm}
 use Rattle.battery.specs.Answer.{plain_answer, answer_finite}
 use Rattle.battery.specs.Ledger.{ledger_of}
 use Rattle.battery.specs.declared.Battery.{Battery}
-use Rattle.battery.specs.declared.Given.TheVariants as Given
 use Rattle.battery.specs.declared.Demand.{Demand}
 use Rattle.battery.specs.declared.Hydronic.{Hydronic}
 use Rattle.battery.specs.declared.Answer.{Answer}
@@ -28,7 +25,7 @@ use Rattle.substep.specs.declared.SubstepInput.{SubstepInput}
 use Rattle.substep.specs.Progress.{Progress}
 use Rattle.substep.specs.declared.Substep.{Substep}
 use Rattle.substep.specs.declared.Fault.{Fault}
-use Rattle.substep.specs.declared.Fault.TheVariants.{Nothing, Logarithm, NotFinite}
+use Rattle.substep.specs.declared.Fault.TheVariants.{Logarithm, NotFinite}
 use Rattle.runs.specs.Runs.{fault_end, end_refusal, reynold_between}
 use Rattle.run_demand.specs.Demand.{demand_input}
 use Rattle.runs.specs.Hydronic.{wet_input, fraction_seconds, hydronic_end_state}
@@ -44,7 +41,7 @@ use Rattle.engine.specs.Budget.{whole_from, FractionDue, hydronic_task_of, hydro
 
 -- '25 state of charge above 1.0 + 1e-10'
 pub record AboveFull (battery : Battery) : Type 0 where
-  pub above : level battery ≡ Above
+  pub above : level battery ≡ None
   pub passed : lt (one ⊕ tolerance) ((stored_energy (salt_at (salts_of battery.card)) battery.card.reference battery.zones battery.card.layers).0 ⊘ (stored_maximum (salts_of battery.card) battery.card).0) ≡ true
 
 abbrev pub OverFull : Battery → Call → Type 0
@@ -68,17 +65,17 @@ progress_of card pcm salts input zones u = zones_after (common_of card pcm input
 -- '23 after a substep a zone, outlet, delivered sum or charged energy is not finite'
 pub record ProgressNotFinite (card : Card) (pcm : HeatBatteryPcm) (salts : ℕ → Salt) (input : SubstepInput) (zones : List Float) : Type 0 where
   pub transfer : Float
-  pub taken : zone_transfer input.mode card input ≡ Value transfer
+  pub taken : zone_transfer input.mode card input ≡ Some transfer
   pub found : progress_finite card (progress_of card pcm salts input zones transfer) (kj (sum2 (progress_of card pcm salts input zones transfer).energies card.layers)) ≡ false
 
 -- the test of each fault
-abbrev pub FaultTest : Fault → Card → HeatBatteryPcm → (ℕ → Salt) → SubstepInput → List Float → Type 0
-FaultTest Nothing card pcm salts input zones = ⊥
-FaultTest Logarithm card pcm salts input zones = ArgumentRefused input
-FaultTest NotFinite card pcm salts input zones = ProgressNotFinite card pcm salts input zones
+abbrev pub FaultTest : Option Fault → Card → HeatBatteryPcm → (ℕ → Salt) → SubstepInput → List Float → Type 0
+FaultTest None card pcm salts input zones = ⊥
+FaultTest (Some Logarithm) card pcm salts input zones = ArgumentRefused input
+FaultTest (Some NotFinite) card pcm salts input zones = ProgressNotFinite card pcm salts input zones
 
 -- the substep d from these zones has the fault f, at f's test
-pub record SubstepFault (which : Fault) (card : Card) (pcm : HeatBatteryPcm) (salts : ℕ → Salt) (input : SubstepInput) (zones : List Float) : Type 0 where
+pub record SubstepFault (which : Option Fault) (card : Card) (pcm : HeatBatteryPcm) (salts : ℕ → Salt) (input : SubstepInput) (zones : List Float) : Type 0 where
   pub fault : (process_heat_battery_zones card pcm salts input zones).fault ≡ which
   pub test : FaultTest which card pcm salts input zones
 
@@ -95,31 +92,31 @@ fraction_input task state substep =
     wet_input task (fraction_seconds task (absorbed_with state substep) (heat_of substep)) (reynold_between task.wet.inlet substep.outlet task.wet.velocity task.wet.diameter)
 
 -- the fractional substep after the whole one from s is due and has the fault f
-pub record FractionFault (which : Fault) (task : HydronicTask) (salts : ℕ → Salt) (state : Zoned HydronicState) : Type 0 where
+pub record FractionFault (which : Option Fault) (task : HydronicTask) (salts : ℕ → Salt) (state : Zoned HydronicState) : Type 0 where
   pub due : FractionDue task state.part (whole_from task salts state)
   pub fault : SubstepFault which task.card task.pcm salts (fraction_input task state.part (whole_from task salts state)) state.zones
 
 -- the whole substep from s has the fault f, or the fractional one after it
-abbrev pub HydronicFault : Fault → HydronicTask → (ℕ → Salt) → Zoned HydronicState → Type 0
+abbrev pub HydronicFault : Option Fault → HydronicTask → (ℕ → Salt) → Zoned HydronicState → Type 0
 HydronicFault which task salts run = SubstepFault which task.card task.pcm salts (wet_input task task.card.substep run.part.reynold) run.zones ⊎ FractionFault which task salts run
 
 -- the call's run ended for the fault f, before the substep that has it
-pub record DemandFaulted (which : Fault) (battery : Battery) (demand : Demand) : Type 0 where
+pub record DemandFaulted (which : Option Fault) (battery : Battery) (demand : Demand) : Type 0 where
   pub asked : le demand.required tolerance ≡ false
   pub feed : Float
-  pub given : demand.feed ≡ Given.Value feed
+  pub given : demand.feed ≡ Some feed
   pub ended : (demand_run_of battery demand feed).part.end ≡ fault_end which
   pub fault :
       SubstepFault which battery.card (derived battery.card) (salt_at (salts_of battery.card)) (demand_input (demand_task (ledger_of battery) demand feed) (demand_run_of battery demand feed).part.state) (demand_run_of battery demand feed).zones
 
-pub record HydronicFaulted (which : Fault) (battery : Battery) (hydronic : Hydronic) : Type 0 where
+pub record HydronicFaulted (which : Option Fault) (battery : Battery) (hydronic : Hydronic) : Type 0 where
   pub ended : (hydronic_run_of battery hydronic).part.end ≡ fault_end which
   pub fault : HydronicFault which (hydronic_task_of battery hydronic) (salt_at (salts_of battery.card)) (on_part hydronic_end_state (hydronic_run_of battery hydronic))
 
 abbrev pub NoLogarithmTaken : Battery → Call → Type 0
-NoLogarithmTaken battery (DemandEnergy d) = DemandFaulted Logarithm battery d
+NoLogarithmTaken battery (DemandEnergy d) = DemandFaulted (Some Logarithm) battery d
 NoLogarithmTaken battery (ChargeElectric power target) = ⊥
-NoLogarithmTaken battery (ChargeHydronic h) = HydronicFaulted Logarithm battery h
+NoLogarithmTaken battery (ChargeHydronic h) = HydronicFaulted (Some Logarithm) battery h
 NoLogarithmTaken battery HeatLoss = ⊥
 NoLogarithmTaken battery CloseTimestep = ⊥
 NoLogarithmTaken battery ReadStateOfCharge = ⊥
@@ -133,7 +130,7 @@ pub record AnswerNotFinite (end : End) (answer : Answer) : Type 0 where
 pub record DemandNotFinite (battery : Battery) (demand : Demand) : Type 0 where
   pub asked : le demand.required tolerance ≡ false
   pub feed : Float
-  pub given : demand.feed ≡ Given.Value feed
+  pub given : demand.feed ≡ Some feed
   pub answer : AnswerNotFinite (demand_ran battery demand feed).part.end (demand_answer battery demand (demand_ran battery demand feed))
 
 pub record NoDemandNotFinite (battery : Battery) (demand : Demand) : Type 0 where
@@ -143,19 +140,19 @@ pub record NoDemandNotFinite (battery : Battery) (demand : Demand) : Type 0 wher
 -- kinds 6 and 7, by the energy that they answer at a level
 pub record LevelNotFinite (battery : Battery) (energy : Float → Float) : Type 0 where
   pub soc : Float
-  pub read : level battery ≡ Level soc
+  pub read : level battery ≡ Some soc
   pub found : answer_finite (plain_answer (energy soc) battery) ≡ false
 
 abbrev pub NotFiniteFound : ℕ → Battery → Call → Type 0
-NotFiniteFound version battery (DemandEnergy d) = DemandFaulted NotFinite battery d ⊎ (DemandNotFinite battery d ⊎ NoDemandNotFinite battery d)
+NotFiniteFound version battery (DemandEnergy d) = DemandFaulted (Some NotFinite) battery d ⊎ (DemandNotFinite battery d ⊎ NoDemandNotFinite battery d)
 NotFiniteFound version battery (ChargeElectric power target) =
-    SubstepFault NotFinite battery.card (derived battery.card) (salt_at (salts_of battery.card)) (electric_input (ledger_of battery) power target) battery.zones
+    SubstepFault (Some NotFinite) battery.card (derived battery.card) (salt_at (salts_of battery.card)) (electric_input (ledger_of battery) power target) battery.zones
     ⊎ AnswerNotFinite (charge_battery battery (Electric power) target).part.end (charged_answer version battery (charge_battery battery (Electric power) target))
 NotFiniteFound version battery (ChargeHydronic h) =
-    HydronicFaulted NotFinite battery h
+    HydronicFaulted (Some NotFinite) battery h
     ⊎ AnswerNotFinite (charge_battery battery (wet_source h) h.target).part.end (charged_answer version battery (charge_battery battery (wet_source h) h.target))
 NotFiniteFound version battery HeatLoss =
-    SubstepFault NotFinite battery.card (derived battery.card) (salt_at (salts_of battery.card)) (loss_input battery.card) battery.zones
+    SubstepFault (Some NotFinite) battery.card (derived battery.card) (salt_at (salts_of battery.card)) (loss_input battery.card) battery.zones
     ⊎ AnswerNotFinite (battery_heat_loss battery).part.end (cooled_answer battery (battery_heat_loss battery))
 NotFiniteFound version battery CloseTimestep = answer_finite (plain_answer zero (closed_battery battery)) ≡ false
 NotFiniteFound version battery ReadStateOfCharge = LevelNotFinite battery (λ soc. soc)

@@ -1,13 +1,11 @@
 -- Document 01, 'What demand 3 speaks of': the steps. 'Their state is zones and five totals, at first fresh'; a battery is that state with its card.
-use Rattle.std.specs.Prelude.{ℕ, Bool, cond, ◌&&◌, eqb, Float}
+use Rattle.std.specs.Prelude.{ℕ, Bool, cond, ◌&&◌, eqb, Float, Option, Some, None}
 use Rattle.std.specs.Float.Ieee.{le}
 use Rattle.refusals.specs.Refusals.{bad_call, no_return, no_service, over_full}
 use Rattle.floats.specs.F64.{◌⊗◌, ◌⊘◌}
 use Rattle.floats.specs.Constants.{zero, tolerance, hour}
 use Rattle.zone.specs.Heat.{kwh}
 use Rattle.zone.specs.Layer.{salt_at, state_of_charge}
-use Rattle.zone.specs.declared.StateOfCharge.{StateOfCharge}
-use Rattle.zone.specs.declared.StateOfCharge.TheVariants.{Level, Above}
 use Rattle.card.specs.Derived.{salts_of, stored_maximum, derived}
 use Rattle.card.specs.declared.Card.{Card}
 use Rattle.battery.specs.Battery.{battery_accepted}
@@ -16,14 +14,11 @@ use Rattle.battery.specs.Answer.{refused_with, plain_answer}
 use Rattle.battery.specs.Ledger.{ledger_of}
 use Rattle.battery.specs.declared.Battery.{Battery}
 use Rattle.battery.specs.declared.Ledger.{Ledger}
-use Rattle.battery.specs.declared.Given.{Given}
-use Rattle.battery.specs.declared.Given.TheVariants.{Absent, Value}
 use Rattle.battery.specs.declared.Demand.{Demand}
 use Rattle.battery.specs.declared.Hydronic.{Hydronic}
 use Rattle.battery.specs.declared.Call.{Call}
 use Rattle.battery.specs.declared.Call.TheVariants.{DemandEnergy, ChargeElectric, ChargeHydronic, HeatLoss, CloseTimestep, ReadStateOfCharge, ChargeEnergyDemand}
 use Rattle.battery.specs.declared.Answer.{Answer}
-use Rattle.runs.specs.declared.Exchanger.{Exchanger}
 use Rattle.runs.specs.declared.Source.{Source}
 use Rattle.runs.specs.declared.Source.TheVariants.{Electric, Wet}
 use Rattle.run_demand.specs.declared.DemandTask.{DemandTask}
@@ -31,7 +26,7 @@ use Rattle.run_demand.specs.declared.DemandEnd.{DemandEnd}
 use Rattle.runs.specs.declared.Stopped.{Stopped}
 use Rattle.runs.specs.Runs.{time_available}
 use Rattle.run_demand.specs.Demand.{demand_run, demand_ended}
-use Rattle.runs.specs.Charge.{charge_battery, battery_heat_loss, charge_energy_demand}
+use Rattle.runs.specs.Charge.{wet_of, charge_battery, battery_heat_loss, charge_energy_demand}
 use Rattle.engine_replies.specs.Classes.{service_class, unserved}
 use Rattle.engine_replies.specs.Replies.{checked, unless_refused, units_of, demand_start, demand_answer, charged_answer, cooled_answer, closed_battery}
 use Rattle.runs.specs.Zoned.{Zoned, zoned, on_part}
@@ -66,9 +61,9 @@ unfoldable pub demand_from : Battery → Demand → Float → Answer
 demand_from battery demand feed = cond (demand.commit && unserved (service_class battery.card demand.service)) (refused_with no_service battery) (demand_answered battery demand feed)
 
 -- '20 required above 1e-10 without return temperature'
-unfoldable pub demand_given : Battery → Demand → Given → Answer
-demand_given battery demand Absent = refused_with no_return battery
-demand_given battery demand (Value feed) = demand_from battery demand feed
+unfoldable pub demand_given : Battery → Demand → Option Float → Answer
+demand_given battery demand None = refused_with no_return battery
+demand_given battery demand (Some feed) = demand_from battery demand feed
 
 -- `demand_energy`: 'Required at most 1e-10 answers 0 with no substep'
 unfoldable pub demand_energy : Battery → Demand → Answer
@@ -88,23 +83,20 @@ heat_loss battery =
 abbrev pub closed : Battery → Answer
 closed battery = checked battery (plain_answer zero (closed_battery battery))
 
-unfoldable pub level : Battery → StateOfCharge
+unfoldable pub level : Battery → Option Float
 level battery = state_of_charge (salt_at (salts_of battery.card)) battery.card.reference (stored_maximum (salts_of battery.card) battery.card) battery.zones battery.card.layers
 
 -- kind 6: '25 state of charge above 1.0 + 1e-10'
-unfoldable pub read_level : Battery → StateOfCharge → Answer
-read_level battery Above = refused_with over_full battery
-read_level battery (Level soc) = checked battery (plain_answer soc battery)
+unfoldable pub read_level : Battery → Option Float → Answer
+read_level battery None = refused_with over_full battery
+read_level battery (Some soc) = checked battery (plain_answer soc battery)
 
 -- kind 7
-unfoldable pub demand_to_level : Battery → Given → Float → StateOfCharge → Answer
-demand_to_level battery most target Above = refused_with over_full battery
-demand_to_level battery most target (Level soc) = checked battery (plain_answer (charge_energy_demand battery.card most target soc).0 battery)
+unfoldable pub demand_to_level : Battery → Option Float → Float → Option Float → Answer
+demand_to_level battery most target None = refused_with over_full battery
+demand_to_level battery most target (Some soc) = checked battery (plain_answer (charge_energy_demand battery.card most target soc).0 battery)
 
 -- a hydronic call as a wet source
-abbrev pub wet_of : Hydronic → Exchanger
-wet_of call = record { inlet = call.inlet; hours = call.hours; flow = call.flow; limit = call.limit; a = call.a; b = call.b; velocity = call.velocity; diameter = call.diameter }
-
 unfoldable pub wet_source : Hydronic → Source
 wet_source call = Wet (wet_of call)
 

@@ -1,12 +1,11 @@
 -- Document 02, Three: the time of a hydronic run by the substeps that it ran, apart from how the run carries it along.
-use Rattle.std.specs.Prelude.{ℕ, zero, suc, ◌+◌, ◌≡◌, ◌⊎◌, Float}
+use Rattle.std.specs.Prelude.{ℕ, zero, suc, ◌+◌, ◌≡◌, ◌⊎◌, Float, None}
 use Rattle.floats.specs.F64.{◌⊕◌}
 use Rattle.floats.specs.Constants as Constants
 use Rattle.zone.specs.declared.Salt.{Salt}
 use Rattle.battery.specs.declared.Answer.{Answer}
 use Rattle.substep.specs.Substep.{process_heat_battery_zones}
 use Rattle.substep.specs.declared.Substep.{Substep}
-use Rattle.substep.specs.declared.Fault.TheVariants.{Nothing}
 use Rattle.runs.specs.declared.HydronicTask.{HydronicTask}
 use Rattle.runs.specs.declared.HydronicState.{HydronicState}
 use Rattle.runs.specs.declared.HydronicEnd.{HydronicEnd}
@@ -48,7 +47,7 @@ pub record LastReplaced (task : HydronicTask) (salts : ℕ → Salt) (start : Zo
   pub ended : run.end ≡ Limit
   pub earlier : ℕ
   pub due : DueAfter task salts start earlier
-  pub worked : (fraction_after task salts start earlier).fault ≡ Nothing
+  pub worked : (fraction_after task salts start earlier).fault ≡ None
   -- the whole substep and the one in its place
   pub count : run.substeps ≡ earlier + 2
   pub time :

@@ -1,6 +1,5 @@
 // The step of a demand: trial and commit, refusals 20 and 21. As in `steps`, the zones stay where they lie.
 ghost use Rattle.std.specs.Prelude.{◌≡◌, true, false, ◌≤◌};
-ghost use Rattle.card.specs.Lent.{SaltsLent};
 ghost use Rattle.battery.specs.Battery.{zones_finite};
 ghost use Rattle.battery.specs.Answer.{settled};
 ghost use Rattle.battery.specs.Ledger.{whole};
@@ -8,154 +7,139 @@ ghost use Rattle.runs.specs.Runs.{end_refusal};
 ghost use Rattle.runs.specs.Zoned.{AsDefined};
 ghost use Rattle.engine.specs.Steps.{demand_power, demand_task, demand_ran, demand_answered, demand_from, demand_given, demand_energy};
 
-use battery::{Demand, Given, Ledger, Reply};
+use battery::lent::Lent;
+use battery::{Demand, Ledger, Reply};
 use card::Card;
+use engine_replies::totals::ServiceClass;
+use refusals::Refusal;
 use run_demand::DemandTask;
 use runs::Stopped;
 use zone::KilowattHours;
 
 // The Rust's electric_charge, where the card charges during a demand.
+#[tactic(auto, unfolding(crate::specs::Steps::demand_power))]
 fn demand_power(card: Card, control: bool) -> f64
     ensures { result ≡ demand_power card control }
 {
-    if logic::both(card.simultaneous == 1, control) {
+    if (card.simultaneous == 1) & control {
         return card.power;
     }
     0.0
 }
 
+#[tactic(auto, unfolding(crate::specs::Steps::demand_task))]
 fn demand_task(ledger: Ledger, demand: Demand, feed: f64) -> DemandTask
     ensures { result ≡ demand_task ledger demand feed }
 {
     let card = ledger.card;
-    let pcm = card::pcm::derived(card);
-    let power = demand_power(card, demand.control);
-    let units = card.units as f64;
-    let hours = runs::time_available(ledger, demand.start);
     DemandTask {
         card,
-        pcm,
+        pcm: card::pcm::derived(card),
         feed,
-        power,
-        demand: KilowattHours(demand.required / units),
-        seconds: hours * floats::SECONDS_PER_HOUR,
+        power: demand_power(card, demand.control),
+        demand: KilowattHours(demand.required / (card.units as f64)),
+        seconds: runs::time_available(ledger, demand.start) * floats::SECONDS_PER_HOUR,
     }
 }
 
 // The substeps of a demand.
-fn demand_stopped(
-    ledger: Ledger,
-    salts: &[f64],
-    step: usize,
+fn demand_stopped<const STEP: usize>(
+    lent: Lent<'_, STEP>,
     demand: Demand,
     feed: f64,
     zones: &mut [f64; 64],
 ) -> Stopped
-    requires { (ledger.card.layers ≤ 64) × SaltsLent ledger.card salts.now step }
-    ensures { AsDefined (end_refusal result.end) result zones.new (demand_ran (whole ledger zones.old) demand feed) }
+    ensures { AsDefined (end_refusal result.end) result zones.new (demand_ran (whole lent.entry.ledger zones.old) demand feed) }
 {
-    let card = ledger.card;
+    let ledger = lent.ledger;
     let task = demand_task(ledger, demand, feed);
     let start = engine_replies::demand_start(ledger);
-    let e = run_demand::demand_run(task, salts, step, card.budget, start, zones);
+    let e = run_demand::demand_run(task, lent.salts, ledger.card.budget, start, zones);
     run_demand::demand_ended(e)
 }
 
-// On the battery's own zones.
-fn committed(
-    ledger: Ledger,
-    salts: &[f64],
-    step: usize,
+// On the battery's own zones. Apart from `trial`: one function of both would copy the zones of each committed demand.
+fn committed<const STEP: usize>(
+    lent: Lent<'_, STEP>,
     demand: Demand,
     feed: f64,
     zones: &mut [f64; 64],
-) -> Reply
-    requires { (ledger.card.layers ≤ 64) × SaltsLent ledger.card salts.now step × (zones_finite zones.old ledger.card.layers ≡ true) × (demand.commit ≡ true) }
-    ensures { settled ledger zones.old result zones.new ≡ demand_answered (whole ledger zones.old) demand feed }
+) -> Result<Reply, Refusal>
+    requires { (zones_finite zones.old lent.ledger.card.layers ≡ true) × (demand.commit ≡ true) }
+    ensures { settled lent.entry.ledger zones.old result zones.new ≡ demand_answered (whole lent.entry.ledger zones.old) demand feed }
 {
-    let s = demand_stopped(ledger, salts, step, demand, feed, zones);
-    let card = ledger.card;
-    let class = engine_replies::totals::service_class(card, demand.service);
+    let ledger = lent.ledger;
+    let s = demand_stopped(lent, demand, feed, zones);
+    let class = ServiceClass::from(demand.service);
     let totals = engine_replies::totals::served_totals(ledger, class, s);
     let a = engine_replies::demand_reply(ledger, s, totals);
-    let end = s.end;
-    engine_replies::unless_refused(end, a)
+    engine_replies::unless_refused(s.end, a)
 }
 
 // On a copy of the zones.
-fn trial(
-    ledger: Ledger,
-    salts: &[f64],
-    step: usize,
+fn trial<const STEP: usize>(
+    lent: Lent<'_, STEP>,
     demand: Demand,
     feed: f64,
     zones: &[f64; 64],
-) -> Reply
-    requires { (ledger.card.layers ≤ 64) × SaltsLent ledger.card salts.now step × (zones_finite zones.now ledger.card.layers ≡ true) × (demand.commit ≡ false) }
-    ensures { settled ledger zones.now result zones.now ≡ demand_answered (whole ledger zones.now) demand feed }
+) -> Result<Reply, Refusal>
+    requires { (zones_finite zones.now lent.ledger.card.layers ≡ true) × (demand.commit ≡ false) }
+    ensures { settled lent.entry.ledger zones.now result zones.now ≡ demand_answered (whole lent.entry.ledger zones.now) demand feed }
 {
     let mut own = *zones;
-    let s = demand_stopped(ledger, salts, step, demand, feed, &mut own);
-    let totals = ledger.totals;
-    let a = engine_replies::demand_reply(ledger, s, totals);
-    let end = s.end;
-    engine_replies::unless_refused(end, a)
+    let s = demand_stopped(lent, demand, feed, &mut own);
+    let a = engine_replies::demand_reply(lent.ledger, s, lent.ledger.totals);
+    engine_replies::unless_refused(s.end, a)
 }
 
-fn demand_from(
-    ledger: Ledger,
-    salts: &[f64],
-    step: usize,
+#[tactic(auto, unfolding(crate::specs::Steps::demand_from, battery::specs::Answer::settled))]
+fn demand_from<const STEP: usize>(
+    lent: Lent<'_, STEP>,
     demand: Demand,
     feed: f64,
     zones: &mut [f64; 64],
-) -> Reply
-    requires { (ledger.card.layers ≤ 64) × SaltsLent ledger.card salts.now step × (zones_finite zones.old ledger.card.layers ≡ true) }
-    ensures { settled ledger zones.old result zones.new ≡ demand_from (whole ledger zones.old) demand feed }
+) -> Result<Reply, Refusal>
+    requires { zones_finite zones.old lent.ledger.card.layers ≡ true }
+    ensures { settled lent.entry.ledger zones.old result zones.new ≡ demand_from (whole lent.entry.ledger zones.old) demand feed }
 {
-    let card = ledger.card;
-    let class = engine_replies::totals::service_class(card, demand.service);
-    if logic::both(demand.commit, engine_replies::totals::unserved(class)) {
-        return battery::answers::refused_reply(refusals::NO_SERVICE);
+    let class = ServiceClass::from(demand.service);
+    if demand.commit & engine_replies::totals::unserved(class) {
+        return Err(Refusal::NoService);
     }
     if demand.commit {
-        return committed(ledger, salts, step, demand, feed, zones);
+        return committed(lent, demand, feed, zones);
     }
-    trial(ledger, salts, step, demand, feed, zones)
+    trial(lent, demand, feed, zones)
 }
 
-fn demand_given(
-    ledger: Ledger,
-    salts: &[f64],
-    step: usize,
+#[tactic(auto, unfolding(crate::specs::Steps::demand_given, battery::specs::Answer::settled))]
+fn demand_given<const STEP: usize>(
+    lent: Lent<'_, STEP>,
     demand: Demand,
-    given: Given,
+    given: Option<f64>,
     zones: &mut [f64; 64],
-) -> Reply
-    requires { (ledger.card.layers ≤ 64) × SaltsLent ledger.card salts.now step × (zones_finite zones.old ledger.card.layers ≡ true) }
-    ensures { settled ledger zones.old result zones.new ≡ demand_given (whole ledger zones.old) demand given }
+) -> Result<Reply, Refusal>
+    requires { zones_finite zones.old lent.ledger.card.layers ≡ true }
+    ensures { settled lent.entry.ledger zones.old result zones.new ≡ demand_given (whole lent.entry.ledger zones.old) demand given }
 {
     match given {
-        Given::Absent => battery::answers::refused_reply(refusals::NO_RETURN),
-        Given::Value(feed) => demand_from(ledger, salts, step, demand, feed, zones),
+        None => Err(Refusal::NoReturn),
+        Some(feed) => demand_from(lent, demand, feed, zones),
     }
 }
 
-pub fn demand_energy(
-    ledger: Ledger,
-    salts: &[f64],
-    step: usize,
+pub fn demand_energy<const STEP: usize>(
+    lent: Lent<'_, STEP>,
     demand: Demand,
     zones: &mut [f64; 64],
-) -> Reply
-    requires { (ledger.card.layers ≤ 64) × SaltsLent ledger.card salts.now step × (zones_finite zones.old ledger.card.layers ≡ true) }
-    ensures { settled ledger zones.old result zones.new ≡ demand_energy (whole ledger zones.old) demand }
+) -> Result<Reply, Refusal>
+    requires { zones_finite zones.old lent.ledger.card.layers ≡ true }
+    ensures { settled lent.entry.ledger zones.old result zones.new ≡ demand_energy (whole lent.entry.ledger zones.old) demand }
 {
+    let ledger = lent.ledger;
     if demand.required <= floats::TOLERANCE {
-        let totals = ledger.totals;
-        let a = battery::answers::plain_reply(0.0, totals);
+        let a = battery::answers::plain_reply(0.0, ledger.totals);
         return engine_replies::checked(ledger, a, zones);
     }
-    let given = demand.feed;
-    demand_given(ledger, salts, step, demand, given, zones)
+    demand_given(lent, demand, demand.feed, zones)
 }

@@ -3,18 +3,20 @@ use mathlib.Core.Path.{◌≡◌, refl, sym, ◌∙◌, ap}
 use mathlib.Core.Bool.{Bool, true, false, cond}
 use mathlib.Core.List.{List}
 use Prim.Native.Nat.{ℕ}
-use borrow.Author.Tests.{ne_eqb, eqb-true}
+use borrow.Author.Tests.{eqb-true}
 use lib.Dec.{eqb}
 use lib.Ieee.{Float}
 use Rattle.floats.specs.Constants.{zero}
-use Rattle.logic.proofs.Branch.{via_false}
 use Rattle.battery.specs.declared.Battery.{Battery}
 use Rattle.battery.specs.declared.Demand.{Demand}
 use Rattle.battery.specs.declared.Totals.{Totals}
 use Rattle.battery.specs.declared.Ledger.{Ledger}
 use Rattle.battery.specs.declared.Answer.{Answer}
 use Rattle.battery.specs.declared.Reply.{Reply}
-use Rattle.battery.specs.Answer.{refused_with, plain_answer, answer_with, refused_reply, plain_reply, settled}
+use Rattle.battery.specs.Answer.{refused_with, plain_answer, answer_with, plain_reply, settled}
+use Rattle.std.specs.Prelude.{Ok, Err}
+use Rattle.refusals.specs.Number.{number}
+use Rattle.refusals.specs.declared.Refusal.{Refusal}
 use Rattle.battery.specs.Ledger.{whole, renewed_battery}
 use Rattle.runs.specs.declared.End.{End}
 use Rattle.runs.specs.declared.Stopped.{Stopped}
@@ -25,23 +27,17 @@ use Rattle.engine_replies.specs.Totals.{served_totals, charged_totals, closed_to
 use Rattle.engine_replies.specs.Classes.{service_class}
 use Rattle.engine_replies.specs.Replies.{checked, unless_refused, served, demand_kept, demand_reply, demand_answer, charged_battery, cooled_battery, charged_time, run_reply, run_answer, charged_answer, cooled_answer, closed_battery}
 
+-- where a call is refused, with the refusal's number
+pub settled_refusal : (l : Ledger) (before zones : List Float) (r : Refusal) → settled l before (Err r) zones ≡ refused_with (number r) (whole l before)
+unfolding settled
+settled_refusal l before zones r = refl
+
 module _ (l : Ledger) (before zones : List Float) (r : Reply) where
-  pub settled_answer : r.refusal ≡ 0 → settled l before r zones ≡ answer_with l r zones
+  pub settled_answer : settled l before (Ok r) zones ≡ answer_with l r zones
   unfolding settled
-  settled_answer h = rw h
-
-  pub settled_other : (r.refusal ≡ 0 → ⊥) → settled l before r zones ≡ refused_with r.refusal (whole l before)
-  unfolding settled
-  settled_other h = sym (via_false _ _ (ne_eqb _ _ h) refl)
-
-  pub settled_refusal : (n : ℕ) → r ≡ refused_reply n → eqb n 0 ≡ false → settled l before r zones ≡ refused_with n (whole l before)
-  unfolding settled
-  settled_refusal n e h = rw (e, h)
+  settled_answer = refl
 
   -- a reply without a run
-  pub plain_refusal : (energy : Float) (totals : Totals) → r ≡ plain_reply energy totals → r.refusal ≡ 0
-  plain_refusal energy totals e = ap (λ (x : Reply). x.refusal) e
-
   pub plain_with :
       (energy : Float) (totals : Totals) → r ≡ plain_reply energy totals →
       answer_with l r zones ≡ plain_answer energy (renewed_battery l totals zones)

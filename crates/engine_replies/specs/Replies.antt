@@ -1,5 +1,5 @@
 -- Document 01: what the steps answer after a run, and the battery that it leaves.
-use Rattle.std.specs.Prelude.{ℕ, cond, eqb, pos, Float}
+use Rattle.std.specs.Prelude.{ℕ, cond, eqb, pos, Float, Some, None}
 use Rattle.std.specs.Float.{binary64}
 use Rattle.std.specs.Float.Ieee.{of_int}
 use Rattle.refusals.specs.Refusals.{not_finite}
@@ -59,7 +59,7 @@ demand_kept battery demand ended = cond demand.commit (served battery (service_c
 
 abbrev pub demand_reply : Ledger → Stopped → Totals → Reply
 demand_reply ledger ended totals =
-    record { refusal = 0; energy = ended.energy.0 ⊗ units_of ledger.card; mark = 1; outlet = ended.outlet; time = ended.time; substeps = ended.substeps; totals = totals }
+    record { energy = ended.energy.0 ⊗ units_of ledger.card; outlet = Some ended.outlet; time = ended.time; substeps = ended.substeps; totals = totals }
 
 unfoldable pub demand_answer : Battery → Demand → Zoned Stopped → Answer
 demand_answer battery demand ended = let kept = demand_kept battery demand ended in answer_of (demand_reply (ledger_of battery) ended.part (totals_of kept)) kept
@@ -78,7 +78,7 @@ charged_time version ended = cond (shows_hydronic_time version) ended.time zero
 -- a line of kinds 2 to 4, with its time: no outlet
 abbrev pub run_reply : Float → Stopped → Totals → Reply
 run_reply time ended totals =
-    record { refusal = 0; energy = ended.energy.0; mark = 0; outlet = zero; time = time; substeps = ended.substeps; totals = totals }
+    record { energy = ended.energy.0; outlet = None; time = time; substeps = ended.substeps; totals = totals }
 
 unfoldable pub run_answer : Float → Stopped → Battery → Answer
 run_answer time ended battery = answer_of (run_reply time ended (totals_of battery)) battery

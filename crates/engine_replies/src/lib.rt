@@ -12,50 +12,48 @@ ghost use Rattle.runs.specs.Runs.{end_refusal};
 ghost use Rattle.engine_replies.specs.Replies.{checked as checked_of, unless_refused, demand_start, demand_reply, charged_time, run_reply};
 
 use battery::{Ledger, Reply, Totals};
+use refusals::Refusal;
 use run_demand::DemandState;
 use runs::{End, Stopped};
 use zone::KilowattHours;
 
 // 23 where a reported number or total is not finite.
-pub fn checked(ledger: Ledger, reply: Reply, zones: &[f64; 64]) -> Reply
-    requires { (ledger.card.layers ≤ 64) × (reply.refusal ≡ 0) }
+pub fn checked(ledger: Ledger, reply: Reply, zones: &[f64; 64]) -> Result<Reply, Refusal>
+    requires { ledger.card.layers ≤ 64 }
     ensures { (before : List Float) → settled ledger before result zones.now ≡ checked_of (whole ledger before) (answer_with ledger reply zones.now) }
 {
     if battery::answers::reply_finite(ledger, reply, zones) {
-        return reply;
+        Ok(reply)
+    } else {
+        Err(Refusal::NotFinite)
     }
-    battery::answers::refused_reply(refusals::NOT_FINITE)
 }
 
 // The answer of a run, unless it ended in 22, 23 or 24. The zones of a run that answers are finite by a law
 // (crates/engine/proofs/FiniteZones.antt), and are not tested again.
-pub fn unless_refused(end: End, reply: Reply) -> Reply
-    requires { reply.refusal ≡ 0 }
+pub fn unless_refused(end: End, reply: Reply) -> Result<Reply, Refusal>
     ensures { (l : Ledger) (before zones : List Float) → (end_refusal end ≡ 0 → zones_finite zones l.card.layers ≡ true) → settled l before result zones ≡ unless_refused (whole l before) end (answer_with l reply zones) }
 {
-    let refusal = runs::end_refusal(end);
-    if refusal == 0 {
-        if battery::answers::numbers_finite(reply) {
-            return reply;
-        }
-        return battery::answers::refused_reply(refusals::NOT_FINITE);
+    runs::end_refusal(end)?;
+    if !battery::answers::numbers_finite(reply) {
+        return Err(Refusal::NotFinite);
     }
-    battery::answers::refused_reply(refusal)
+    Ok(reply)
 }
 
+#[tactic(auto, unfolding(crate::specs::Replies::demand_start))]
 pub fn demand_start(ledger: Ledger) -> DemandState
     ensures { result ≡ demand_start ledger }
 {
     let card = ledger.card;
     let pcm = card::pcm::derived(card);
-    let reynold = runs::reynold_between(card.inlet, card.outlet, card.velocity, pcm.diameter);
     DemandState {
         step: 1.0,
         running: 0.0,
         delivered: KilowattHours(0.0),
         electric: KilowattHours(ledger.totals.electric),
         outlet: 0.0,
-        reynold,
+        reynold: runs::reynold_between(card.inlet, card.outlet, card.velocity, pcm.diameter),
     }
 }
 
@@ -63,12 +61,9 @@ pub fn demand_reply(ledger: Ledger, stopped: Stopped, totals: Totals) -> Reply
     ensures { result ≡ demand_reply ledger stopped totals }
 {
     let units = ledger.card.units as f64;
-    let energy = stopped.energy.0 * units;
     Reply {
-        refusal: 0,
-        energy,
-        mark: 1,
-        outlet: stopped.outlet,
+        energy: stopped.energy.0 * units,
+        outlet: Some(stopped.outlet),
         time: stopped.time,
         substeps: stopped.substeps,
         totals,
@@ -76,6 +71,7 @@ pub fn demand_reply(ledger: Ledger, stopped: Stopped, totals: Totals) -> Reply
 }
 
 // The seconds that a charge's line shows: those of a hydronic run from version 2 on, else 0.
+#[tactic(auto, unfolding(crate::specs::Replies::charged_time))]
 pub fn charged_time(version: u8, stopped: Stopped) -> f64
     ensures { result ≡ charged_time version stopped }
 {
@@ -90,10 +86,8 @@ pub fn run_reply(time: f64, stopped: Stopped, totals: Totals) -> Reply
     ensures { result ≡ run_reply time stopped totals }
 {
     Reply {
-        refusal: 0,
         energy: stopped.energy.0,
-        mark: 0,
-        outlet: 0.0,
+        outlet: None,
         time,
         substeps: stopped.substeps,
         totals,

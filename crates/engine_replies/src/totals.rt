@@ -1,10 +1,10 @@
 // The five totals after a call: running hours by the class of the service, charged total, charged electric.
 ghost use Rattle.std.specs.Prelude.{◌≡◌};
+ghost use Rattle.card.specs.declared.Card.{Card};
 ghost use Rattle.engine_replies.specs.Classes.{service_class, unserved as unserved_of, pump_after, direct_after};
 ghost use Rattle.engine_replies.specs.Totals.{served_totals, charged_totals, closed_totals};
 
 use battery::{Ledger, Totals};
-use card::Card;
 use runs::Stopped;
 
 // The class of a service type.
@@ -16,51 +16,44 @@ pub enum ServiceClass {
     Direct,
 }
 
-pub fn service_class(card: Card, service: u8) -> ServiceClass
-    ensures { result ≡ service_class card service }
-{
-    if service == 1 {
-        return ServiceClass::Regular;
+impl From<u8> for ServiceClass {
+    ghost from_gives = { λ service class. (card : Card) → class ≡ service_class card service };
+
+    #[tactic(auto, unfolding(crate::specs::Classes::service_class))]
+    fn from(service: u8) -> ServiceClass {
+        match service {
+            1 => ServiceClass::Regular,
+            2 => ServiceClass::Space,
+            3 => ServiceClass::Direct,
+            _ => ServiceClass::Combi,
+        }
     }
-    if service == 2 {
-        return ServiceClass::Space;
-    }
-    if service == 3 {
-        return ServiceClass::Direct;
-    }
-    ServiceClass::Combi
 }
 
+#[tactic(auto, unfolding(crate::specs::Classes::unserved))]
 pub fn unserved(class: ServiceClass) -> bool
     ensures { result ≡ unserved_of class }
 {
-    match class {
-        ServiceClass::Combi => true,
-        ServiceClass::Regular => false,
-        ServiceClass::Space => false,
-        ServiceClass::Direct => false,
-    }
+    matches!(class, ServiceClass::Combi)
 }
 
+#[tactic(auto, unfolding(crate::specs::Classes::pump_after))]
 pub fn pump_after(class: ServiceClass, pump: f64, hours: f64) -> f64
     ensures { result ≡ pump_after class pump hours }
 {
     match class {
-        ServiceClass::Combi => pump,
-        ServiceClass::Regular => pump + hours,
-        ServiceClass::Space => pump + hours,
-        ServiceClass::Direct => pump,
+        ServiceClass::Regular | ServiceClass::Space => pump + hours,
+        ServiceClass::Combi | ServiceClass::Direct => pump,
     }
 }
 
+#[tactic(auto, unfolding(crate::specs::Classes::direct_after))]
 pub fn direct_after(class: ServiceClass, direct: f64, hours: f64) -> f64
     ensures { result ≡ direct_after class direct hours }
 {
     match class {
-        ServiceClass::Combi => direct,
-        ServiceClass::Regular => direct,
-        ServiceClass::Space => direct,
         ServiceClass::Direct => direct + hours,
+        ServiceClass::Combi | ServiceClass::Regular | ServiceClass::Space => direct,
     }
 }
 
@@ -69,12 +62,10 @@ pub fn served_totals(ledger: Ledger, class: ServiceClass, stopped: Stopped) -> T
     ensures { result ≡ served_totals ledger class stopped }
 {
     let hours = stopped.time / floats::SECONDS_PER_HOUR;
-    let pump = pump_after(class, ledger.totals.pump, hours);
-    let direct = direct_after(class, ledger.totals.direct, hours);
     Totals {
         total: ledger.totals.total + hours,
-        pump,
-        direct,
+        pump: pump_after(class, ledger.totals.pump, hours),
+        direct: direct_after(class, ledger.totals.direct, hours),
         charged: ledger.totals.charged,
         electric: stopped.electric.0,
     }
@@ -84,20 +75,19 @@ pub fn charged_totals(ledger: Ledger, stopped: Stopped) -> Totals
     ensures { result ≡ charged_totals ledger stopped }
 {
     Totals {
-        total: ledger.totals.total,
-        pump: ledger.totals.pump,
-        direct: ledger.totals.direct,
         charged: ledger.totals.charged + stopped.energy.0,
         electric: stopped.electric.0,
+        ..ledger.totals
     }
 }
 
 pub fn closed_totals(ledger: Ledger) -> Totals
     ensures { result ≡ closed_totals ledger }
 {
-    let mut next = ledger.totals;
-    next.total = 0.0;
-    next.pump = 0.0;
-    next.direct = 0.0;
-    next
+    Totals {
+        total: 0.0,
+        pump: 0.0,
+        direct: 0.0,
+        ..ledger.totals
+    }
 }

@@ -1,4 +1,5 @@
 -- An answered step whose zones lie apart: its battery has at most 64 zones, and beyond them nothing changed.
+use Rattle.std.specs.Prelude.{Ok, None, Option, Some}
 use Prim.Native.Nat.{ℕ, ◌≤◌}
 use mathlib.Core.Bool.{Bool, true, false, cond, ◌&&◌}
 use mathlib.Core.Path.{◌≡◌, refl, sym, ◌∙◌, ap}
@@ -24,31 +25,30 @@ use Rattle.engine_replies.proofs.Settled.{settled_answer}
 use Rattle.engine.proofs.Promises.{refused_number}
 use Rattle.engine.proofs.AdvanceKeeps.{not_accepted_ten, advance_keeps_above, advance_answered_accepted}
 use Rattle.sheet_calls.specs.Calls.{call_of}
-use Rattle.sheet_calls.specs.declared.ReadCall.{ReadCall}
-use Rattle.sheet_calls.specs.declared.ReadCall.TheVariants.{Good, Bad}
 use Rattle.entries.specs.Record.{renewed_zones, advance_read, advance_listed, answer_own}
 use Rattle.entries.proofs.Zones.{renewed_whole}
+use Rattle.battery.specs.declared.Call.{Call}
 
 -- what two tests that hold together say of what they test
-pub both_hold : {r o a p q : Bool} → r ≡ (o && a) → o ≡ p → a ≡ q → r ≡ true → (p ≡ true) × (q ≡ true)
-both_hold {r} {o} {a} {p} {q} e f g h = let t = and_true o a (sym e ∙ h) in (sym f ∙ t.0, sym g ∙ t.1)
+pub both_hold : {o a p q : Bool} → o ≡ p → a ≡ q → (o && a) ≡ true → (p ≡ true) × (q ≡ true)
+both_hold {o} {a} {p} {q} f g h = let t = and_true o a h in (sym f ∙ t.0, sym g ∙ t.1)
 
 -- a call that is answered has been read, and its battery accepted
-answered_accepted : (version : ℕ) (b : Battery) (read : ReadCall) → (advance_read version b read).refusal ≡ 0 → battery_accepted version b ≡ true
+answered_accepted : (version : ℕ) (b : Battery) (read : Option Call) → (advance_read version b read).refusal ≡ 0 → battery_accepted version b ≡ true
 unfolding advance_read refused_with
-answered_accepted version b (Good call) h = advance_answered_accepted version b call h
-answered_accepted version b Bad h = absurd (omega arith)
+answered_accepted version b (Some call) h = advance_answered_accepted version b call h
+answered_accepted version b None h = absurd (omega arith)
 
 -- a battery that is not accepted is refused, whatever the call
-pub not_accepted_read : (version : ℕ) (b : Battery) (read : ReadCall) → battery_accepted version b ≡ false → advance_read version b read ≡ refused_with 10 b
+pub not_accepted_read : (version : ℕ) (b : Battery) (read : Option Call) → battery_accepted version b ≡ false → advance_read version b read ≡ refused_with 10 b
 unfolding advance_read
-not_accepted_read version b Bad h = refl
-not_accepted_read version b (Good call) h = not_accepted_ten version b call h
+not_accepted_read version b None h = refl
+not_accepted_read version b (Some call) h = not_accepted_ten version b call h
 
-read_leaves_above : (version : ℕ) (b : Battery) (read : ReadCall) → SameAbove b.card.layers b.zones (advance_read version b read).battery.zones
+read_leaves_above : (version : ℕ) (b : Battery) (read : Option Call) → SameAbove b.card.layers b.zones (advance_read version b read).battery.zones
 unfolding advance_read refused_with
-read_leaves_above version b Bad = same_above b.card.layers b.zones
-read_leaves_above version b (Good call) = advance_keeps_above version b call
+read_leaves_above version b None = same_above b.card.layers b.zones
+read_leaves_above version b (Some call) = advance_keeps_above version b call
 
 -- nor is one whose services are
 pub not_accepted_listed : (version : ℕ) (services : List Service) (b : Battery) (call : List ℕ) → (battery_accepted version b && services_ok services) ≡ false
@@ -97,15 +97,15 @@ own_leaves_above version services b call =
     (λ t. listed_leaves_above version services b call)
     (λ t. unfold refused_with in same_above b.card.layers b.zones)
 
-module _ (version : ℕ) (services : List Service) (l : Ledger) (call : List ℕ) (before own : List Float) (r : Reply) (answered : r.refusal ≡ 0)
-    (said : settled l before r own ≡ answer_own version services (whole l before) call) where
+module _ (version : ℕ) (services : List Service) (l : Ledger) (call : List ℕ) (before own : List Float) (r : Reply)
+    (said : settled l before (Ok r) own ≡ answer_own version services (whole l before) call) where
   pub answer_is : answer_with l r own ≡ answer_own version services (whole l before) call
-  answer_is = sym (settled_answer l before own r answered) ∙ said
+  answer_is = sym (settled_answer l before own r) ∙ said
 
   accepted : AcceptedBattery version (whole l before)
   accepted =
       accepted_battery version (whole l before)
-      (own_accepted version services (whole l before) call (sym (ap (λ (a : Answer). a.refusal) answer_is) ∙ answered))
+      (own_accepted version services (whole l before) call (sym (ap (λ (a : Answer). a.refusal) answer_is)))
 
   pub answered_few : l.count ≤ 64
   answered_few =

@@ -5,6 +5,9 @@ use mathlib.Core.List.{List}
 use Prim.Native.Nat.{ℕ, ◌≤◌, ◌<◌}
 use borrow.Author.Tests.{eq-eqb, ne_eqb, le-leb, lt-leb}
 use lib.ListN.{length}
+use Rattle.refusals.specs.declared.Refusal.{Refusal}
+use Rattle.refusals.specs.Number.{number}
+use Rattle.refusals.proofs.Numbers.{number_not_0}
 use Rattle.card.specs.Version.{known_version}
 use Rattle.sheet_records.specs.Cards.{card_length, refusal_at}
 use Rattle.sheet_records.specs.Records.{record_length}
@@ -20,6 +23,10 @@ module _ (version : ℕ) (card rec free : List ℕ) where
     pub open_card : (refusal_at version card ≡ 0 → ⊥) → open_known version card rec free ≡ unchanged (refusal_at version card) rec free
     unfolding open_known
     open_card h = rw (eq-eqb (length card) (card_length version card) l, ne_eqb (refusal_at version card) 0 h)
+
+    pub open_refused : (r : Refusal) → number r ≡ refusal_at version card → open_known version card rec free ≡ unchanged (number r) rec free
+    unfolding open_known
+    open_refused r e = rw (eq-eqb (length card) (card_length version card) l, ← e, number_not_0 r)
 
     module _ (a : refusal_at version card ≡ 0) where
       pub open_record : (length rec ≡ record_length version card → ⊥) → open_known version card rec free ≡ unchanged 10 rec free

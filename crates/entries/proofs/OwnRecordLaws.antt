@@ -1,4 +1,5 @@
 -- The caller's own record: a refused call leaves it as it was, and any call what lies above its zones.
+use Rattle.std.specs.Prelude.{None, Option, Some}
 use Prim.Native.Nat.{ℕ}
 use mathlib.Core.Path.{◌≡◌, refl, ap}
 use mathlib.Core.Bool.{true, false}
@@ -12,11 +13,10 @@ use Rattle.battery.specs.declared.Battery.{Battery}
 use Rattle.battery.specs.Places.{SameAbove}
 use Rattle.engine.proofs.AdvanceKeeps.{advance_refused_keeps_state}
 use Rattle.sheet_calls.specs.Calls.{call_of}
-use Rattle.sheet_calls.specs.declared.ReadCall.{ReadCall}
-use Rattle.sheet_calls.specs.declared.ReadCall.TheVariants.{Good, Bad}
 use Rattle.entries.specs.Record.{shown_of, advanced_by, advance_read, advance_listed, answer_own, advanced_of, services_of, with_battery, own_advanced}
 use Rattle.entries.specs.declared.own_record.OwnRecord.{OwnRecord}
 use Rattle.entries.proofs.Answered.{own_leaves_above}
+use Rattle.battery.specs.declared.Call.{Call}
 
 -- the version, before all
 module _ (version : ℕ) (services : List Service) (b : Battery) (call : List ℕ) where
@@ -28,10 +28,10 @@ module _ (version : ℕ) (services : List Service) (b : Battery) (call : List �
   unfolding answer_own
   own_unknown unknown = rw unknown
 
-read_stays : (version : ℕ) (b : Battery) (r : ReadCall) → ((advance_read version b r).refusal ≡ 0 → ⊥) → (advance_read version b r).battery ≡ b
+read_stays : (version : ℕ) (b : Battery) (r : Option Call) → ((advance_read version b r).refusal ≡ 0 → ⊥) → (advance_read version b r).battery ≡ b
 unfolding advance_read refused_with
-read_stays version b Bad h = refl
-read_stays version b (Good call) h = advance_refused_keeps_state version b call h
+read_stays version b None h = refl
+read_stays version b (Some call) h = advance_refused_keeps_state version b call h
 
 listed_stays : (version : ℕ) (services : List Service) (b : Battery) (call : List ℕ) → ((advance_listed version services b call).refusal ≡ 0 → ⊥)
     → (advance_listed version services b call).battery ≡ b

@@ -1,16 +1,12 @@
 -- The services of the caller's own record: what the version and the count tell of them.
-use mathlib.Core.Path.{◌≡◌, ap, sym, ◌∙◌}
+use mathlib.Core.Path.{◌≡◌, ap, ◌∙◌}
 use mathlib.Core.Bool.{true, false}
 use mathlib.Core.List.{List, []}
-use Prim.Native.Nat.{ℕ, ◌≤◌}
-use native.Mathlib.Omega.{arith}
-use borrow.Author.Tests.{leb-true}
-use lib.Dec.{leb}
-use lib.ListN.{length}
-use Rattle.logic.proofs.Tests.{and_true}
+use Prim.Native.Nat.{ℕ, ◌<◌}
+use lib.ListN.{length, get_or}
 use Rattle.card.specs.Version.{lists_services}
-use Rattle.card.specs.Services.{most_services, listed, rising_from, services_ok}
-use Rattle.card.proofs.Listed.{listed_length}
+use Rattle.card.specs.Services.{Service, listed}
+use Rattle.card.proofs.Listed.{listed_length, entry_if}
 use Rattle.entries.specs.Record.{own_service, own_services}
 
 module _ (version count : ℕ) (numbers classes : List ℕ) where
@@ -22,10 +18,11 @@ module _ (version count : ℕ) (numbers classes : List ℕ) where
   unfolding own_services
   own_none t = rw t
 
-  -- accepted ones are at most 32
-  pub own_few : lists_services version ≡ true → services_ok (own_services version count numbers classes) ≡ true → count ≤ 32
-  unfolding services_ok
-  own_few t h =
-      let l = listed (own_service numbers classes) 0 count in
-      let ok : services_ok l ≡ true = sym (ap services_ok (own_listed t)) ∙ h in
-      omega (arith, leb-true (length l) most_services (and_true (leb (length l) most_services) (rising_from 4 l) ok).0, listed_length (own_service numbers classes) 0 count)
+  pub own_count : lists_services version ≡ true → length (own_services version count numbers classes) ≡ count
+  own_count t = ap length (own_listed t) ∙ listed_length (own_service numbers classes) 0 count
+
+  -- one of them
+  pub own_entry : (k : ℕ) (d : Service) → k < length (own_services version count numbers classes)
+      → get_or (own_services version count numbers classes) k d ≡ own_service numbers classes k
+  unfolding own_services
+  own_entry k d h = (entry_if (lists_services version) (own_service numbers classes) count k d h).2

@@ -1,5 +1,7 @@
 -- Document 01, module 9: what A's entries answer, and what the lent memory holds afterwards.
-use Rattle.std.specs.Prelude.{ℕ, ◌≡◌, Bool, false, cond, List, leb, eqb, length, take}
+use Rattle.std.specs.Prelude.{ℕ, ◌≡◌, Bool, false, cond, List, leb, eqb, length, take, Option, Some, None, Result, Ok, Err}
+use Rattle.refusals.specs.Number.{number}
+use Rattle.refusals.specs.declared.Refusal.{Refusal}
 use Rattle.refusals.specs.Refusals.{card_out_of_range, bad_call, no_room, no_version}
 use Rattle.codec.specs.Bytes.{over}
 use Rattle.card.specs.Version.{known_version}
@@ -8,8 +10,7 @@ use Rattle.battery.specs.declared.Answer.{Answer}
 use Rattle.sheet_records.specs.Cards.{card_length, card_at, refusal_at}
 use Rattle.sheet_records.specs.Records.{record_length, record_bytes}
 use Rattle.sheet_lines.specs.Lines.{line_size, line_bytes, opening_length, opening_bytes}
-use Rattle.entries.specs.declared.RecordCard.{RecordCard}
-use Rattle.entries.specs.declared.RecordCard.TheVariants.{Good, Bad}
+use Rattle.card.specs.declared.Card.{Card}
 
 -- the refusal, the battery record and the lent part of the sheet afterwards
 pub record After : Type 0 where
@@ -22,6 +23,11 @@ pub record WasAfter (after : After) (code : ℕ) (record' sheet : List ℕ) : Ty
   pub code_is : code ≡ after.code
   pub record_is : record' ≡ after.record'
   pub sheet_is : sheet ≡ after.sheet
+
+-- a call's outcome in numbers: the refusal that its line shows, any byte, or why it has no line
+abbrev pub shown_number : Result ℕ Refusal → ℕ
+shown_number (Ok n) = n
+shown_number (Err r) = number r
 
 -- a refusal that changes no byte
 abbrev pub unchanged : ℕ → List ℕ → List ℕ → After
@@ -80,5 +86,5 @@ record_laid version rec =
     false
 
 -- its card
-unfoldable pub record_card : ℕ → List ℕ → RecordCard
-record_card version rec = cond (record_laid version rec) (Good (card_at version rec)) Bad
+unfoldable pub record_card : ℕ → List ℕ → Option Card
+record_card version rec = cond (record_laid version rec) (Some (card_at version rec)) None

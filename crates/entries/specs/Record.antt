@@ -1,38 +1,47 @@
 -- Document 01, module 9: 'One more entry takes the caller's own battery record and advances it by a call.' There is no sheet, so no 11.
-use Rattle.std.specs.Prelude.{ℕ, zero, suc, cond, List, [], get_or, set, Float}
+use Rattle.std.specs.Prelude.{ℕ, zero, suc, cond, List, [], get_or, set, Float, Option, Some, None}
 use Rattle.std.specs.Float.{nan}
-use Rattle.refusals.specs.Refusals.{bad_call, no_version}
+use Rattle.refusals.specs.Refusals.{answered, bad_call, no_version}
 use Rattle.card.specs.Version.{known_version, lists_services}
 use Rattle.card.specs.Services.{Service, listed, services_ok}
-use Rattle.battery.specs.Answer.{reply_of, refused_reply, refused_with}
+use Rattle.floats.specs.Constants as Constants
+use Rattle.battery.specs.Answer.{outlet_mark, outlet_value, refused_with}
 use Rattle.battery.specs.Ledger.{renewed_battery}
 use Rattle.battery.specs.declared.Battery.{Battery}
+use Rattle.battery.specs.declared.Call.{Call}
 use Rattle.battery.specs.declared.Answer.{Answer}
 use Rattle.battery.specs.declared.Reply.{Reply}
 use Rattle.battery.specs.declared.Ledger.{Ledger}
 use Rattle.engine.specs.Steps.{advance_of}
 use Rattle.sheet_calls.specs.Calls.{call_of}
-use Rattle.sheet_calls.specs.declared.ReadCall.{ReadCall}
-use Rattle.sheet_calls.specs.declared.ReadCall.TheVariants.{Good, Bad}
 use Rattle.entries.specs.declared.own_record.Shown.{Shown}
 use Rattle.entries.specs.declared.own_record.Renewed.{Renewed}
 use Rattle.entries.specs.declared.own_record.OwnRecord.{OwnRecord}
+use Rattle.entries.specs.declared.own_record.OwnServices.{OwnServices}
 
 -- a battery after a call, and what the call answers
 pub record Advanced : Type 0 where
   pub battery : Battery
   pub shown : Shown
 
--- a reply without its totals, as a line shows it; the same of a refusal, and of an answer
+-- an answer without its battery, as a line shows it; the same of a reply, and of a refusal
+unfoldable pub shown_of : Answer → Shown
+shown_of answer =
+    record { refusal = answer.refusal; mark = answer.mark; substeps = answer.substeps; energy = answer.energy; outlet = answer.outlet; time = answer.time }
+
 abbrev pub reply_shown : Reply → Shown
 reply_shown reply =
-    record { refusal = reply.refusal; mark = reply.mark; substeps = reply.substeps; energy = reply.energy; outlet = reply.outlet; time = reply.time }
+    record {
+      refusal = answered;
+      mark = outlet_mark reply.outlet;
+      substeps = reply.substeps;
+      energy = reply.energy;
+      outlet = outlet_value reply.outlet;
+      time = reply.time;
+    }
 
 abbrev pub refused_shown : ℕ → Shown
-refused_shown n = reply_shown (refused_reply n)
-
-unfoldable pub shown_of : Answer → Shown
-shown_of answer = reply_shown (reply_of answer)
+refused_shown n = record { refusal = n; mark = 0; substeps = 0; energy = Constants.zero; outlet = Constants.zero; time = Constants.zero }
 
 -- a battery whose zones lie apart, with its totals renewed and these zones: its card and count stay
 abbrev pub renewed_with : Ledger → Renewed → List Float → Advanced
@@ -49,9 +58,9 @@ unfoldable pub advanced_by : Answer → Advanced
 advanced_by answer = record { battery = answer.battery; shown = shown_of answer }
 
 -- 10 for a call that can't be read
-unfoldable pub advance_read : ℕ → Battery → ReadCall → Answer
-advance_read version battery Bad = refused_with bad_call battery
-advance_read version battery (Good call) = advance_of version battery call
+unfoldable pub advance_read : ℕ → Battery → Option Call → Answer
+advance_read version battery None = refused_with bad_call battery
+advance_read version battery (Some call) = advance_of version battery call
 
 -- document 02, Four: '61 .. counted with 1 to 4 everywhere', so 10 for services that are refused
 unfoldable pub advance_listed : ℕ → List Service → Battery → List ℕ → Answer
@@ -72,6 +81,10 @@ own_service numbers classes i = record { number = get_or numbers i 0; class = ge
 
 unfoldable pub own_services : ℕ → ℕ → List ℕ → List ℕ → List Service
 own_services version count numbers classes = cond (lists_services version) (listed (own_service numbers classes) 0 count) []
+
+-- the same where they are lent
+abbrev pub lent_services : OwnServices → List Service
+lent_services lent = own_services lent.version lent.count lent.numbers.now lent.classes.now
 
 abbrev pub services_of : ℕ → OwnRecord → List Service
 services_of version own = own_services version own.services own.numbers own.classes

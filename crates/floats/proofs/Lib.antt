@@ -36,3 +36,4 @@ pub mod Sum2Laws
 pub mod LnLaws
 pub mod Truncation
 pub mod Operands
+pub mod Front

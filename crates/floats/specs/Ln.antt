@@ -1,11 +1,9 @@
 -- Document 01, 'Stand-ins': ln of m × 2^k, 1 ≤ m < 2.
-use Rattle.std.specs.Prelude.{cond, ℕ, zero, suc, ◌+◌, ◌-◌, ◌*◌, ◌/◌, ◌%◌, ◌^◌, pos, Float}
+use Rattle.std.specs.Prelude.{cond, ℕ, zero, suc, ◌+◌, ◌-◌, ◌*◌, ◌/◌, ◌%◌, ◌^◌, pos, Float, Option, Some, None}
 use Rattle.std.specs.Float.Ieee.{lt, le, of_bits, to_bits, of_int}
 use Rattle.std.specs.Float.{binary64}
 use Rattle.floats.specs.F64.{◌⊕◌, ◌⊖◌, ◌⊗◌, ◌⊘◌}
 use Rattle.floats.specs.Constants.{half, one, two, root_two, ln_two, bias, smallest_normal, largest_finite}
-use Rattle.floats.specs.declared.Log.{Log}
-use Rattle.floats.specs.declared.Log.TheVariants.{Value, Refused}
 
 -- of x, positive and normal: m, the digits of its bits under the exponent of 1, and the exponent's field, which is k + 1023
 unfoldable pub mantissa : Float → Float
@@ -33,5 +31,5 @@ ln_normal x =
     cond (lt root_two m) (ln_at (m ⊗ half) (k ⊕ one)) (ln_at m k)
 
 -- refused where 'the logarithm's argument is not positive, normal and finite'
-unfoldable pub ln : Float → Log
-ln x = cond (le smallest_normal x) (cond (le x largest_finite) (Value (ln_normal x)) Refused) Refused
+unfoldable pub ln : Float → Option Float
+ln x = cond (le smallest_normal x) (cond (le x largest_finite) (Some (ln_normal x)) None) None

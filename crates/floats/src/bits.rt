@@ -4,8 +4,6 @@ ghost use Rattle.std.specs.Float.Ieee.{is_nan};
 ghost use Rattle.floats.specs.Standins.{truncate as truncate_of};
 ghost use Rattle.floats.specs.Ln.{mantissa as mantissa_of, exponent as exponent_of, series as series_of, ln_at, ln_normal, ln as ln_of};
 
-use crate::Log;
-
 const ROOT_TWO: f64 = 1.4142135623730951;
 
 const LN_TWO: f64 = 0.6931471805599453;
@@ -14,6 +12,7 @@ const SMALLEST_NORMAL: f64 = 2.2250738585072014e-308;
 
 const LARGEST_FINITE: f64 = 1.7976931348623157e308;
 
+#[tactic(auto, using(crate::proofs::LnLaws::not_nan_pattern), unfolding(crate::specs::Ln::mantissa))]
 fn mantissa(x: f64) -> f64
     requires { T (not (is_nan x)) }
     ensures { result ≡ mantissa_of x }
@@ -22,6 +21,7 @@ fn mantissa(x: f64) -> f64
     f64::from_bits(bits % 0x0010_0000_0000_0000 + 0x3FF0_0000_0000_0000)
 }
 
+#[tactic(auto, unfolding(crate::specs::Ln::exponent))]
 fn exponent(x: f64) -> u16
     requires { T (not (is_nan x)) }
     ensures { result ≡ exponent_of x }
@@ -30,20 +30,20 @@ fn exponent(x: f64) -> u16
     (bits / 0x0010_0000_0000_0000 % 2048) as u16
 }
 
+#[tactic(auto, using(crate::proofs::LnLaws::series_more), unfolding(crate::specs::Ln::series))]
 fn series(w: f64) -> f64
     ensures { result ≡ series_of w 10 }
 {
     let first: u16 = 21;
     let mut p = 1.0 / (first as f64);
-    let mut j: u16 = 0;
-    while j < 10 {
+    for j in 0..10u16 {
         let d = 19 - 2 * j;
         p = p * w + 1.0 / (d as f64);
-        j += 1;
     }
     p
 }
 
+#[tactic(auto, unfolding(crate::specs::Ln::ln_at))]
 fn ln_at(m: f64, k: f64) -> f64
     ensures { result ≡ ln_at m k }
 {
@@ -52,6 +52,7 @@ fn ln_at(m: f64, k: f64) -> f64
     (2.0 * s) * p + k * LN_TWO
 }
 
+#[tactic(auto, unfolding(crate::specs::Ln::ln_normal))]
 fn ln_normal(x: f64) -> f64
     requires { T (not (is_nan x)) }
     ensures { result ≡ ln_normal x }
@@ -66,17 +67,19 @@ fn ln_normal(x: f64) -> f64
     }
 }
 
-pub fn ln(x: f64) -> Log
+// Refused where x is not positive, normal and finite.
+#[tactic(auto, using(crate::proofs::LnLaws::ordered), unfolding(crate::specs::Ln::ln))]
+pub fn ln(x: f64) -> Option<f64>
     ensures { result ≡ ln_of x }
 {
     if x >= SMALLEST_NORMAL {
         if x <= LARGEST_FINITE {
             let v = ln_normal(x);
-            return Log::Value(v);
+            return Some(v);
         }
-        return Log::Refused;
+        return None;
     }
-    Log::Refused
+    None
 }
 
 // Rust's `as usize` on 64 bits: towards 0, to the nearest end of the range where it lies outside, 0 of a NaN.

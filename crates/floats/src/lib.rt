@@ -34,6 +34,7 @@ pub const SECONDS_PER_HOUR: f64 = 3600.0;
 
 pub const KILOJOULES_PER_KILOWATT_HOUR: f64 = 3600.0;
 
+#[tactic(auto, using(crate::proofs::Finite::zero_literal, crate::proofs::Finite::sub_self_is), unfolding(crate::specs::Standins::finite64))]
 pub fn is_finite(x: f64) -> bool
     ensures { result ≡ finite64 x }
 {
@@ -41,18 +42,23 @@ pub fn is_finite(x: f64) -> bool
 }
 
 // One number more in a running test: from 0.0 on, it equals 0 as long as each number is finite. Two operations, no branch.
+#[tactic(auto, using(crate::proofs::Finite::zero_literal, crate::proofs::Spread::spread_is), unfolding(crate::specs::Standins::finite64))]
 pub fn finite_step(spread: f64, x: f64) -> f64
     ensures { eq result zero ≡ (eq spread zero && finite64 x) }
 {
     spread + (x - x)
 }
 
+// Not std's `abs`: of -0 that gives 0, this -0.
+#[tactic(auto, unfolding(crate::specs::Standins::magnitude))]
 pub fn magnitude(p: f64) -> f64
     ensures { result ≡ magnitude_of p }
 {
     if p < 0.0 { -p } else { p }
 }
 
+// Not std's `max`: of a NaN and a number that gives the number, this the first.
+#[tactic(auto, unfolding(crate::specs::Standins::larger))]
 fn larger(p: f64, q: f64) -> f64
     ensures { result ≡ larger_of p q }
 {
@@ -60,13 +66,14 @@ fn larger(p: f64, q: f64) -> f64
 }
 
 // The stand-in of `relative_eq!`.
+#[tactic(auto, unfolding(crate::specs::Standins::nearly_equal))]
 pub fn nearly_equal(p: f64, q: f64, epsilon: f64, relative: f64) -> bool
     ensures { result ≡ nearly_equal p q epsilon relative }
 {
     if p == q {
         return true;
     }
-    if logic::both(is_finite(p), is_finite(q)) {
+    if is_finite(p) & is_finite(q) {
         let difference = magnitude(p - q);
         if difference <= epsilon {
             return true;
@@ -76,14 +83,16 @@ pub fn nearly_equal(p: f64, q: f64, epsilon: f64, relative: f64) -> bool
     false
 }
 
-// The stand-in of `max(0.0)`; 0 of a NaN.
+// The stand-in of `max(0.0)`; 0 of a NaN, and of -0, where std's may give either zero.
+#[tactic(auto, unfolding(crate::specs::Standins::max_zero))]
 pub fn max_zero(p: f64) -> f64
     ensures { result ≡ max_zero p }
 {
     if p > 0.0 { p } else { 0.0 }
 }
 
-// The smaller, of two equal ones the first.
+// The smaller, of two equal ones the first. Not std's `min`: of a NaN and a number that gives the number, this the second.
+#[tactic(auto, unfolding(crate::specs::Standins::min))]
 pub fn min(p: f64, q: f64) -> f64
     ensures { result ≡ min_of p q }
 {
@@ -91,6 +100,7 @@ pub fn min(p: f64, q: f64) -> f64
 }
 
 // The stand-in of `powi(2)`.
+#[tactic(auto, unfolding(crate::specs::Standins::square))]
 pub fn square(p: f64) -> f64
     ensures { result ≡ square_of p }
 {
@@ -104,6 +114,7 @@ pub struct Sum2 {
     pub c: f64,
 }
 
+#[tactic(auto, unfolding(crate::specs::Sum2::sum2_step))]
 pub fn sum2_step(sum: Sum2, p: f64) -> Sum2
     ensures { result ≡ sum2_step sum p }
 {
@@ -116,20 +127,14 @@ pub fn sum2_step(sum: Sum2, p: f64) -> Sum2
 }
 
 // The compensated sum of the first n of xs.
+#[tactic(auto, using(crate::proofs::Front::front_at, crate::proofs::Front::front_end, crate::proofs::Sum2Laws::sum2_more, crate::proofs::Sum2Laws::sum2_end), unfolding(crate::specs::Sum2::sum2_after))]
 pub fn sum_with_accumulator(xs: [f64; 64], n: usize) -> f64
     requires { n ≤ 64 }
     ensures { result ≡ sum2 xs n }
 {
     let mut a = Sum2 { s: 0.0, c: 0.0 };
-    for k in 0..n {
-        a = sum2_step(a, xs[k]);
+    for x in &xs[..n] {
+        a = sum2_step(a, *x);
     }
     a.s + a.c
-}
-
-// What `ln` answers: refused where its argument is not positive, normal and finite.
-#[derive(Clone, Copy)]
-pub enum Log {
-    Value(f64),
-    Refused,
 }

@@ -1,4 +1,5 @@
 -- A call: each of 20 to 25 is given exactly in its case.
+use Rattle.std.specs.Prelude.{Some}
 use mathlib.Core.Path.{◌≡◌, sym, ap, ◌∙◌}
 use mathlib.Core.Logic.{◌↔◌}
 use mathlib.Core.List.{List}
@@ -16,7 +17,6 @@ use Rattle.engine.proofs.StepCases.{step_20, step_21, step_22, step_23, step_24,
 use Rattle.sheet_records.specs.Cards.{services_at}
 use Rattle.sheet_records.specs.Records.{record_of}
 use Rattle.sheet_calls.specs.Calls.{call_of}
-use Rattle.sheet_calls.specs.declared.ReadCall.TheVariants.{Good}
 use Rattle.entries.specs.Entry.{After, unchanged, entered}
 use Rattle.entries.proofs.Entering.{code_of}
 use Rattle.heat_battery.specs.Entries.{entry_of}
@@ -32,7 +32,7 @@ module _ (version : ℕ) (known : known_version version ≡ true) (rec call free
   o = entry_of version rec call free
 
   -- a call that gets a line is in range
-  in_range : GetsLine version rec call free → (c : Call) → call_of version (services_at version rec) call ≡ Good c → call_in_range version b.card c ≡ true
+  in_range : GetsLine version rec call free → (c : Call) → call_of version (services_at version rec) call ≡ Some c → call_in_range version b.card c ≡ true
   in_range x c k = ap (λ (y : Card). call_in_range version y c) (record_card_lem version rec) ∙ x.call_good.in_range c k
 
   -- a number that the steps give in its case

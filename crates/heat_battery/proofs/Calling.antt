@@ -1,4 +1,5 @@
 -- What a call leaves, way by way through its tests.
+use Rattle.std.specs.Prelude.{None, Option, Some}
 use mathlib.Core.Path.{◌≡◌, refl, ◌∙◌}
 use mathlib.Core.List.{List}
 use mathlib.Core.Bool.{true, false}
@@ -11,8 +12,6 @@ use Rattle.engine.proofs.AdvanceKeeps.{not_accepted_ten}
 use Rattle.sheet_records.specs.Cards.{services_at}
 use Rattle.sheet_records.specs.Records.{record_of}
 use Rattle.sheet_calls.specs.Calls.{call_of}
-use Rattle.sheet_calls.specs.declared.ReadCall.{ReadCall}
-use Rattle.sheet_calls.specs.declared.ReadCall.TheVariants.{Good, Bad}
 use Rattle.card.specs.Version.{known_version}
 use Rattle.entries.specs.Entry.{unchanged, line_after, record_laid}
 use Rattle.entries.proofs.Entering.{line_ten}
@@ -35,17 +34,17 @@ module _ (version : ℕ) (rec call free : List ℕ) where
     entry_unlaid h = entry_known_lem known ∙ rw h
 
     module _ (l : record_laid version rec ≡ true) where
-      pub entry_bad : call_of version (services_at version rec) call ≡ Bad → entry_of version rec call free ≡ unchanged 10 rec free
+      pub entry_bad : call_of version (services_at version rec) call ≡ None → entry_of version rec call free ≡ unchanged 10 rec free
       unfolding entry_known entry_read
       entry_bad h = entry_known_lem known ∙ rw (l, h)
 
-      pub entry_read_lem : (c : Call) → call_of version (services_at version rec) call ≡ Good c → entry_of version rec call free ≡ line_after version rec call free (advance_of version (record_of version rec) c)
+      pub entry_read_lem : (c : Call) → call_of version (services_at version rec) call ≡ Some c → entry_of version rec call free ≡ line_after version rec call free (advance_of version (record_of version rec) c)
       unfolding entry_known entry_read
       entry_read_lem c h = entry_known_lem known ∙ rw (l, h)
 
   -- 10 for a battery that is not accepted, whatever the call's bytes
   module _ (n : battery_accepted version (record_of version rec) ≡ false) where
-    pub read_not_accepted : (r : ReadCall) → entry_read version rec call free r ≡ unchanged 10 rec free
+    pub read_not_accepted : (r : Option Call) → entry_read version rec call free r ≡ unchanged 10 rec free
     unfolding entry_read refused_with
-    read_not_accepted Bad = refl
-    read_not_accepted (Good c) = rw (not_accepted_ten version (record_of version rec) c n) (line_ten version rec call free (refused_with 10 (record_of version rec)) refl)
+    read_not_accepted None = refl
+    read_not_accepted (Some c) = rw (not_accepted_ten version (record_of version rec) c n) (line_ten version rec call free (refused_with 10 (record_of version rec)) refl)

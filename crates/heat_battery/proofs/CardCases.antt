@@ -1,4 +1,5 @@
 -- The number of a card by document 01's cases 1 to 4.
+use Rattle.std.specs.Prelude.{Err, Ok}
 use mathlib.Core.Path.{◌≡◌, refl}
 use mathlib.Core.Bool.{Bool, true, false, cond}
 use mathlib.Core.Logic.{◌⊎◌, inl, inr}
@@ -12,8 +13,8 @@ use Rattle.floats.proofs.Compare.{le_number_r}
 use Rattle.floats.proofs.Order.{le_is_not_lt, lt_is_not_le}
 use Rattle.card.specs.Ranges.{within, coldest, hottest, is_temperature}
 use Rattle.card.specs.Card.{counts_in_range, times_in_range, temperatures_in_range, card_in_range, card_verdict, verdict_number, card_refusal}
+use Rattle.refusals.specs.declared.Refusal.TheVariants.{CardOutOfRange, LowerAboveUpper, MaxTooLow, NothingToStore}
 use Rattle.card.specs.declared.Card.{Card}
-use Rattle.card.specs.declared.CardVerdict.TheVariants.{Accepted, OutOfRange, LowerAboveUpper, MaxTooLow, NothingToStore}
 use Rattle.logic.proofs.Tests.{and_true}
 
 abbrev NothingStored : Card → Type 0
@@ -29,7 +30,7 @@ pub data CardWay (c : Card) (n : ℕ) : Type 0 where
 
 way : (c : Card) (p q m d e : Bool) → card_in_range c ≡ p → le c.lower c.upper ≡ q → le c.max rated_ambient ≡ m → lt c.max c.reference ≡ d
     → nearly_equal c.max c.reference tolerance max_relative ≡ e
-    → CardWay c (verdict_number (cond p (cond q (cond m MaxTooLow (cond d NothingToStore (cond e NothingToStore Accepted))) LowerAboveUpper) OutOfRange))
+    → CardWay c (verdict_number (cond p (cond q (cond m (Err MaxTooLow) (cond d (Err NothingToStore) (cond e (Err NothingToStore) (Ok tt)))) (Err LowerAboveUpper)) (Err CardOutOfRange)))
 unfolding verdict_number
 way c false q m d e h₁ h₂ h₃ h₄ h₅ = out_of_range h₁ refl
 way c true false m d e h₁ h₂ h₃ h₄ h₅ = lower_above h₁ h₂ refl

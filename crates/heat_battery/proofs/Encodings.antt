@@ -1,4 +1,5 @@
 -- A call on the encoding of a good battery leaves the encoding of the battery that the step leaves.
+use Rattle.std.specs.Prelude.{Some}
 use mathlib.Core.Path.{◌≡◌, refl, sym, ap, ◌∙◌}
 use mathlib.Core.Logic.{◌⊎◌, inl, inr}
 use mathlib.Core.List.{List}
@@ -24,7 +25,6 @@ use Rattle.sheet_records.specs.Cards.{card_length, card_at, services_at, refusal
 use Rattle.sheet_records.specs.Records.{state_length, record_length, record_of, state_bytes, record_bytes}
 use Rattle.sheet_calls.specs.Calls.{call_of}
 use Rattle.sheet_lines.specs.Lines.{line_length, line_size, line_bytes}
-use Rattle.sheet_calls.specs.declared.ReadCall.TheVariants.{Good}
 use Rattle.sheet_lines.proofs.Lengths.{length_line_bytes}
 use Rattle.sheet_records.proofs.Lengths.{length_state_bytes}
 use Rattle.battery.specs.Battery.{battery_accepted}
@@ -54,7 +54,7 @@ lined version card call free s = record { code = s.refusal; record' = record_byt
 pub data Entered (version : ℕ) (card : List ℕ) (b : Battery) (rec call free : List ℕ) : Type 0 where
   kept_10 : entry_of version rec call free ≡ unchanged 10 rec free → Entered version card b rec call free
   kept_11 : entry_of version rec call free ≡ unchanged 11 rec free → Entered version card b rec call free
-  stepped : (c : Call) → call_of version (services_at version card) call ≡ Good c → call_in_range version b.card c ≡ true → entry_of version rec call free ≡ lined version card call free (step_of version b c)
+  stepped : (c : Call) → call_of version (services_at version card) call ≡ Some c → call_in_range version b.card c ≡ true → entry_of version rec call free ≡ lined version card call free (step_of version b c)
       → length (line_bytes version call (step_of version b c)) ≤ length free → Entered version card b rec call free
 
 module _ (version : ℕ) (card : List ℕ) (b : Battery) (rec : List ℕ) (e : Encoded version card b rec) where
@@ -96,11 +96,11 @@ module _ (version : ℕ) (card : List ℕ) (b : Battery) (rec : List ℕ) (e : E
       record { card_there = omega (arith, card_size, long_is); card_accepted = refusal_is; long = omega (arith, card_size, long_is, n) }
 
   -- a call that can be read, in its ranges, isn't refused with 10
-  pub read_not_ten : known_version version ≡ true → (call free : List ℕ) (c : Call) → call_of version (services_at version card) call ≡ Good c → call_in_range version b.card c ≡ true
+  pub read_not_ten : known_version version ≡ true → (call free : List ℕ) (c : Call) → call_of version (services_at version card) call ≡ Some c → call_in_range version b.card c ≡ true
       → (entry_of version rec call free).code ≡ 10 → ⊥
   read_not_ten known call free c k i h = on ((call_10 version known rec call free).0 h)
     where
-      there : call_of version (services_at version rec) call ≡ Good c
+      there : call_of version (services_at version rec) call ≡ Some c
       there = ap (λ (y : List Service). call_of version y call) services_are ∙ k
 
       on : CallCase10 version rec call → ⊥
@@ -139,7 +139,7 @@ module _ (version : ℕ) (card : List ℕ) (b : Battery) (rec : List ℕ) (e : E
       record { long = e.long; card_read = e.card_read ∙ sym (step_keeps_card version b c); listed = e.listed; good = step_keeps_good version b c e.good; bytes = refl }
 
   -- what the line takes of the lent part
-  module _ (call free : List ℕ) (c : Call) (k : call_of version (services_at version card) call ≡ Good c) where
+  module _ (call free : List ℕ) (c : Call) (k : call_of version (services_at version card) call ≡ Some c) where
     abbrev s : Answer
     s = step_of version b c
 

@@ -1,4 +1,5 @@
 -- A call on the caller's own record: 10 and 20 to 25 are given exactly in their cases, and no other number.
+use Rattle.std.specs.Prelude.{None, Option, Some}
 use mathlib.Core.Path.{◌≡◌, refl, sym, ap, ◌∙◌}
 use mathlib.Core.Logic.{◌⊎◌, ◌↔◌, inl, inr}
 use mathlib.Core.List.{List}
@@ -26,8 +27,6 @@ use Rattle.engine.proofs.StepKeeps.{step_refusals}
 use Rattle.engine.proofs.AdvanceKeeps.{advance_is_step}
 use Rattle.engine.proofs.StepCases.{step_20, step_21, step_22, step_23, step_24, step_25}
 use Rattle.sheet_calls.specs.Calls.{call_of}
-use Rattle.sheet_calls.specs.declared.ReadCall.{ReadCall}
-use Rattle.sheet_calls.specs.declared.ReadCall.TheVariants.{Good, Bad}
 use Rattle.sheet_calls.proofs.CallLaws.{same_call, no_call}
 use Rattle.sheet_calls.proofs.CallExact.{call_laid, laid_call}
 use Rattle.entries.specs.Record.{shown_of, advanced_by, advance_read, advanced_of}
@@ -75,7 +74,7 @@ module _ (version : ℕ) (services : List Service) (b : Battery) where
 
 data OwnWay (version : ℕ) (services : List Service) (b : Battery) (call : List ℕ) (n : ℕ) : Type 0 where
   own_ten : OwnCase10 version services b call → n ≡ 10 → OwnWay version services b call n
-  own_step : GoodOwn version services b → GoodCall version services b.card call → (c : Call) → call_of version services call ≡ Good c → call_in_range version b.card c ≡ true → n ≡ (step_of version b c).refusal
+  own_step : GoodOwn version services b → GoodCall version services b.card call → (c : Call) → call_of version services call ≡ Some c → call_in_range version b.card c ≡ true → n ≡ (step_of version b c).refusal
       → OwnWay version services b call n
 
 module _ (version : ℕ) (known : known_version version ≡ true) (services : List Service) (b : Battery) (call : List ℕ) where
@@ -92,29 +91,29 @@ module _ (version : ℕ) (known : known_version version ≡ true) (services : Li
   unlisted_number bad =
       ap (λ (a : Answer). a.refusal) (own_known version services b call known ∙ not_accepted_listed version services b call (rw bad (and_false (battery_accepted version b)))) ∙ refused_number 10 b
 
-  number : services_ok services ≡ true → (c : Call) → call_of version services call ≡ Good c → n ≡ (advance_of version b c).refusal
+  number : services_ok services ≡ true → (c : Call) → call_of version services call ≡ Some c → n ≡ (advance_of version b c).refusal
   unfolding advance_read
-  number ok c e = listed_number ok ∙ ap (λ (r : ReadCall). (advance_read version b r).refusal) e
+  number ok c e = listed_number ok ∙ ap (λ (r : Option Call). (advance_read version b r).refusal) e
 
-  bad_number : services_ok services ≡ true → call_of version services call ≡ Bad → n ≡ 10
+  bad_number : services_ok services ≡ true → call_of version services call ≡ None → n ≡ 10
   unfolding advance_read refused_with
-  bad_number ok e = listed_number ok ∙ ap (λ (r : ReadCall). (advance_read version b r).refusal) e
+  bad_number ok e = listed_number ok ∙ ap (λ (r : Option Call). (advance_read version b r).refusal) e
 
-  refused_ten : services_ok services ≡ true → (c : Call) → call_of version services call ≡ Good c → (battery_accepted version b && call_in_range version b.card c) ≡ false → n ≡ 10
+  refused_ten : services_ok services ≡ true → (c : Call) → call_of version services call ≡ Some c → (battery_accepted version b && call_in_range version b.card c) ≡ false → n ≡ 10
   unfolding advance_of refused_with
   refused_ten ok c e h = number ok c e ∙ ap (λ (a : Answer). a.refusal) (let r : advance_of version b c ≡ refused_with 10 b = rw h in r)
 
-  good_call : (c : Call) → call_of version services call ≡ Good c → call_in_range version b.card c ≡ true → GoodCall version services b.card call
+  good_call : (c : Call) → call_of version services call ≡ Some c → call_in_range version b.card c ≡ true → GoodCall version services b.card call
   good_call c e h = record { laid = call_laid version services call c e; in_range = λ d k. rw (same_call (call_of version services call) e k) h }
 
-  by_tests : services_ok services ≡ true → (c : Call) → call_of version services call ≡ Good c → (p q : Bool) → battery_accepted version b ≡ p → call_in_range version b.card c ≡ q → OwnWay version services b call n
+  by_tests : services_ok services ≡ true → (c : Call) → call_of version services call ≡ Some c → (p q : Bool) → battery_accepted version b ≡ p → call_in_range version b.card c ≡ q → OwnWay version services b call n
   by_tests ok c e true true h k = own_step (own_good version services b ok h) (good_call c e k) c e k (number ok c e ∙ ap (λ (a : Answer). a.refusal) (advance_is_step version b c h k))
   by_tests ok c e true false h k = own_ten (bad_own_call (λ g. no_both (sym (g.in_range c e) ∙ k))) (refused_ten ok c e (rw (h, k)))
   by_tests ok c e false q h k = own_ten (bad_own (λ g. no_both (sym (good_own version services b g) ∙ h))) (refused_ten ok c e (rw h))
 
-  by_call : services_ok services ≡ true → (r : ReadCall) → call_of version services call ≡ r → OwnWay version services b call n
-  by_call ok Bad e = own_ten (bad_own_call (λ g. no_call (call_of version services call) e (laid_call version services call g.laid).1)) (bad_number ok e)
-  by_call ok (Good c) e = by_tests ok c e (battery_accepted version b) (call_in_range version b.card c) refl refl
+  by_call : services_ok services ≡ true → (r : Option Call) → call_of version services call ≡ r → OwnWay version services b call n
+  by_call ok None e = own_ten (bad_own_call (λ g. no_call (call_of version services call) e (laid_call version services call g.laid).1)) (bad_number ok e)
+  by_call ok (Some c) e = by_tests ok c e (battery_accepted version b) (call_in_range version b.card c) refl refl
 
   by_list : (ok : Bool) → services_ok services ≡ ok → OwnWay version services b call n
   by_list true ok = by_call ok (call_of version services call) refl

@@ -1,5 +1,5 @@
 -- Document 01, 'Who can cause a refusal': the case of each number that A's entries give, apart from what the entries compute.
-use Rattle.std.specs.Prelude.{ℕ, ◌+◌, ◌*◌, ◌≤◌, ◌<◌, ◌≡◌, ◌⊎◌, List, true, false, length, get_or}
+use Rattle.std.specs.Prelude.{ℕ, ◌+◌, ◌*◌, ◌≤◌, ◌<◌, ◌≡◌, ◌⊎◌, List, true, false, length, get_or, Some}
 use Rattle.std.specs.Float.{nan}
 use Rattle.std.specs.Float.Ieee.{lt, le}
 use Rattle.floats.specs.Constants.{max_relative, tolerance, rated_ambient}
@@ -17,7 +17,6 @@ use Rattle.sheet_records.specs.Records.{record_length, record_of}
 use Rattle.sheet_calls.specs.Calls.{call_of}
 use Rattle.sheet_lines.specs.Lines.{opening_length, line_size}
 use Rattle.sheet_calls.specs.Laid.{LaidCall}
-use Rattle.sheet_calls.specs.declared.ReadCall.TheVariants.{Good}
 
 -- ---- opening: 'There a card is its bytes as in line 0 (another length is 1)'
 
@@ -92,7 +91,7 @@ pub record GoodRecord (version : ℕ) (rec : List ℕ) : Type 0 where
 -- a call that 10 lets through, on a card that lists these services: laid out as its kind, and its fields in their ranges
 pub record GoodCall (version : ℕ) (services : List Service) (card : Card) (call : List ℕ) : Type 0 where
   pub laid : LaidCall version call
-  pub in_range : (asked : Call) → call_of version services call ≡ Good asked → call_in_range version card asked ≡ true
+  pub in_range : (asked : Call) → call_of version services call ≡ Some asked → call_in_range version card asked ≡ true
 
 -- '10 a call field not finite or out of range .., or a battery handed in whose card 1 to 4 refuse or whose zones or totals aren't finite', 61 'counted with 1 to 4'
 pub data CallCase10 (version : ℕ) (rec call : List ℕ) : Type 0 where
@@ -115,7 +114,7 @@ pub record GetsLine (version : ℕ) (rec call free : List ℕ) : Type 0 where
 pub record LineCase (Case : Battery → Call → Type 0) (version : ℕ) (rec call free : List ℕ) : Type 0 where
   pub gets_line : GetsLine version rec call free
   pub asked : Call
-  pub read : call_of version (services_at version rec) call ≡ Good asked
+  pub read : call_of version (services_at version rec) call ≡ Some asked
   pub case_of : Case (record_of version rec) asked
 
 -- ---- a call on the caller's own record, without a sheet
@@ -141,5 +140,5 @@ pub record OwnCase (Case : Battery → Call → Type 0) (version : ℕ) (service
   pub own_good : GoodOwn version services battery
   pub call_good : GoodCall version services battery.card call
   pub asked : Call
-  pub read : call_of version services call ≡ Good asked
+  pub read : call_of version services call ≡ Some asked
   pub case_of : Case battery asked

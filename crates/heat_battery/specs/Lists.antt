@@ -1,5 +1,5 @@
 -- Document 01, 'What demand 3 speaks of': a list of calls on A's entries, and on the steps.
-use Rattle.std.specs.Prelude.{ℕ, ◌+◌, ◌≤◌, ◌≡◌, List, [], ◌∷◌, ◌++◌, Bool, true, cond, ◌||◌, eqb, length, take, drop}
+use Rattle.std.specs.Prelude.{ℕ, ◌+◌, ◌≤◌, ◌≡◌, List, [], ◌∷◌, ◌++◌, Bool, true, cond, ◌||◌, eqb, length, take, drop, Option, Some, None}
 use Rattle.refusals.specs.Refusals.{bad_call, no_room, no_version}
 use Rattle.codec.specs.Bytes.{be_at}
 use Rattle.card.specs.Services.{Service, services_ok}
@@ -12,10 +12,9 @@ use Rattle.sheet_records.specs.Cards.{card_length, card_at, services_at}
 use Rattle.sheet_records.specs.Records.{record_bytes}
 use Rattle.sheet_calls.specs.Calls.{call_of}
 use Rattle.sheet_lines.specs.Lines.{line_bytes, opening_length, opening_bytes}
-use Rattle.sheet_calls.specs.declared.ReadCall.{ReadCall}
-use Rattle.sheet_calls.specs.declared.ReadCall.TheVariants.{Good, Bad}
 use Rattle.entries.specs.Entry.{After, open_of}
 use Rattle.heat_battery.specs.Entries.{entry_of}
+use Rattle.battery.specs.declared.Call.{Call}
 
 -- a call of a list: the version that it is given, and its bytes
 pub record ListedCall : Type 0 where
@@ -97,9 +96,9 @@ spared_of version card rec free calls =
 
 -- ---- the steps on a card that lists these services, fed a call's kind and fields, never an answer
 
-unfoldable pub answer_read : ℕ → Battery → ReadCall → Answer
-answer_read version battery (Good c) = step_of version battery c
-answer_read version battery Bad = refused_with bad_call battery
+unfoldable pub answer_read : ℕ → Battery → Option Call → Answer
+answer_read version battery (Some c) = step_of version battery c
+answer_read version battery None = refused_with bad_call battery
 
 unfoldable pub answer_to : ℕ → List Service → Battery → List ℕ → Answer
 answer_to version services battery call = answer_read version battery (call_of version services call)

@@ -11,15 +11,15 @@ ghost use Rattle.sheet_calls.specs.Calls.{call_of};
 ghost use Rattle.auditor.specs.Rules.{plain};
 ghost use Rattle.auditor.specs.Audit.{verdict_word, verdict_fields, audit_of, limited_audit_of};
 ghost use Rattle.entries.specs.Record.{own_advanced};
-ghost use Rattle.entries.specs.Entry.{WasAfter, open_of, record_laid};
+ghost use Rattle.entries.specs.Entry.{WasAfter, shown_number, open_of, record_laid};
 ghost use Rattle.heat_battery.specs.Entries.{entry_read, entry_known, entry_of};
 
 use auditor::AuditVerdict;
 use battery::Battery;
 use card::Card;
-use entries::RecordCard;
-use entries::own_record::{OwnRecord, Shown};
-use sheet_calls::ReadCall;
+use entries::own_record::{OwnRecord, OwnServices, Shown};
+use refusals::Refusal;
+use sheet_records::services::CardBytes;
 
 // Opens a sheet: its version and card line, and a fresh battery; 40 before all where the version isn't known.
 #[unsafe(no_mangle)]
@@ -31,50 +31,69 @@ pub extern "C" fn heat_battery_open(
 ) -> u8
     ensures { WasAfter (open_of version card.now «record».old sheet.old) result «record».new sheet.new }
 {
-    if card::version::known_version(version) {
-        return entries::open(version, card, record, sheet);
+    if !card::version::known_version(version) {
+        return Refusal::NoVersion.number();
     }
-    refusals::NO_VERSION
+    refusals::refused_number(entries::open(version, card, record, sheet))
 }
 
-// A call on a record's accepted battery: read, advanced, entered.
-fn advance(version: u8, battery: Battery, record: &mut [u8], call: &[u8], sheet: &mut [u8]) -> u8
+// A call on a record's accepted battery: read, advanced, entered. Record, call and sheet are the three memories that C lends.
+fn advance(
+    version: u8,
+    battery: Battery,
+    record: &mut [u8],
+    call: &[u8],
+    sheet: &mut [u8],
+) -> Result<u8, Refusal>
     requires { (record_laid version «record».old ≡ true) × (battery ≡ record_of version «record».old) × (battery_accepted version battery ≡ true) }
-    ensures { WasAfter (entry_read version «record».old call.now sheet.old (call_of version (services_at version «record».old) call.now)) result «record».new sheet.new }
+    ensures { WasAfter (entry_read version «record».old call.now sheet.old (call_of version (services_at version «record».old) call.now)) (shown_number result) «record».new sheet.new }
 {
-    let kind = sheet_calls::kind_of(version, call);
-    let class = sheet_calls::demand_class(version, record, kind, call);
-    let read = sheet_calls::call_by(version, kind, class, call);
-    match read {
-        ReadCall::Bad => refusals::BAD_CALL,
-        ReadCall::Good(c) => {
-            let a = engine::steps::advance(version, battery, c);
-            entries::enter(version, record, call, sheet, a)
-        }
-    }
+    let Some(kind) = sheet_calls::kind_of(version, call) else {
+        return Err(Refusal::BadCall);
+    };
+    let listed = CardBytes {
+        version,
+        bytes: record,
+    };
+    let class = sheet_calls::demand_class(version, &listed, kind, call);
+    let Some(read) = sheet_calls::call_by(version, kind, class, call) else {
+        return Err(Refusal::BadCall);
+    };
+    let a = engine::steps::advance(version, battery, read);
+    entries::enter(version, record, call, sheet, a)
 }
 
 // A call on a record whose card was read and accepted: its battery read and judged.
-fn with_card(version: u8, card: Card, record: &mut [u8], call: &[u8], sheet: &mut [u8]) -> u8
+fn with_card(
+    version: u8,
+    card: Card,
+    record: &mut [u8],
+    call: &[u8],
+    sheet: &mut [u8],
+) -> Result<u8, Refusal>
     requires { (record_laid version «record».old ≡ true) × (card ≡ card_at version «record».old) }
-    ensures { WasAfter (entry_read version «record».old call.now sheet.old (call_of version (services_at version «record».old) call.now)) result «record».new sheet.new }
+    ensures { WasAfter (entry_read version «record».old call.now sheet.old (call_of version (services_at version «record».old) call.now)) (shown_number result) «record».new sheet.new }
 {
     let b = sheet_records::read_record(version, card, record);
-    if entries::record_accepted(version, b) {
-        return advance(version, b, record, call, sheet);
+    if !entries::record_accepted(version, b) {
+        return Err(Refusal::BadCall);
     }
-    refusals::BAD_CALL
+    advance(version, b, record, call, sheet)
 }
 
 // A call on a record of a known version: its card read and judged.
-fn with_version(version: u8, record: &mut [u8], call: &[u8], sheet: &mut [u8]) -> u8
-    ensures { WasAfter (entry_known version «record».old call.now sheet.old) result «record».new sheet.new }
+fn with_version(
+    version: u8,
+    record: &mut [u8],
+    call: &[u8],
+    sheet: &mut [u8],
+) -> Result<u8, Refusal>
+    ensures { WasAfter (entry_known version «record».old call.now sheet.old) (shown_number result) «record».new sheet.new }
 {
-    let read = entries::record_card(version, record);
-    match read {
-        RecordCard::Bad => refusals::BAD_CALL,
-        RecordCard::Good(card) => with_card(version, card, record, call, sheet),
-    }
+    let Some(card) = entries::record_card(version, record) else {
+        return Err(Refusal::BadCall);
+    };
+    with_card(version, card, record, call, sheet)
 }
 
 // One call on a battery record: its line at the front of the lent part of the sheet, and the record renewed; 40 before all.
@@ -87,10 +106,13 @@ pub extern "C" fn heat_battery_call(
 ) -> u8
     ensures { WasAfter (entry_of version «record».old call.now sheet.old) result «record».new sheet.new }
 {
-    if card::version::known_version(version) {
-        return with_version(version, record, call, sheet);
+    if !card::version::known_version(version) {
+        return Refusal::NoVersion.number();
     }
-    refusals::NO_VERSION
+    match with_version(version, record, call, sheet) {
+        Ok(shown) => shown,
+        Err(refusal) => refusal.number(),
+    }
 }
 
 // Audits a sheet: line × 256 + refusal, or lines × 256 where it is accepted; 44 above 65,536 bytes.
@@ -115,15 +137,13 @@ pub extern "C" fn heat_battery_advance(version: u8, own: &mut OwnRecord, call: &
     ensures { (result ≡ (own_advanced version own.old call.now).shown) × (own.new ≡ (own_advanced version own.old call.now).own) }
 {
     let l = battery::ledger_of(own.battery);
-    let out = entries::own_record::advance_apart(
+    let services = OwnServices {
         version,
-        l,
-        own.services,
-        &own.numbers,
-        &own.classes,
-        call,
-        &mut own.battery.zones,
-    );
+        count: own.services,
+        numbers: &own.numbers,
+        classes: &own.classes,
+    };
+    let out = entries::own_record::advance_apart(l, services, call, &mut own.battery.zones);
     if out.shown.refusal == 0 {
         own.battery.total = out.totals.total;
         own.battery.pump = out.totals.pump;

@@ -1,5 +1,5 @@
 // The C archive, libheat_battery.a: the five entries of heat_battery, exported under their names with the same contracts.
-// include/heat_battery.h says what a caller must know.
+// include/heat_battery.h says what a caller must know. The same five again, since a static library is no library that `promises` can use.
 #![tactic(auto)]
 
 ghost use Rattle.std.specs.Prelude.{◌≡◌};

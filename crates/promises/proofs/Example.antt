@@ -37,7 +37,7 @@ use Rattle.sheet_lines.specs.Front.{call_part, answer_part, following, head_ok, 
 use Rattle.auditor.specs.Audit.{judge, audit_line, audit_from, card_line_ok, audit_lines, audit_card, audit_of}
 use Rattle.auditor.specs.Rules.{plain}
 use Rattle.heat_battery.specs.Entries.{entry_read, entry_known, entry_of}
-use Rattle.auditor.specs.declared.Verdict.TheVariants.{Accepted}
+use Rattle.auditor.specs.Verdicts.{Accepted}
 use Rattle.promises.specs.Example.{example_list, example_card, fresh_record, example_opening, example_charge, charge_line, charged_record, example_demand, unlisted_demand, refused_line, example_sheet}
 
 -- A opens with this card and these bytes behind its fields; the first call is answered and the second refused, and they write these bytes; B accepts the sheet

@@ -1,4 +1,5 @@
 -- The steps' lines for good calls are laid and agree.
+use Rattle.std.specs.Prelude.{Some}
 use Prim.Native.Nat.{ℕ, ◌+◌, ◌<◌}
 use native.Mathlib.Omega.{arith}
 use mathlib.Core.Path.{◌≡◌, refl, sym, ap, ◌∙◌}
@@ -20,7 +21,6 @@ use Rattle.engine.proofs.StepKeeps.{step_keeps_card, step_keeps_good}
 use Rattle.sheet_calls.specs.Calls.{call_of}
 use Rattle.sheet_lines.specs.Answers.{answer_length, answer_at, answer_bytes, AcceptsItself, agrees, GoodAnswer}
 use Rattle.sheet_lines.specs.Lines.{line_length, line_bytes}
-use Rattle.sheet_calls.specs.declared.ReadCall.TheVariants.{Good}
 use Rattle.sheet_lines.proofs.Lengths.{length_answer_bytes}
 use Rattle.sheet_lines.proofs.AnswerBack.{answer_back, marks_written}
 use Rattle.sheet_lines.proofs.Agreement.{agrees_self}
@@ -43,7 +43,7 @@ pub record LinedUp (same : Float → Float → Bool) (version : ℕ) (services :
   pub stepped : Stepped same version services c b lines read
 
 module _ (same : Float → Float → Bool) (self : AcceptsItself same) (version : ℕ) (services : List Service) (c : Card) (b : Battery) (g : GoodBattery version b) (own : b.card ≡ c) (call : List ℕ) (d : Call)
-    (reads : call_of version services call ≡ Good d) (in_range : call_in_range version c d ≡ true) where
+    (reads : call_of version services call ≡ Some d) (in_range : call_in_range version c d ≡ true) where
   abbrev s : Answer
   s = step_of version b d
 

@@ -1,4 +1,5 @@
 -- The class of a number by an accepted list of services, and of a demand by its bytes.
+use Rattle.std.specs.Prelude.{None, Option, Some}
 use Prim.Native.Nat.{ℕ, zero, suc, ◌+◌, ◌≤◌, ◌<◌}
 use mathlib.Core.Path.{◌≡◌, refl, sym, ap, ◌∙◌}
 use mathlib.Core.Bool.{Bool, true, false, cond, ◌&&◌}
@@ -18,8 +19,6 @@ use Rattle.battery.specs.declared.Call.{Call}
 use Rattle.battery.specs.declared.Call.TheVariants.{DemandEnergy, ChargeElectric, ChargeHydronic, HeatLoss, CloseTimestep, ReadStateOfCharge, ChargeEnergyDemand}
 use Rattle.battery.specs.Kinds.{kind_of}
 use Rattle.sheet_calls.specs.Calls.{commit_place, control_place, return_place, call_length, mark_ok, demand_class, demand_at, demand_call, call_by, call_of}
-use Rattle.sheet_calls.specs.declared.ReadCall.{ReadCall}
-use Rattle.sheet_calls.specs.declared.ReadCall.TheVariants.{Good, Bad}
 use Rattle.sheet_calls.proofs.CallLaws.{test_good, call_kind}
 use Rattle.promises.specs.Promises.{ServiceClasses, DemandsAreClassed}
 
@@ -90,14 +89,14 @@ service_in CloseTimestep = 0
 service_in ReadStateOfCharge = 0
 service_in (ChargeEnergyDemand most target) = 0
 
-read_service : ReadCall → ℕ
-read_service (Good call) = service_in call
-read_service Bad = 0
+read_service : Option Call → ℕ
+read_service (Some call) = service_in call
+read_service None = 0
 
-demand_class_lem : (version class : ℕ) (bs : List ℕ) (demand : Demand) → demand_call version class bs ≡ Good (DemandEnergy demand) → demand.service ≡ class
+demand_class_lem : (version class : ℕ) (bs : List ℕ) (demand : Demand) → demand_call version class bs ≡ Some (DemandEnergy demand) → demand.service ≡ class
 unfolding demand_call demand_at read_service service_in
 demand_class_lem version class bs demand h =
-    sym (ap read_service (test_good (leb (get_or bs (commit_place version) 0) 1 && (leb (get_or bs (control_place version) 0) 1 && mark_ok bs (return_place version))) (Good (DemandEnergy (demand_at version class bs))) (DemandEnergy demand) h).1)
+    sym (ap read_service (test_good (leb (get_or bs (commit_place version) 0) 1 && (leb (get_or bs (control_place version) 0) 1 && mark_ok bs (return_place version))) (Some (DemandEnergy (demand_at version class bs))) (DemandEnergy demand) h).1)
 
 pub demands_are_classed : DemandsAreClassed
 unfolding call_of call_by demand_class kind_of
@@ -105,7 +104,7 @@ demands_are_classed version services call demand h =
     let k = get_or call 0 0 in
     let class = demand_class version services k call in
     let e : 1 ≡ k = call_kind version services call (DemandEnergy demand) h in
-    let r : call_by version k class call ≡ Good (DemandEnergy demand) = (test_good (eqb (length call) (call_length version k)) (call_by version k class call) (DemandEnergy demand) h).1 in
-    let q : demand_call version class call ≡ Good (DemandEnergy demand) = ap (λ (n : ℕ). call_by version n class call) e ∙ r in
+    let r : call_by version k class call ≡ Some (DemandEnergy demand) = (test_good (eqb (length call) (call_length version k)) (call_by version k class call) (DemandEnergy demand) h).1 in
+    let q : demand_call version class call ≡ Some (DemandEnergy demand) = ap (λ (n : ℕ). call_by version n class call) e ∙ r in
     let c : class ≡ cond (lists_services version) (class_of services (be_at call 1 2)) (get_or call 1 0) = ap (λ (n : ℕ). demand_class version services n call) (sym e) in
     demand_class_lem version class call demand q ∙ c

@@ -1,4 +1,5 @@
 -- The calls that get a line are calls of a known kind, in their ranges.
+use Rattle.std.specs.Prelude.{Some}
 use Prim.Native.Nat.{ℕ}
 use mathlib.Core.Path.{◌≡◌, refl, subst}
 use mathlib.Core.List.{List, [], ◌∷◌}
@@ -16,7 +17,6 @@ use Rattle.sheet_calls.specs.Calls.{call_of}
 use Rattle.sheet_records.specs.Cards.{services_at}
 use Rattle.sheet_records.specs.Records.{record_bytes}
 use Rattle.sheet_lines.specs.Lines.{line_bytes}
-use Rattle.sheet_calls.specs.declared.ReadCall.TheVariants.{Good}
 use Rattle.entries.specs.Entry.{unchanged}
 use Rattle.heat_battery.specs.Lists.{ListedCall, AllGiven, no_line, spared, Encoded}
 use Rattle.heat_battery.proofs.Encodings.{lined, Entered, kept_10, kept_11, stepped, entry_on_encoding, step_encoded, gets_line, free_rest_lem}
@@ -25,7 +25,7 @@ use Rattle.heat_battery.proofs.EqualSteps.{spared_more, given_is, nothing_used}
 -- each of the calls is read, and its fields are in range
 abbrev pub AllGood : ℕ → List Service → Card → List (List ℕ) → Type 0
 AllGood version services c [] = Unit
-AllGood version services c (call ∷ calls) = ((d : Call) × (call_of version services call ≡ Good d) × (call_in_range version c d ≡ true)) × AllGood version services c calls
+AllGood version services c (call ∷ calls) = ((d : Call) × (call_of version services call ≡ Some d) × (call_in_range version c d ≡ true)) × AllGood version services c calls
 
 module _ (version : ℕ) (known : known_version version ≡ true) (card : List ℕ) where
   pub spared_good : (calls : List ListedCall) → AllGiven version calls → (b : Battery) (rec free : List ℕ) → Encoded version card b rec → AllGood version (services_at version card) b.card (spared rec free calls)

@@ -1,4 +1,5 @@
 -- Document 02, Four: equal answers in versions 2 and 3, call for call.
+use Rattle.std.specs.Prelude.{Some}
 use Prim.Native.Nat.{ℕ, ◌+◌, ◌≤◌}
 use mathlib.Core.Path.{◌≡◌, refl, sym, ap, subst, ◌∙◌}
 use mathlib.Core.Bool.{true}
@@ -21,7 +22,6 @@ use Rattle.engine.specs.Steps.{charge, step_of}
 use Rattle.sheet_records.specs.Cards.{card_at, services_at}
 use Rattle.sheet_records.specs.Records.{state_bytes, record_bytes}
 use Rattle.sheet_calls.specs.Calls.{call_of}
-use Rattle.sheet_calls.specs.declared.ReadCall.TheVariants.{Good}
 use Rattle.sheet_calls.proofs.CallLaws.{same_call}
 use Rattle.sheet_lines.specs.Answers.{answer_bytes}
 use Rattle.sheet_lines.proofs.CardFront.{card_at_front}
@@ -86,7 +86,7 @@ after_call version call s =
     let two = length_be_bytes 2 (line_length version s.battery.card (length call)) in
     drop_at (n ++ call) (answer_bytes version s) (2 + length call) (length-append n call ∙ ap (λ (k : ℕ). k + length call) two)
 
-module _ (version : ℕ) (card : List ℕ) (b : Battery) (rec : List ℕ) (e : Encoded version card b rec) (call free : List ℕ) (c : Call) (k : call_of version (services_at version card) call ≡ Good c) where
+module _ (version : ℕ) (card : List ℕ) (b : Battery) (rec : List ℕ) (e : Encoded version card b rec) (call free : List ℕ) (c : Call) (k : call_of version (services_at version card) call ≡ Some c) where
   line_answers : answered_by call (lined version card call free (step_of version b c)) ≡ record { code = (step_of version b c).refusal; shown = answer_bytes version (step_of version b c) }
   unfolding answered_by
   line_answers = rw (gets_line version card b rec e call free c k, line_taken_lem version card b rec e call free c k, after_call version call (step_of version b c))
@@ -133,7 +133,7 @@ module _ (fields card : List ℕ) where
         (sym (answers_more rec₃ free₃ wide (in_three calls) (unchanged 10 rec₃ free₃) h₃ ∙ rw (f₃, ten (widened call.bytes) rec₃ free₃)))
 
     -- both get the step's line
-    module _ (c : Call) (k₂ : call_of 2 (services_at 2 fields) call.bytes ≡ Good c) (h₂ : entry_of 2 rec₂ call.bytes free₂ ≡ lined 2 fields call.bytes free₂ (step_of 2 b c))
+    module _ (c : Call) (k₂ : call_of 2 (services_at 2 fields) call.bytes ≡ Some c) (h₂ : entry_of 2 rec₂ call.bytes free₂ ≡ lined 2 fields call.bytes free₂ (step_of 2 b c))
         (h₃ : entry_of 3 rec₃ (widened call.bytes) free₃ ≡ lined 3 card (widened call.bytes) free₃ (step_of 3 b c)) where
       abbrev s₂ : Answer
       s₂ = step_of 2 b c
@@ -141,7 +141,7 @@ module _ (fields card : List ℕ) where
       abbrev s₃ : Answer
       s₃ = step_of 3 b c
 
-      k₃ : call_of 3 (services_at 3 card) (widened call.bytes) ≡ Good c
+      k₃ : call_of 3 (services_at 3 card) (widened call.bytes) ≡ Some c
       k₃ = reads ∙ k₂
 
       abbrev rest₂ : List ℕ

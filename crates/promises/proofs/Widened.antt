@@ -1,4 +1,5 @@
 -- A call of types 0 to 3 in the layouts of versions 2 and 3 is read as the same call, whatever services are listed.
+use Rattle.std.specs.Prelude.{None}
 use Prim.Native.Nat.{ℕ, ◌≤◌}
 use mathlib.Core.Path.{◌≡◌, refl, sym, ap, ◌∙◌}
 use mathlib.Core.Bool.{cond}
@@ -13,7 +14,6 @@ use Rattle.card.specs.Version.{lists_services}
 use Rattle.card.specs.Services.{Service, class_of}
 use Rattle.card.proofs.Listed.{own_type}
 use Rattle.sheet_calls.specs.Calls.{commit_place, call_length, mark_ok, given_at, demand_class, demand_at, demand_call, hydronic_at, charge_demand_call, bare_call, call_by, call_of}
-use Rattle.sheet_calls.specs.declared.ReadCall.TheVariants.{Bad}
 use Rattle.promises.specs.TwoAndThree.{widened}
 
 -- a demand's fields, one place further on
@@ -49,8 +49,8 @@ unfolding call_of
 demand_same services others fields h = on (ℕ_discrete (length fields) 28)
   where
     on : Dec (length fields ≡ 28)
-        → cond (eqb (length (1 ∷ 0 ∷ fields)) (call_length 3 1)) (call_by 3 1 (demand_class 3 services 1 (1 ∷ 0 ∷ fields)) (1 ∷ 0 ∷ fields)) Bad
-        ≡ cond (eqb (length (1 ∷ fields)) (call_length 2 1)) (call_by 2 1 (demand_class 2 others 1 (1 ∷ fields)) (1 ∷ fields)) Bad
+        → cond (eqb (length (1 ∷ 0 ∷ fields)) (call_length 3 1)) (call_by 3 1 (demand_class 3 services 1 (1 ∷ 0 ∷ fields)) (1 ∷ 0 ∷ fields)) None
+        ≡ cond (eqb (length (1 ∷ fields)) (call_length 2 1)) (call_by 2 1 (demand_class 2 others 1 (1 ∷ fields)) (1 ∷ fields)) None
     on (yes e) =
         rw (eq-eqb (length (1 ∷ 0 ∷ fields)) (call_length 3 1) (omega (arith, e, demand_lengths.0)), eq-eqb (length (1 ∷ fields)) (call_length 2 1) (omega (arith, e, demand_lengths.1)))
         (demand_by_lem services others fields h e)

@@ -1,7 +1,7 @@
 -- The promises: what the demands ask, each under its sentence, in the words of the crates below (the entries' open_of, entry_of and own_advanced, the auditor's
 -- audit_of), for every version: what A does takes it, a sheet has its own, and one that isn't known is 40. Each is a theorem of crates/promises/proofs/Promises.antt
 -- under the same name.
-use Rattle.std.specs.Prelude.{ℕ, ◌+◌, ◌*◌, ◌<◌, ◌≤◌, ◌≡◌, true, false, cond, ◌↔◌, List, [], ◌∷◌, ◌++◌, length, drop, get_or, Float}
+use Rattle.std.specs.Prelude.{ℕ, ◌+◌, ◌*◌, ◌<◌, ◌≤◌, ◌≡◌, true, false, cond, ◌↔◌, List, [], ◌∷◌, ◌++◌, length, drop, get_or, Float, Some}
 use Rattle.floats.specs.Constants.{zero}
 use Rattle.codec.specs.Bytes.{be_at, over}
 use Rattle.zone.specs.declared.Salt.{Salt}
@@ -24,15 +24,14 @@ use Rattle.substep.specs.Substep.{logarithms_of, process_heat_battery_zones}
 use Rattle.substep.specs.declared.SubstepInput.{SubstepInput}
 use Rattle.substep.specs.declared.Fault.TheVariants.{Logarithm}
 use Rattle.runs.specs.Zoned.{zoned}
-use Rattle.runs.specs.Charge.{hydronic_start}
-use Rattle.engine.specs.Steps.{wet_of, step_of}
+use Rattle.runs.specs.Charge.{hydronic_start, wet_of}
+use Rattle.engine.specs.Steps.{step_of}
 use Rattle.engine.specs.Budget.{hydronic_task_of, hydronic_run_of}
 use Rattle.engine.specs.Times.{TimeRun, with_time}
 use Rattle.engine.specs.Cases.{Case20, Case21, Case22, Case23, Case24, Case25}
 use Rattle.sheet_records.specs.Cards.{card_at, services_at}
 use Rattle.sheet_records.specs.Records.{record_of}
 use Rattle.sheet_calls.specs.Calls.{call_of}
-use Rattle.sheet_calls.specs.declared.ReadCall.TheVariants.{Good}
 use Rattle.sheet_lines.specs.Answers.{AcceptsItself}
 use Rattle.sheet_lines.specs.Lines.{line_bytes, opening_bytes}
 use Rattle.entries.specs.Entry.{unchanged, open_of}
@@ -41,7 +40,7 @@ use Rattle.entries.specs.declared.own_record.OwnRecord.{OwnRecord}
 use Rattle.heat_battery.specs.Entries.{entry_of}
 use Rattle.heat_battery.specs.Cases.{OpenCase1, OpenCase2, OpenCase3, OpenCase4, OpenCase61, OpenCase10, OpenCase11, Opens, CallCase10, CallCase11, LineCase, OwnCase10, OwnCase}
 use Rattle.heat_battery.specs.Lists.{ListedCall, AllGiven, sheet_of, free_after_sheet, spared_of, step_lines, SheetOfSteps}
-use Rattle.auditor.specs.declared.Verdict.TheVariants.{Accepted, Refused}
+use Rattle.auditor.specs.Verdicts.{Accepted, Refused}
 use Rattle.auditor.specs.Rules.{Rules, plain, NoLooser}
 use Rattle.auditor.specs.Audit.{limit, audit_of, limited_audit_of, verdict_word, verdict_fields}
 use Rattle.auditor.specs.Sheet.{Sheet}
@@ -237,7 +236,7 @@ AuditRefusals =
 abbrev pub LogarithmsCounted : Type 0
 LogarithmsCounted =
     (card : Card) (pcm : HeatBatteryPcm) (salts : ℕ → Salt) (input : SubstepInput) (zones : List Float)
-    → ((process_heat_battery_zones card pcm salts input zones).fault ≡ Logarithm → ⊥)
+    → ((process_heat_battery_zones card pcm salts input zones).fault ≡ Some Logarithm → ⊥)
     → (process_heat_battery_zones card pcm salts input zones).logarithms ≡ logarithms_of input.mode
 
 -- Three: 'From sheet version 2 its time is the f64 sum, in order, of the substeps run, one whose outlet ends the loop too; where the limit ends the run with a replayed
@@ -276,7 +275,7 @@ ServiceClasses =
 -- from version 3 on that is the class that a demand has, of a number of two bytes after its kind; before, it is the byte there
 abbrev pub DemandsAreClassed : Type 0
 DemandsAreClassed =
-    (version : ℕ) (services : List Service) (call : List ℕ) (demand : Demand) → call_of version services call ≡ Good (DemandEnergy demand)
+    (version : ℕ) (services : List Service) (call : List ℕ) (demand : Demand) → call_of version services call ≡ Some (DemandEnergy demand)
     → demand.service ≡ cond (lists_services version) (class_of services (be_at call 1 2)) (get_or call 1 0)
 
 -- 'A run that uses only types 0 to 3, with 11 nowhere, gives equal answers in versions 2 and 3': any card that opens a sheet of version 2, with any bytes behind it that

@@ -9,6 +9,7 @@ use std::io;
 use std::io::Read;
 
 // Reads until buf is full or the input ends, and returns how many bytes it put at the start of buf. Where a read fails, its error is returned.
+// Not by `read_exact`, which does not say how much it read where the input ends.
 pub fn read_full<R: Read>(reader: &mut R, buf: &mut [u8]) -> io::Result<usize>
     ensures bound { ReadsAtMost result buf.new }
     ensures bytes { IfOk result (λ n. Consumes (R.remaining reader.old) (R.remaining reader.new) (take n buf.new)) }

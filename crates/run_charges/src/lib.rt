@@ -4,22 +4,24 @@
 ghost use Rattle.std.specs.Prelude.{◌≡◌, false, ◌≤◌};
 ghost use Rattle.std.specs.Float.Ieee.{lt};
 ghost use Rattle.floats.specs.Constants.{zero};
-ghost use Rattle.zone.specs.Lent.{salts_in, Salted};
-ghost use Rattle.card.specs.Lent.{SaltsLent};
+ghost use Rattle.zone.specs.LentSalts.{lent_salts};
 ghost use Rattle.battery.specs.Ledger.{whole};
 ghost use Rattle.substep.specs.Substep.{charger_heat};
 ghost use Rattle.runs.specs.Runs.{end_refusal};
 ghost use Rattle.runs.specs.Zoned.{AsDefined};
 ghost use Rattle.runs.specs.Charge.{electric_input, electric_ended, charge_electric, hydronic_task, hydronic_start, charge_hydronic, charge_battery, loss_input, loss_ended, battery_heat_loss, energy_deficit, charge_energy_demand};
 
-use battery::{Given, Ledger};
+use battery::Ledger;
+use battery::lent::Lent;
 use card::Card;
 use runs::{Exchanger, HydronicState, HydronicTask, Source, Stopped};
 use substep::{Outcome, SubstepInput};
+use zone::lent::LentSalts;
 use zone::{Kilojoules, KilowattHours};
 use zone_water::Mode;
 
 // The call's power over the time left.
+#[tactic(auto, unfolding(runs::specs::Charge::electric_input))]
 fn electric_input(ledger: Ledger, power: f64, target: f64) -> SubstepInput
     ensures { result ≡ electric_input ledger power target }
 {
@@ -38,106 +40,95 @@ fn electric_input(ledger: Ledger, power: f64, target: f64) -> SubstepInput
     }
 }
 
+#[tactic(auto, unfolding(runs::specs::Charge::electric_ended))]
 fn electric_ended(ledger: Ledger, outcome: Outcome) -> Stopped
     ensures { result ≡ electric_ended ledger outcome }
 {
-    let energy = outcome.charged;
-    let fault = outcome.fault;
-    let end = runs::fault_end(fault);
     Stopped {
-        energy,
-        electric: KilowattHours(ledger.totals.electric + energy.0),
+        energy: outcome.charged,
+        electric: KilowattHours(ledger.totals.electric + outcome.charged.0),
         outlet: 0.0,
         time: 0.0,
-        end,
+        end: runs::fault_end(outcome.fault),
         substeps: 1,
     }
 }
 
-pub fn charge_battery_electric(
-    ledger: Ledger,
-    salts: &[f64],
-    step: usize,
+pub fn charge_battery_electric<const STEP: usize>(
+    lent: Lent<'_, STEP>,
     power: f64,
     target: f64,
     zones: &mut [f64; 64],
 ) -> Stopped
-    requires { (ledger.card.layers ≤ 64) × SaltsLent ledger.card salts.now step }
-    ensures { AsDefined (end_refusal result.end) result zones.new (charge_electric (whole ledger zones.old) power target) }
+    ensures { AsDefined (end_refusal result.end) result zones.new (charge_electric (whole lent.entry.ledger zones.old) power target) }
 {
+    let ledger = lent.ledger;
     let card = ledger.card;
     let pcm = card::pcm::derived(card);
     let input = electric_input(ledger, power, target);
-    let u = substep_loops::charging_alone::charge_in_place(card, pcm, salts, step, input, zones);
+    let u = substep_loops::charging_alone::charge_in_place(card, pcm, lent.salts, input, zones);
     electric_ended(ledger, u)
 }
 
+#[tactic(auto, unfolding(runs::specs::Charge::hydronic_task))]
 fn hydronic_task(ledger: Ledger, wet: Exchanger, target: f64) -> HydronicTask
     ensures { result ≡ hydronic_task ledger.card wet target }
 {
-    let card = ledger.card;
-    let pcm = card::pcm::derived(card);
-    let limit = KilowattHours(wet.limit).kilojoules();
     HydronicTask {
-        card,
-        pcm,
+        card: ledger.card,
+        pcm: card::pcm::derived(ledger.card),
         wet,
         target,
-        limit,
+        limit: KilowattHours(wet.limit).kilojoules(),
     }
 }
 
+#[tactic(auto, unfolding(runs::specs::Charge::hydronic_start))]
 fn hydronic_start(ledger: Ledger, wet: Exchanger) -> HydronicState
     ensures { result ≡ hydronic_start ledger.card wet }
 {
     let card = ledger.card;
-    let reynold = runs::reynold_between(card.inlet, card.outlet, wet.velocity, wet.diameter);
     HydronicState {
         absorbed: Kilojoules(0.0),
-        reynold,
+        reynold: runs::reynold_between(card.inlet, card.outlet, wet.velocity, wet.diameter),
         time: 0.0,
     }
 }
 
-pub fn charge_battery_hydronic(
-    ledger: Ledger,
-    salts: &[f64],
-    step: usize,
+pub fn charge_battery_hydronic<const STEP: usize>(
+    lent: Lent<'_, STEP>,
     wet: Exchanger,
     target: f64,
     zones: &mut [f64; 64],
 ) -> Stopped
-    requires { (ledger.card.layers ≤ 64) × SaltsLent ledger.card salts.now step }
-    ensures { AsDefined (end_refusal result.end) result zones.new (charge_hydronic (whole ledger zones.old) wet target) }
+    ensures { AsDefined (end_refusal result.end) result zones.new (charge_hydronic (whole lent.entry.ledger zones.old) wet target) }
 {
+    let ledger = lent.ledger;
     let task = hydronic_task(ledger, wet, target);
     let steps = run_hydronic::whole_substeps(task);
     let start = hydronic_start(ledger, wet);
-    let e = run_hydronic::hydronic_run(task, salts, step, steps, start, zones);
+    let e = run_hydronic::hydronic_run(task, lent.salts, steps, start, zones);
     run_hydronic::hydronic_ended(KilowattHours(ledger.totals.electric), e)
 }
 
 // The charge step: by the source.
-pub fn charge_battery(
-    ledger: Ledger,
-    salts: &[f64],
-    step: usize,
+#[tactic(auto, unfolding(runs::specs::Charge::charge_battery))]
+pub fn charge_battery<const STEP: usize>(
+    lent: Lent<'_, STEP>,
     source: Source,
     target: f64,
     zones: &mut [f64; 64],
 ) -> Stopped
-    requires { (ledger.card.layers ≤ 64) × SaltsLent ledger.card salts.now step }
-    ensures { AsDefined (end_refusal result.end) result zones.new (charge_battery (whole ledger zones.old) source target) }
+    ensures { AsDefined (end_refusal result.end) result zones.new (charge_battery (whole lent.entry.ledger zones.old) source target) }
 {
     match source {
-        Source::Electric(power) => {
-            charge_battery_electric(ledger, salts, step, power, target, zones)
-        }
-        Source::Wet(wet) => charge_battery_hydronic(ledger, salts, step, wet, target, zones),
+        Source::Electric(power) => { charge_battery_electric(lent, power, target, zones) }
+        Source::Wet(wet) => charge_battery_hydronic(lent, wet, target, zones),
     }
 }
 
 // The rated losses over the whole timestep.
+#[tactic(auto, unfolding(runs::specs::Charge::loss_input))]
 fn loss_input(ledger: Ledger) -> SubstepInput
     ensures { result ≡ loss_input ledger.card }
 {
@@ -155,85 +146,75 @@ fn loss_input(ledger: Ledger) -> SubstepInput
     }
 }
 
+// As electric_ended but for both energies: one function of the two would be no shorter, and would need a definition of its own.
+#[tactic(auto, unfolding(runs::specs::Charge::loss_ended))]
 fn loss_ended(ledger: Ledger, outcome: Outcome) -> Stopped
     ensures { result ≡ loss_ended ledger outcome }
 {
-    let delivered = outcome.delivered;
-    let energy = delivered.kilowatt_hours();
-    let fault = outcome.fault;
-    let end = runs::fault_end(fault);
     Stopped {
-        energy,
+        energy: outcome.delivered.kilowatt_hours(),
         electric: KilowattHours(ledger.totals.electric),
         outlet: 0.0,
         time: 0.0,
-        end,
+        end: runs::fault_end(outcome.fault),
         substeps: 1,
     }
 }
 
 // No loss has heat of a charger.
-pub fn battery_heat_loss(
-    ledger: Ledger,
-    salts: &[f64],
-    step: usize,
-    zones: &mut [f64; 64],
-) -> Stopped
-    requires { (ledger.card.layers ≤ 64) × SaltsLent ledger.card salts.now step × (lt (charger_heat (loss_input ledger.card)).0 zero ≡ false) }
-    ensures { AsDefined (end_refusal result.end) result zones.new (battery_heat_loss (whole ledger zones.old)) }
+pub fn battery_heat_loss<const STEP: usize>(lent: Lent<'_, STEP>, zones: &mut [f64; 64]) -> Stopped
+    requires { lt (charger_heat (loss_input lent.ledger.card)).0 zero ≡ false }
+    ensures { AsDefined (end_refusal result.end) result zones.new (battery_heat_loss (whole lent.entry.ledger zones.old)) }
 {
+    let ledger = lent.ledger;
     let card = ledger.card;
     let pcm = card::pcm::derived(card);
     let input = loss_input(ledger);
-    let u = substep_loops::losses::lose_in_place(card, pcm, salts, step, input, zones);
+    let u = substep_loops::losses::lose_in_place(card, pcm, lent.salts, input, zones);
     loss_ended(ledger, u)
 }
 
 // The energy to the target, or to the flow maximum where that is less.
-fn energy_deficit(
+#[tactic(auto, unfolding(runs::specs::Charge::energy_deficit))]
+fn energy_deficit<const STEP: usize>(
     card: Card,
-    salts: &[f64],
-    step: usize,
-    most: Given,
+    salts: LentSalts<'_, STEP>,
+    most: Option<f64>,
     current: Kilojoules,
     wanted: Kilojoules,
 ) -> Kilojoules
-    requires { (card.layers ≤ 64) × Salted salts.now step card.layers }
-    ensures { result ≡ energy_deficit (salts_in salts.now step) card most current wanted }
+    requires { card.layers ≤ salts.layers }
+    ensures { result ≡ energy_deficit (lent_salts salts.entry) card most current wanted }
 {
     match most {
-        Given::Absent => Kilojoules(wanted.0 - current.0),
-        Given::Value(t) => {
-            let hottest = card::pcm::energy_at(card, salts, step, t);
+        None => Kilojoules(wanted.0 - current.0),
+        Some(t) => {
+            let hottest = card::pcm::energy_at(card, salts, t);
             let flow = floats::max_zero(hottest.0 - current.0);
-            let least = floats::min(wanted.0 - current.0, flow);
-            Kilojoules(least)
+            Kilojoules(floats::min(wanted.0 - current.0, flow))
         }
     }
 }
 
 // `soc` is the battery's state of charge.
-pub fn calculate_charge_energy_demand(
-    ledger: Ledger,
-    salts: &[f64],
-    step: usize,
-    most: Given,
+#[tactic(auto, unfolding(runs::specs::Charge::charge_energy_demand))]
+pub fn calculate_charge_energy_demand<const STEP: usize>(
+    lent: Lent<'_, STEP>,
+    most: Option<f64>,
     target: f64,
     soc: f64,
 ) -> KilowattHours
-    requires { (ledger.card.layers ≤ 64) × SaltsLent ledger.card salts.now step }
-    ensures { result ≡ charge_energy_demand ledger.card most target soc }
+    ensures { result ≡ charge_energy_demand lent.entry.ledger.card most target soc }
 {
-    let card = ledger.card;
+    let card = lent.ledger.card;
     if soc > target {
         return KilowattHours(0.0);
     }
     if floats::nearly_equal(soc, target, floats::TOLERANCE, floats::MAX_RELATIVE) {
         return KilowattHours(0.0);
     }
-    let stored = card::pcm::energy_at(card, salts, step, card.max);
+    let stored = card::pcm::energy_at(card, lent.salts, card.max);
     let current = Kilojoules(stored.0 * soc);
     let wanted = Kilojoules(stored.0 * target);
-    let deficit = energy_deficit(card, salts, step, most, current, wanted);
-    deficit.kilowatt_hours()
+    energy_deficit(card, lent.salts, most, current, wanted).kilowatt_hours()
 }

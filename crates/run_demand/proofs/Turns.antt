@@ -1,4 +1,5 @@
 -- A demand's run, turn by turn: each way out of it, and one turn on.
+use Rattle.std.specs.Prelude.{None, Some}
 use mathlib.Core.Path.{◌≡◌, refl, sym, ◌∙◌, ap}
 use mathlib.Core.Bool.{true, false, not}
 use mathlib.Core.List.{List}
@@ -15,7 +16,6 @@ use Rattle.run_demand.specs.declared.DemandTurn.{DemandTurn}
 use Rattle.run_demand.specs.declared.DemandEnd.{DemandEnd}
 use Rattle.runs.specs.declared.End.{End}
 use Rattle.runs.specs.declared.End.TheVariants.{NoStep, OverBudget}
-use Rattle.runs.specs.declared.Next.TheVariants.{On, Stop}
 use Rattle.runs.specs.Runs.{end_refusal, next_refusal}
 use Rattle.runs.specs.Zoned.{Zoned, zoned, AsDefined}
 use Rattle.run_demand.specs.Demand.{demand_end, demand_then, demand_run, demand_substep}
@@ -44,11 +44,11 @@ module _ (x : DemandTask) (salts : ℕ → Salt) (b n : ℕ) (s : Zoned DemandSt
         let z : b - n ≡ suc (b - (n + 1)) = omega arith in
         rw (z, not-false (lt Constants.zero s.part.step) h, l.0)
 
-    pub run_on : t.next ≡ On → demand_run x salts (b - (n + 1)) (n + 1) (zoned t.state after) ≡ demand_run x salts (b - n) n s
+    pub run_on : t.next ≡ None → demand_run x salts (b - (n + 1)) (n + 1) (zoned t.state after) ≡ demand_run x salts (b - n) n s
     run_on g = rw (l.1 (ap next_refusal g)) (sym (demand_unfolds ∙ rw g))
 
     pub run_stops :
-        (k : End) (e : Zoned DemandEnd) → t.next ≡ Stop k → demand_run x salts (b - n) n s ≡ e → AsDefined (end_refusal k) (record { state = t.state; end = k; substeps = n + 1 }) after e
+        (k : End) (e : Zoned DemandEnd) → t.next ≡ Some k → demand_run x salts (b - n) n s ≡ e → AsDefined (end_refusal k) (record { state = t.state; end = k; substeps = n + 1 }) after e
     run_stops k e g d =
         let w : demand_end (zoned t.state (demand_substep x salts s).zones) k (n + 1) ≡ e = sym (demand_unfolds ∙ rw g) ∙ d in
         (ap (λ (v : Zoned DemandEnd). v.part) w, λ r. l.1 (ap next_refusal g ∙ r) ∙ ap (λ (v : Zoned DemandEnd). v.zones) w)

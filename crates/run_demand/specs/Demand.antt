@@ -1,5 +1,5 @@
 -- Document 01, module 7: the substeps of `demand_energy`.
-use Rattle.std.specs.Prelude.{ℕ, zero, suc, ◌+◌, Bool, true, cond, Float}
+use Rattle.std.specs.Prelude.{ℕ, zero, suc, ◌+◌, Bool, true, cond, Float, Option, Some, None}
 use Rattle.std.specs.Float.Ieee.{lt}
 use Rattle.floats.specs.F64.{◌⊕◌, ◌⊖◌, ◌⊘◌}
 use Rattle.floats.specs.Constants as Constants
@@ -13,11 +13,9 @@ use Rattle.substep.specs.Substep.{process_heat_battery_zones}
 use Rattle.substep.specs.declared.SubstepInput.{SubstepInput}
 use Rattle.substep.specs.declared.Outcome.{Outcome}
 use Rattle.substep.specs.declared.Fault.{Fault}
-use Rattle.substep.specs.declared.Fault.TheVariants.{Nothing, Logarithm, NotFinite}
+use Rattle.substep.specs.declared.Fault.TheVariants.{Logarithm, NotFinite}
 use Rattle.run_demand.specs.declared.DemandTask.{DemandTask}
 use Rattle.run_demand.specs.declared.DemandState.{DemandState}
-use Rattle.runs.specs.declared.Next.{Next}
-use Rattle.runs.specs.declared.Next.TheVariants.{On, Stop}
 use Rattle.run_demand.specs.declared.DemandTurn.{DemandTurn}
 use Rattle.run_demand.specs.declared.DemandEnd.{DemandEnd}
 use Rattle.runs.specs.declared.Stopped.{Stopped}
@@ -62,7 +60,7 @@ demand_state_after task state outcome step delivered =
       reynold = reynold_between task.feed outcome.outlet task.card.velocity task.pcm.diameter;
     }
 
-abbrev pub demand_turn : DemandState → Next → DemandTurn
+abbrev pub demand_turn : DemandState → Option End → DemandTurn
 demand_turn state next = record { state = state; next = next }
 
 -- 'negative delivery, demand met'
@@ -72,15 +70,15 @@ demand_delivered task state outcome =
     let delivered = kwh (state.delivered.0 ⊕ heat.0) in
     let step = next_step task heat delivered state.step in
     cond (lt outcome.delivered.0 Constants.zero)
-    (demand_turn (demand_state_after task state outcome state.step state.delivered) (Stop Negative))
+    (demand_turn (demand_state_after task state outcome state.step state.delivered) (Some Negative))
     (cond (demand_met task delivered)
-    (demand_turn (demand_state_after task state outcome step delivered) (Stop Met))
-    (demand_turn (demand_state_after task state outcome (cut task (state.running ⊕ state.step) step) delivered) On))
+    (demand_turn (demand_state_after task state outcome step delivered) (Some Met))
+    (demand_turn (demand_state_after task state outcome (cut task (state.running ⊕ state.step) step) delivered) None))
 
-unfoldable pub demand_by : DemandTask → Zoned DemandState → Zoned Outcome → Fault → Zoned DemandTurn
-demand_by task run outcome Nothing = zoned (demand_delivered task run.part outcome.part) outcome.zones
-demand_by task run outcome Logarithm = zoned (demand_turn run.part (Stop NoLogarithm)) run.zones
-demand_by task run outcome NotFinite = zoned (demand_turn run.part (Stop NotFiniteRun)) run.zones
+unfoldable pub demand_by : DemandTask → Zoned DemandState → Zoned Outcome → Option Fault → Zoned DemandTurn
+demand_by task run outcome None = zoned (demand_delivered task run.part outcome.part) outcome.zones
+demand_by task run outcome (Some Logarithm) = zoned (demand_turn run.part (Some NoLogarithm)) run.zones
+demand_by task run outcome (Some NotFinite) = zoned (demand_turn run.part (Some NotFiniteRun)) run.zones
 
 -- one substep
 unfoldable pub demand_substep : DemandTask → (ℕ → Salt) → Zoned DemandState → Zoned DemandTurn
@@ -98,9 +96,9 @@ abbrev pub demand_end : Zoned DemandState → End → ℕ → Zoned DemandEnd
 demand_end run end n = zoned (record { state = run.part; end = end; substeps = n }) run.zones
 
 -- what follows a substep: it ends the run, or the run goes on from it
-abbrev pub demand_then : (Zoned DemandState → Zoned DemandEnd) → ℕ → Zoned DemandState → Next → Zoned DemandEnd
-demand_then go n run On = go run
-demand_then go n run (Stop e) = demand_end run e n
+abbrev pub demand_then : (Zoned DemandState → Zoned DemandEnd) → ℕ → Zoned DemandState → Option End → Zoned DemandEnd
+demand_then go n run None = go run
+demand_then go n run (Some e) = demand_end run e n
 
 -- 'The substep loop ends at the first of: negative delivery, demand met, no positive step, a refusal; and the end hands out its count':
 -- the run from s with n substeps done and k left of the budget

@@ -2,15 +2,16 @@
 #![tactic(auto)]
 
 ghost use Rattle.std.specs.Prelude.{◌≡◌, ◌≤◌};
-ghost use Rattle.zone.specs.Lent.{zone_salt, Salted};
+ghost use Rattle.zone.specs.LentSalts.{lent_salt};
 ghost use Rattle.runs.specs.Runs.{end_refusal, next_refusal};
 ghost use Rattle.runs.specs.Zoned.{zoned, AsDefined};
 ghost use Rattle.run_demand.specs.Demand.{demand_input, capped as capped_of, next_step, demand_met, cut as cut_of, demand_state_after, demand_delivered, demand_substep, demand_run, demand_ended};
 
 use card::{Card, HeatBatteryPcm};
-use runs::{End, Next, Stopped};
-use substep::{Fault, Outcome, SubstepInput};
+use runs::{End, Stopped};
+use substep::{Outcome, SubstepInput};
 use zone::KilowattHours;
+use zone::lent::LentSalts;
 use zone_water::Mode;
 
 // What a demand asks: fixed over its substeps.
@@ -43,7 +44,8 @@ pub struct DemandState {
 #[derive(Clone, Copy)]
 pub struct DemandTurn {
     pub state: DemandState,
-    pub next: Next,
+    // none to go on
+    pub next: Option<End>,
 }
 
 #[derive(Clone, Copy)]
@@ -53,6 +55,7 @@ pub struct DemandEnd {
     pub substeps: u16,
 }
 
+#[tactic(auto, unfolding(crate::specs::Demand::demand_input))]
 fn demand_input(task: DemandTask, state: DemandState) -> SubstepInput
     ensures { result ≡ demand_input task state }
 {
@@ -71,6 +74,7 @@ fn demand_input(task: DemandTask, state: DemandState) -> SubstepInput
 }
 
 // At most the card's substep.
+#[tactic(auto, unfolding(crate::specs::Demand::capped))]
 fn capped(task: DemandTask, step: f64) -> f64
     ensures { result ≡ capped_of task step }
 {
@@ -79,6 +83,7 @@ fn capped(task: DemandTask, step: f64) -> f64
 }
 
 // The step that meets the demand at the power of this substep.
+#[tactic(auto, unfolding(crate::specs::Demand::next_step))]
 fn next_step(task: DemandTask, heat: KilowattHours, delivered: KilowattHours, step: f64) -> f64
     ensures { result ≡ next_step task heat delivered step }
 {
@@ -89,6 +94,7 @@ fn next_step(task: DemandTask, heat: KilowattHours, delivered: KilowattHours, st
     capped(task, step)
 }
 
+#[tactic(auto, unfolding(crate::specs::Demand::demand_met))]
 fn demand_met(task: DemandTask, delivered: KilowattHours) -> bool
     ensures { result ≡ demand_met task delivered }
 {
@@ -105,6 +111,7 @@ fn demand_met(task: DemandTask, delivered: KilowattHours) -> bool
 }
 
 // Cut to the time left.
+#[tactic(auto, unfolding(crate::specs::Demand::cut))]
 fn cut(task: DemandTask, running: f64, step: f64) -> f64
     ensures { result ≡ cut_of task running step }
 {
@@ -114,6 +121,7 @@ fn cut(task: DemandTask, running: f64, step: f64) -> f64
     step
 }
 
+#[tactic(auto, unfolding(crate::specs::Demand::demand_state_after))]
 fn demand_state_after(
     task: DemandTask,
     state: DemandState,
@@ -124,104 +132,85 @@ fn demand_state_after(
     ensures { result ≡ demand_state_after task state outcome step delivered }
 {
     let card = task.card;
-    let reynold = runs::reynold_between(
-        task.feed,
-        outcome.outlet,
-        card.velocity,
-        task.pcm.diameter,
-    );
     DemandState {
         step,
         running: state.running + state.step,
         delivered,
         electric: KilowattHours(state.electric.0 + outcome.charged.0),
         outlet: outcome.outlet,
-        reynold,
+        reynold: runs::reynold_between(task.feed, outcome.outlet, card.velocity, task.pcm.diameter),
     }
 }
 
+#[tactic(auto, unfolding(crate::specs::Demand::demand_delivered))]
 fn demand_delivered(task: DemandTask, last: DemandState, outcome: Outcome) -> DemandTurn
     ensures { result ≡ demand_delivered task last outcome }
 {
     if outcome.delivered.0 < 0.0 {
-        let before = last.delivered;
-        let state = demand_state_after(task, last, outcome, last.step, before);
         return DemandTurn {
-            state,
-            next: Next::Stop(End::Negative),
+            state: demand_state_after(task, last, outcome, last.step, last.delivered),
+            next: Some(End::Negative),
         };
     }
-    let energy = outcome.delivered;
-    let heat = energy.kilowatt_hours();
+    let heat = outcome.delivered.kilowatt_hours();
     let delivered = KilowattHours(last.delivered.0 + heat.0);
     let step = next_step(task, heat, delivered, last.step);
     if demand_met(task, delivered) {
-        let state = demand_state_after(task, last, outcome, step, delivered);
         return DemandTurn {
-            state,
-            next: Next::Stop(End::Met),
+            state: demand_state_after(task, last, outcome, step, delivered),
+            next: Some(End::Met),
         };
     }
     let shorter = cut(task, last.running + last.step, step);
-    let state = demand_state_after(task, last, outcome, shorter, delivered);
     DemandTurn {
-        state,
-        next: Next::On,
+        state: demand_state_after(task, last, outcome, shorter, delivered),
+        next: None,
     }
 }
 
 // A demand charges to level 0, which is the reference by any salt.
-fn demand_substep(
+fn demand_substep<const STEP: usize>(
     task: DemandTask,
-    salts: &[f64],
-    step: usize,
+    salts: LentSalts<'_, STEP>,
     state: DemandState,
     zones: &mut [f64; 64],
 ) -> DemandTurn
-    requires { (task.card.layers ≤ 64) × Salted salts.now step task.card.layers }
-    ensures { AsDefined (next_refusal result.next) result zones.new (demand_substep task (zone_salt salts.now step) (zoned state zones.old)) }
+    requires { task.card.layers ≤ salts.layers }
+    ensures { AsDefined (next_refusal result.next) result zones.new (demand_substep task (lent_salt salts.entry) (zoned state zones.old)) }
 {
     let input = demand_input(task, state);
-    let card = task.card;
-    let pcm = task.pcm;
     let u = substep_loops::with_water::process_in_place(
-        card,
-        pcm,
+        task.card,
+        task.pcm,
         salts,
-        step,
         input,
-        card.reference,
+        task.card.reference,
         zones,
     );
-    let fault = u.fault;
-    match fault {
-        Fault::Nothing => demand_delivered(task, state, u),
-        Fault::Logarithm => DemandTurn {
-            state: state,
-            next: Next::Stop(End::NoLogarithm),
-        },
-        Fault::NotFinite => DemandTurn {
-            state: state,
-            next: Next::Stop(End::NotFiniteRun),
+    match u.fault {
+        None => demand_delivered(task, state, u),
+        Some(_) => DemandTurn {
+            state,
+            next: Some(runs::fault_end(u.fault)),
         },
     }
 }
 
 // The substeps from `start` on, at most `budget` of them.
-pub fn demand_run(
+pub fn demand_run<const STEP: usize>(
     task: DemandTask,
-    salts: &[f64],
-    step: usize,
+    salts: LentSalts<'_, STEP>,
     budget: u16,
     start: DemandState,
     zones: &mut [f64; 64],
 ) -> DemandEnd
-    requires { (task.card.layers ≤ 64) × Salted salts.now step task.card.layers }
-    ensures as_defined { AsDefined (end_refusal result.end) result zones.new (demand_run task (zone_salt salts.now step) budget 0 (zoned start zones.old)) }
+    requires { task.card.layers ≤ salts.layers }
+    ensures as_defined { AsDefined (end_refusal result.end) result zones.new (demand_run task (lent_salt salts.entry) budget 0 (zoned start zones.old)) }
     ensures substeps_le_budget { result.substeps ≤ budget }
 {
     let mut state = start;
     let mut substeps: u16 = 0;
+    // no `for`: the loop is left with the end of the run and its count
     let end = loop {
         if !(state.step > 0.0) {
             break End::NoStep;
@@ -229,11 +218,10 @@ pub fn demand_run(
         if substeps == budget {
             break End::OverBudget;
         }
-        let turn = demand_substep(task, salts, step, state, zones);
+        let turn = demand_substep(task, salts, state, zones);
         substeps += 1;
         state = turn.state;
-        let next = turn.next;
-        if let Next::Stop(e) = next {
+        if let Some(e) = turn.next {
             break e;
         }
     };
@@ -244,19 +232,16 @@ pub fn demand_run(
     }
 }
 
+#[tactic(auto, unfolding(crate::specs::Demand::demand_ended))]
 pub fn demand_ended(ended: DemandEnd) -> Stopped
     ensures { result ≡ demand_ended ended }
 {
-    let state = ended.state;
-    let energy = state.delivered;
-    let electric = state.electric;
-    let end = ended.end;
     Stopped {
-        energy,
-        electric,
-        outlet: state.outlet,
-        time: state.running,
-        end,
+        energy: ended.state.delivered,
+        electric: ended.state.electric,
+        outlet: ended.state.outlet,
+        time: ended.state.running,
+        end: ended.end,
         substeps: ended.substeps as u32,
     }
 }

@@ -2,16 +2,18 @@
 #![tactic(auto)]
 
 ghost use Rattle.std.specs.Prelude.{◌≡◌, not, List, Float, ◌+◌, ◌≤◌, ◌<◌};
-ghost use Rattle.zone.specs.Lent.{zone_salt, Salted};
+ghost use Rattle.zone.specs.LentSalts.{lent_salt};
 ghost use Rattle.runs.specs.Runs.{end_refusal, next_refusal};
 ghost use Rattle.runs.specs.Zoned.{zoned, AsDefined};
 ghost use Rattle.runs.specs.Hydronic.{wet_input, clearly_below, limit_reached, replay_by, replayed as replayed_of, fraction_seconds, hydronic_whole, hydronic_step, hydronic_run, hydronic_ended, whole_substeps};
 
-use runs::{End, HydronicEnd, HydronicState, HydronicTask, HydronicTurn, Next, Stopped};
+use runs::{End, HydronicEnd, HydronicState, HydronicTask, HydronicTurn, Stopped};
 use substep::{Fault, Outcome, SubstepInput};
+use zone::lent::LentSalts;
 use zone::{Kilojoules, KilowattHours};
 use zone_water::Mode;
 
+#[tactic(auto, unfolding(runs::specs::Hydronic::wet_input))]
 fn wet_input(task: HydronicTask, seconds: f64, reynold: f64) -> SubstepInput
     ensures { result ≡ wet_input task seconds reynold }
 {
@@ -30,13 +32,15 @@ fn wet_input(task: HydronicTask, seconds: f64, reynold: f64) -> SubstepInput
 }
 
 // Below, and not nearly equal.
+#[tactic(auto, unfolding(runs::specs::Hydronic::clearly_below))]
 fn clearly_below(outlet: f64, inlet: f64) -> bool
     ensures { result ≡ clearly_below outlet inlet }
 {
     let near = floats::nearly_equal(outlet, inlet, floats::TOLERANCE, floats::MAX_RELATIVE);
-    logic::both(outlet < inlet, !near)
+    (outlet < inlet) & !near
 }
 
+#[tactic(auto, unfolding(runs::specs::Hydronic::limit_reached))]
 fn limit_reached(absorbed: Kilojoules, limit: Kilojoules) -> bool
     ensures { result ≡ limit_reached absorbed limit }
 {
@@ -46,7 +50,8 @@ fn limit_reached(absorbed: Kilojoules, limit: Kilojoules) -> bool
     floats::nearly_equal(absorbed.0, limit.0, floats::TOLERANCE, floats::MAX_RELATIVE)
 }
 
-// What the fractional substep u leaves.
+// What the fractional substep u leaves. An arm for each fault: one arm with `fault_end` would need a lemma, which the check doesn't ask for here.
+#[tactic(auto, unfolding(runs::specs::Hydronic::replay_by), using(runs::proofs::InPlace::log_refused, runs::proofs::InPlace::finite_refused))]
 fn replay_by(
     task: HydronicTask,
     n: u32,
@@ -54,66 +59,61 @@ fn replay_by(
     seconds: f64,
     reynold: f64,
     outcome: Outcome,
-    fault: Fault,
+    fault: Option<Fault>,
 ) -> HydronicTurn
     ensures { (before zones : List Float) → AsDefined (next_refusal result.next) result zones (replay_by task n (zoned last before) seconds reynold (zoned outcome zones) fault) }
 {
     match fault {
-        Fault::Nothing => {
-            let absorbed = task.limit;
-            let state = HydronicState {
-                absorbed,
+        None => HydronicTurn {
+            state: HydronicState {
+                absorbed: task.limit,
                 reynold,
                 time: last.time + seconds,
-            };
-            HydronicTurn {
-                state,
-                next: Next::Stop(End::Limit),
-                substeps: n,
-            }
-        }
-        Fault::Logarithm => HydronicTurn {
-            state: last,
-            next: Next::Stop(End::NoLogarithm),
+            },
+            next: Some(End::Limit),
             substeps: n,
         },
-        Fault::NotFinite => HydronicTurn {
+        Some(Fault::Logarithm) => HydronicTurn {
             state: last,
-            next: Next::Stop(End::NotFiniteRun),
+            next: Some(End::NoLogarithm),
+            substeps: n,
+        },
+        Some(Fault::NotFinite) => HydronicTurn {
+            state: last,
+            next: Some(End::NotFiniteRun),
             substeps: n,
         },
     }
 }
 
 // The fractional substep, from the zones before the whole one and with the Reynolds number after it.
-fn replayed(
+fn replayed<const STEP: usize>(
     task: HydronicTask,
-    salts: &[f64],
-    step: usize,
+    salts: LentSalts<'_, STEP>,
     n: u32,
     state: HydronicState,
     seconds: f64,
     reynold: f64,
     zones: &mut [f64; 64],
 ) -> HydronicTurn
-    requires { (task.card.layers ≤ 64) × ((n ≤ 65535) × Salted salts.now step task.card.layers) }
-    ensures { AsDefined (next_refusal result.next) result zones.new (replayed_of task (zone_salt salts.now step) n (zoned state zones.old) seconds reynold) }
+    requires { (task.card.layers ≤ salts.layers) × (n ≤ 65535) }
+    ensures { AsDefined (next_refusal result.next) result zones.new (replayed_of task (lent_salt salts.entry) n (zoned state zones.old) seconds reynold) }
 {
-    let card = task.card;
-    if n == card.budget as u32 {
+    if n == task.card.budget as u32 {
         return HydronicTurn {
-            state: state,
-            next: Next::Stop(End::OverBudget),
+            state,
+            next: Some(End::OverBudget),
             substeps: n,
         };
     }
     let input = wet_input(task, seconds, reynold);
-    let pcm = task.pcm;
-    let u = substep_loops::with_water::process_in_place(card, pcm, salts, step, input, 0.0, zones);
-    let fault = u.fault;
-    replay_by(task, n + 1, state, seconds, reynold, u, fault)
+    let u = substep_loops::with_water::process_in_place(
+        task.card, task.pcm, salts, input, 0.0, zones,
+    );
+    replay_by(task, n + 1, state, seconds, reynold, u, u.fault)
 }
 
+#[tactic(auto, unfolding(runs::specs::Hydronic::fraction_seconds))]
 fn fraction_seconds(task: HydronicTask, absorbed: Kilojoules, this: Kilojoules) -> f64
     ensures { result ≡ fraction_seconds task absorbed this }
 {
@@ -122,95 +122,83 @@ fn fraction_seconds(task: HydronicTask, absorbed: Kilojoules, this: Kilojoules) 
 }
 
 // What the whole substep u leads to. `before` are the zones that it began with.
-fn hydronic_whole(
+fn hydronic_whole<const STEP: usize>(
     task: HydronicTask,
-    salts: &[f64],
-    step: usize,
+    salts: LentSalts<'_, STEP>,
     n: u32,
     last: HydronicState,
     outcome: Outcome,
     before: [f64; 64],
     zones: &mut [f64; 64],
 ) -> HydronicTurn
-    requires { (task.card.layers ≤ 64) × ((n ≤ 65535) × Salted salts.now step task.card.layers) }
-    ensures { AsDefined (next_refusal result.next) result zones.new (hydronic_whole task (zone_salt salts.now step) n (zoned last before) (zoned outcome zones.old)) }
+    requires { (task.card.layers ≤ salts.layers) × (n ≤ 65535) }
+    ensures { AsDefined (next_refusal result.next) result zones.new (hydronic_whole task (lent_salt salts.entry) n (zoned last before) (zoned outcome zones.old)) }
 {
     let wet = task.wet;
-    let limit = task.limit;
     let reynold = runs::reynold_between(wet.inlet, outcome.outlet, wet.velocity, wet.diameter);
     let this = Kilojoules(-outcome.delivered.0);
     let absorbed = Kilojoules(last.absorbed.0 + this.0);
-    let time = last.time + task.card.substep;
-    if clearly_below(outcome.outlet, wet.inlet) {
-        let state = HydronicState {
-            absorbed,
-            reynold,
-            time,
-        };
-        if limit_reached(absorbed, limit) {
-            if this.0 > 0.0 {
-                let seconds = fraction_seconds(task, absorbed, this);
-                *zones = before;
-                return replayed(task, salts, step, n, last, seconds, reynold, zones);
-            }
-            return HydronicTurn {
-                state,
-                next: Next::Stop(End::Limit),
-                substeps: n,
-            };
-        }
+    let state = HydronicState {
+        absorbed,
+        reynold,
+        time: last.time + task.card.substep,
+    };
+    if !clearly_below(outcome.outlet, wet.inlet) {
         return HydronicTurn {
-            state,
-            next: Next::On,
+            state: HydronicState {
+                absorbed: last.absorbed,
+                ..state
+            },
+            next: Some(End::Level),
             substeps: n,
         };
     }
-    let absorbed_before = last.absorbed;
-    let state = HydronicState {
-        absorbed: absorbed_before,
-        reynold,
-        time,
-    };
+    if !limit_reached(absorbed, task.limit) {
+        return HydronicTurn {
+            state,
+            next: None,
+            substeps: n,
+        };
+    }
+    if this.0 > 0.0 {
+        let seconds = fraction_seconds(task, absorbed, this);
+        *zones = before;
+        return replayed(task, salts, n, last, seconds, reynold, zones);
+    }
     HydronicTurn {
         state,
-        next: Next::Stop(End::Level),
+        next: Some(End::Limit),
         substeps: n,
     }
 }
 
 // One turn after n substeps.
-fn hydronic_step(
+fn hydronic_step<const STEP: usize>(
     task: HydronicTask,
-    salts: &[f64],
-    step: usize,
+    salts: LentSalts<'_, STEP>,
     n: u32,
     state: HydronicState,
     zones: &mut [f64; 64],
 ) -> HydronicTurn
-    requires { (task.card.layers ≤ 64) × ((n < 65535) × Salted salts.now step task.card.layers) }
-    ensures { AsDefined (next_refusal result.next) result zones.new (hydronic_step task (zone_salt salts.now step) n (zoned state zones.old)) }
+    requires { (task.card.layers ≤ salts.layers) × (n < 65535) }
+    ensures { AsDefined (next_refusal result.next) result zones.new (hydronic_step task (lent_salt salts.entry) n (zoned state zones.old)) }
 {
-    let card = task.card;
-    let input = wet_input(task, card.substep, state.reynold);
-    let pcm = task.pcm;
+    let input = wet_input(task, task.card.substep, state.reynold);
     let before = *zones;
-    let u = substep_loops::with_water::process_in_place(card, pcm, salts, step, input, 0.0, zones);
-    let fault = u.fault;
-    match fault {
-        Fault::Nothing => hydronic_whole(task, salts, step, n + 1, state, u, before, zones),
-        Fault::Logarithm => HydronicTurn {
-            state: state,
-            next: Next::Stop(End::NoLogarithm),
-            substeps: n + 1,
-        },
-        Fault::NotFinite => HydronicTurn {
-            state: state,
-            next: Next::Stop(End::NotFiniteRun),
+    let u = substep_loops::with_water::process_in_place(
+        task.card, task.pcm, salts, input, 0.0, zones,
+    );
+    match u.fault {
+        None => hydronic_whole(task, salts, n + 1, state, u, before, zones),
+        Some(_) => HydronicTurn {
+            state,
+            next: Some(runs::fault_end(u.fault)),
             substeps: n + 1,
         },
     }
 }
 
+#[tactic(auto, unfolding(runs::specs::Hydronic::whole_substeps))]
 pub fn whole_substeps(task: HydronicTask) -> u64
     ensures { result ≡ whole_substeps task }
 {
@@ -218,21 +206,20 @@ pub fn whole_substeps(task: HydronicTask) -> u64
 }
 
 // At most `steps` whole substeps from `start` on.
-pub fn hydronic_run(
+pub fn hydronic_run<const STEP: usize>(
     task: HydronicTask,
-    salts: &[f64],
-    step: usize,
+    salts: LentSalts<'_, STEP>,
     steps: u64,
     start: HydronicState,
     zones: &mut [f64; 64],
 ) -> HydronicEnd
-    requires { (task.card.layers ≤ 64) × Salted salts.now step task.card.layers }
-    ensures { AsDefined (end_refusal result.end) result zones.new (hydronic_run task (zone_salt salts.now step) steps 0 (zoned start zones.old)) }
+    requires { task.card.layers ≤ salts.layers }
+    ensures { AsDefined (end_refusal result.end) result zones.new (hydronic_run task (lent_salt salts.entry) steps 0 (zoned start zones.old)) }
 {
-    let card = task.card;
-    let budget = card.budget as u32;
+    let budget = task.card.budget as u32;
     let mut state = start;
     let mut substeps: u32 = 0;
+    // no `for`: the loop is left with the end of the run, and a turn takes one substep or two
     let end = loop {
         if substeps as u64 == steps {
             break End::Time;
@@ -240,11 +227,10 @@ pub fn hydronic_run(
         if substeps == budget {
             break End::OverBudget;
         }
-        let turn = hydronic_step(task, salts, step, substeps, state, zones);
+        let turn = hydronic_step(task, salts, substeps, state, zones);
         substeps = turn.substeps;
         state = turn.state;
-        let next = turn.next;
-        if let Next::Stop(e) = next {
+        if let Some(e) = turn.next {
             break e;
         }
     };
@@ -255,19 +241,16 @@ pub fn hydronic_run(
     }
 }
 
+#[tactic(auto, unfolding(runs::specs::Hydronic::hydronic_ended))]
 pub fn hydronic_ended(electric: KilowattHours, ended: HydronicEnd) -> Stopped
     ensures { result ≡ hydronic_ended electric ended }
 {
-    let state = ended.state;
-    let absorbed = state.absorbed;
-    let energy = absorbed.kilowatt_hours();
-    let end = ended.end;
     Stopped {
-        energy,
+        energy: ended.state.absorbed.kilowatt_hours(),
         electric,
         outlet: 0.0,
-        time: state.time,
-        end,
+        time: ended.state.time,
+        end: ended.end,
         substeps: ended.substeps,
     }
 }

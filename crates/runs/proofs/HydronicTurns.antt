@@ -1,4 +1,5 @@
 -- The turns of a hydronic charge: each way that a turn's tests lead to.
+use Rattle.std.specs.Prelude.{None, Option, Some}
 use mathlib.Core.Path.{◌≡◌, refl, sym, ◌∙◌, ap}
 use mathlib.Core.Bool.{Bool, true, false}
 use mathlib.Core.List.{List}
@@ -16,23 +17,23 @@ use Rattle.substep.specs.Substep.{InPlace}
 use Rattle.substep.specs.Substep.{process_heat_battery_zones}
 use Rattle.substep.specs.declared.SubstepInput.{SubstepInput}
 use Rattle.substep.specs.declared.Fault.{Fault}
+use Rattle.substep.specs.declared.Fault.TheVariants.{Logarithm, NotFinite}
 use Rattle.substep.specs.declared.Outcome.{Outcome}
-use Rattle.runs.specs.Runs.{end_refusal, next_refusal, reynold_between}
+use Rattle.runs.specs.Runs.{fault_end, end_refusal, next_refusal, reynold_between}
 use Rattle.runs.specs.declared.End.TheVariants.{Limit, Level}
 use Rattle.runs.specs.declared.HydronicTask.{HydronicTask}
-use Rattle.runs.specs.declared.Next.{Next}
-use Rattle.runs.specs.declared.Next.TheVariants.{On, Stop}
 use Rattle.runs.specs.declared.HydronicState.{HydronicState}
 use Rattle.runs.specs.declared.HydronicTurn.{HydronicTurn}
 use Rattle.runs.specs.declared.HydronicEnd.{HydronicEnd}
 use Rattle.runs.specs.declared.Stopped.{Stopped}
 use Rattle.runs.specs.Zoned.{Zoned, zoned, AsDefined, on_part}
-use Rattle.runs.specs.Hydronic.{wet_input, clearly_below, limit_reached, hydronic_ended, replay_by, replayed, fraction_seconds, hydronic_whole, hydronic_by, hydronic_step}
-use Rattle.runs.proofs.InPlace.{holds_as_defined, as_defined_on}
+use Rattle.runs.specs.Hydronic.{wet_input, hydronic_turn, clearly_below, limit_reached, hydronic_ended, replay_by, replayed, fraction_seconds, hydronic_whole, hydronic_by, hydronic_step}
+use Rattle.runs.proofs.InPlace.{holds_as_defined, as_defined_on, log_refused, finite_refused}
+use Rattle.runs.specs.declared.End.{End}
 
 -- after the whole substep, whose tests come as they are found
 
-abbrev turn_to : Kilojoules → Float → Float → Next → ℕ → List Float → Zoned HydronicTurn
+abbrev turn_to : Kilojoules → Float → Float → Option End → ℕ → List Float → Zoned HydronicTurn
 turn_to absorbed reynold time next n zones = zoned (record { state = record { absorbed = absorbed; reynold = reynold; time = time }; next = next; substeps = n }) zones
 
 abbrev taken : Outcome → Kilojoules
@@ -43,19 +44,19 @@ sum_with s o = kj (s.absorbed.0 ⊕ (taken o).0)
 
 module _ (x : HydronicTask) (salts : ℕ → Salt) (n : ℕ) (s : Zoned HydronicState) (u : Zoned Outcome) (reynold : Float) (below : Bool)
     (r : reynold ≡ reynold_between x.wet.inlet u.part.outlet x.wet.velocity x.wet.diameter) (b : below ≡ clearly_below u.part.outlet x.wet.inlet) where
-  pub whole_level : below ≡ false → turn_to s.part.absorbed reynold (s.part.time ⊕ x.card.substep) (Stop Level) n u.zones ≡ hydronic_whole x salts n s u
+  pub whole_level : below ≡ false → turn_to s.part.absorbed reynold (s.part.time ⊕ x.card.substep) (Some Level) n u.zones ≡ hydronic_whole x salts n s u
   unfolding hydronic_whole
   whole_level f = rw (← r, ← b) (via_false _ _ f refl)
 
   module _ (t : below ≡ true) (reached : Bool) (l : reached ≡ limit_reached (sum_with s.part u.part) x.limit) where
-    pub whole_on : reached ≡ false → turn_to (sum_with s.part u.part) reynold (s.part.time ⊕ x.card.substep) On n u.zones ≡ hydronic_whole x salts n s u
+    pub whole_on : reached ≡ false → turn_to (sum_with s.part u.part) reynold (s.part.time ⊕ x.card.substep) None n u.zones ≡ hydronic_whole x salts n s u
     unfolding hydronic_whole
     whole_on f = rw (← r, ← b, ← l) (via_true _ _ t (via_false _ _ f refl))
 
     module _ (v : reached ≡ true) where
       pub whole_limit :
           lt Constants.zero (taken u.part).0 ≡ false →
-          turn_to (sum_with s.part u.part) reynold (s.part.time ⊕ x.card.substep) (Stop Limit) n u.zones ≡ hydronic_whole x salts n s u
+          turn_to (sum_with s.part u.part) reynold (s.part.time ⊕ x.card.substep) (Some Limit) n u.zones ≡ hydronic_whole x salts n s u
       unfolding hydronic_whole
       whole_limit f = rw (← r, ← b, ← l) (via_true _ _ t (via_true _ _ v (via_false _ _ f refl)))
 
@@ -67,7 +68,7 @@ module _ (x : HydronicTask) (salts : ℕ → Salt) (n : ℕ) (s : Zoned Hydronic
 
 -- the fractional substep, where the budget allows it, and the whole one
 
-module _ (x : HydronicTask) (salts : ℕ → Salt) (n : ℕ) (s : HydronicState) (before zones : List Float) (d : SubstepInput) (o : Outcome) (t : HydronicTurn) (f : Fault)
+module _ (x : HydronicTask) (salts : ℕ → Salt) (n : ℕ) (s : HydronicState) (before zones : List Float) (d : SubstepInput) (o : Outcome) (t : HydronicTurn) (f : Option Fault)
     (g : InPlace (process_heat_battery_zones x.card x.pcm salts d before) o zones) (e : o.fault ≡ f) where
   pub replayed_turn :
       (seconds reynold : Float) → (n ≡ x.card.budget → ⊥) → d ≡ wet_input x seconds reynold →
@@ -76,7 +77,7 @@ module _ (x : HydronicTask) (salts : ℕ → Salt) (n : ℕ) (s : HydronicState)
   unfolding replayed
   replayed_turn seconds reynold q h l =
       rw (← h, ne_eqb _ _ q)
-      (holds_as_defined (λ (u : Zoned Outcome) (v : Fault). AsDefined (next_refusal t.next) t zones (replay_by x (n + 1) (zoned s before) seconds reynold u v)) _ o zones f g e l)
+      (holds_as_defined (λ (u : Zoned Outcome) (v : Option Fault). AsDefined (next_refusal t.next) t zones (replay_by x (n + 1) (zoned s before) seconds reynold u v)) _ o zones f g e l)
 
   pub hydronic_turn_lem :
       (after : List Float) → d ≡ wet_input x x.card.substep s.reynold →
@@ -84,7 +85,15 @@ module _ (x : HydronicTask) (salts : ℕ → Salt) (n : ℕ) (s : HydronicState)
       AsDefined (next_refusal t.next) t after (hydronic_step x salts n (zoned s before))
   unfolding hydronic_step
   hydronic_turn_lem after h l =
-      rw (← h) (holds_as_defined (λ (u : Zoned Outcome) (v : Fault). AsDefined (next_refusal t.next) t after (hydronic_by x salts (n + 1) (zoned s before) u v)) _ o zones f g e l)
+      rw (← h) (holds_as_defined (λ (u : Zoned Outcome) (v : Option Fault). AsDefined (next_refusal t.next) t after (hydronic_by x salts (n + 1) (zoned s before) u v)) _ o zones f g e l)
+
+-- a fault ends the run with its end
+pub hydronic_faulted :
+    (x : HydronicTask) (salts : ℕ → Salt) (n : ℕ) (s : Zoned HydronicState) (u : Zoned Outcome) (zones : List Float) (f : Fault) (e : End) → e ≡ fault_end (Some f) →
+    AsDefined (end_refusal e) (hydronic_turn s (Some e) n).part zones (hydronic_by x salts n s u (Some f))
+unfolding hydronic_by fault_end
+hydronic_faulted x salts n s u zones Logarithm e h = rw h (refl, λ z. absurd (log_refused z))
+hydronic_faulted x salts n s u zones NotFinite e h = rw h (refl, λ z. absurd (finite_refused z))
 
 -- what the run hands out
 pub wet_ended :

@@ -1,4 +1,5 @@
 -- What a function leaves beside zones that it is lent is the definition's.
+use Rattle.std.specs.Prelude.{Option}
 use mathlib.Core.Path.{◌≡◌, sym, ◌∙◌, ap, subst}
 use mathlib.Core.List.{List}
 use Prim.Native.Nat.{ℕ}
@@ -35,7 +36,7 @@ put_together u o zones h = rw (h.0, h.1)
 
 -- what holds of a substep in place with its fault f holds of the definition's
 pub holds_as_defined :
-    (P : Zoned Outcome → Fault → Type 0) (u : Substep) (o : Outcome) (zones : List Float) (f : Fault) →
+    (P : Zoned Outcome → Option Fault → Type 0) (u : Substep) (o : Outcome) (zones : List Float) (f : Option Fault) →
     InPlace u o zones → o.fault ≡ f → P (zoned o zones) f → P (outcome u) (outcome u).part.fault
 holds_as_defined P u o zones f g e h = subst (λ (v : Zoned Outcome). P v v.part.fault) (put_together u o zones g) (subst (P (zoned o zones)) (sym e) h)
 

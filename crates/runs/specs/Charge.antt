@@ -1,5 +1,5 @@
 -- Document 01, module 6: `charge_battery_electric`, `battery_heat_loss`, the charge by its source, `calculate_charge_energy_demand`.
-use Rattle.std.specs.Prelude.{cond, Float}
+use Rattle.std.specs.Prelude.{cond, Float, Option, Some, None}
 use Rattle.std.specs.Float.Ieee.{lt, neg}
 use Rattle.floats.specs.F64.{◌⊕◌, ◌⊖◌, ◌⊗◌}
 use Rattle.floats.specs.Constants.{zero, tolerance, max_relative, hour, ambient}
@@ -14,8 +14,7 @@ use Rattle.card.specs.declared.Card.{Card}
 use Rattle.battery.specs.Ledger.{ledger_of}
 use Rattle.battery.specs.declared.Battery.{Battery}
 use Rattle.battery.specs.declared.Ledger.{Ledger}
-use Rattle.battery.specs.declared.Given.{Given}
-use Rattle.battery.specs.declared.Given.TheVariants.{Absent, Value}
+use Rattle.battery.specs.declared.Hydronic.{Hydronic}
 use Rattle.substep.specs.Substep.{process_heat_battery_zones}
 use Rattle.substep.specs.declared.SubstepInput.{SubstepInput}
 use Rattle.substep.specs.declared.Outcome.{Outcome}
@@ -28,6 +27,10 @@ use Rattle.runs.specs.declared.Stopped.{Stopped}
 use Rattle.runs.specs.Zoned.{Zoned, zoned, on_part}
 use Rattle.runs.specs.Runs.{outcome, fault_end, reynold_between, time_available}
 use Rattle.runs.specs.Hydronic.{hydronic_run, hydronic_ended, whole_substeps}
+
+-- a hydronic call's exchanger
+abbrev pub wet_of : Hydronic → Exchanger
+wet_of call = record { inlet = call.inlet; hours = call.hours; flow = call.flow; limit = call.limit; a = call.a; b = call.b; velocity = call.velocity; diameter = call.diameter }
 
 -- the call's power over the time left, which goes through max(0.0)
 unfoldable pub electric_input : Ledger → Float → Float → SubstepInput
@@ -74,12 +77,12 @@ unfoldable pub battery_heat_loss : Battery → Zoned Stopped
 battery_heat_loss battery = on_part (loss_ended (ledger_of battery)) (outcome (process_heat_battery_zones battery.card (derived battery.card) (salt_at (salts_of battery.card)) (loss_input battery.card) battery.zones))
 
 -- the energy to the target level, or to the flow maximum where that is less
-unfoldable pub energy_deficit : Salts → Card → Given → Kilojoules → Kilojoules → Kilojoules
-energy_deficit salts card Absent current wanted = kj (wanted.0 ⊖ current.0)
-energy_deficit salts card (Value t) current wanted = kj (min (wanted.0 ⊖ current.0) (max_zero ((energy_at salts card t).0 ⊖ current.0)))
+unfoldable pub energy_deficit : Salts → Card → Option Float → Kilojoules → Kilojoules → Kilojoules
+energy_deficit salts card None current wanted = kj (wanted.0 ⊖ current.0)
+energy_deficit salts card (Some t) current wanted = kj (min (wanted.0 ⊖ current.0) (max_zero ((energy_at salts card t).0 ⊖ current.0)))
 
 -- `calculate_charge_energy_demand`, from the state of charge
-unfoldable pub charge_energy_demand : Card → Given → Float → Float → KilowattHours
+unfoldable pub charge_energy_demand : Card → Option Float → Float → Float → KilowattHours
 charge_energy_demand card most target soc =
     let stored = stored_maximum (salts_of card) card in
     cond (lt target soc)

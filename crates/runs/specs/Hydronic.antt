@@ -1,5 +1,5 @@
 -- Document 01, module 6: the substeps of `charge_battery_hydronic`, the fractional one included.
-use Rattle.std.specs.Prelude.{ℕ, zero, suc, ◌+◌, Bool, true, cond, not, ◌&&◌, eqb, Float}
+use Rattle.std.specs.Prelude.{ℕ, zero, suc, ◌+◌, Bool, true, cond, not, ◌&&◌, eqb, Float, Option, Some, None}
 use Rattle.std.specs.Float.Ieee.{lt, neg}
 use Rattle.floats.specs.F64.{◌⊕◌, ◌⊖◌, ◌⊗◌, ◌⊘◌}
 use Rattle.floats.specs.Constants as Constants
@@ -14,12 +14,10 @@ use Rattle.substep.specs.Substep.{process_heat_battery_zones}
 use Rattle.substep.specs.declared.SubstepInput.{SubstepInput}
 use Rattle.substep.specs.declared.Outcome.{Outcome}
 use Rattle.substep.specs.declared.Fault.{Fault}
-use Rattle.substep.specs.declared.Fault.TheVariants.{Nothing, Logarithm, NotFinite}
+use Rattle.substep.specs.declared.Fault.TheVariants.{Logarithm, NotFinite}
 use Rattle.runs.specs.declared.HydronicTask.{HydronicTask}
 use Rattle.runs.specs.declared.HydronicState.{HydronicState}
 use Rattle.runs.specs.declared.HydronicTurn.{HydronicTurn}
-use Rattle.runs.specs.declared.Next.{Next}
-use Rattle.runs.specs.declared.Next.TheVariants.{On, Stop}
 use Rattle.runs.specs.declared.HydronicEnd.{HydronicEnd}
 use Rattle.runs.specs.declared.Stopped.{Stopped}
 use Rattle.runs.specs.declared.End.{End}
@@ -40,22 +38,22 @@ clearly_below outlet inlet = lt outlet inlet && not (nearly_equal outlet inlet t
 unfoldable pub limit_reached : Kilojoules → Kilojoules → Bool
 limit_reached absorbed limit = cond (lt limit.0 absorbed.0) true (nearly_equal absorbed.0 limit.0 tolerance max_relative)
 
-abbrev pub hydronic_turn : Zoned HydronicState → Next → ℕ → Zoned HydronicTurn
+abbrev pub hydronic_turn : Zoned HydronicState → Option End → ℕ → Zoned HydronicTurn
 hydronic_turn run next n = zoned (record { state = run.part; next = next; substeps = n }) run.zones
 
 -- after the fractional substep u: its zones, and the limit as the energy
-unfoldable pub replay_by : HydronicTask → ℕ → Zoned HydronicState → Float → Float → Zoned Outcome → Fault → Zoned HydronicTurn
-replay_by task n run seconds reynold outcome Nothing =
-    hydronic_turn (zoned (record { absorbed = task.limit; reynold = reynold; time = run.part.time ⊕ seconds }) outcome.zones) (Stop Limit) n
-replay_by task n run seconds reynold outcome Logarithm = hydronic_turn run (Stop NoLogarithm) n
-replay_by task n run seconds reynold outcome NotFinite = hydronic_turn run (Stop NotFiniteRun) n
+unfoldable pub replay_by : HydronicTask → ℕ → Zoned HydronicState → Float → Float → Zoned Outcome → Option Fault → Zoned HydronicTurn
+replay_by task n run seconds reynold outcome None =
+    hydronic_turn (zoned (record { absorbed = task.limit; reynold = reynold; time = run.part.time ⊕ seconds }) outcome.zones) (Some Limit) n
+replay_by task n run seconds reynold outcome (Some Logarithm) = hydronic_turn run (Some NoLogarithm) n
+replay_by task n run seconds reynold outcome (Some NotFinite) = hydronic_turn run (Some NotFiniteRun) n
 
 -- the fractional substep: from the zones before the whole one, with the Reynolds number after it; n substeps are done
 unfoldable pub replayed : HydronicTask → (ℕ → Salt) → ℕ → Zoned HydronicState → Float → Float → Zoned HydronicTurn
 replayed task salts n run seconds reynold =
     let u = outcome (process_heat_battery_zones task.card task.pcm salts (wet_input task seconds reynold) run.zones) in
     cond (eqb n task.card.budget)
-    (hydronic_turn run (Stop OverBudget) n)
+    (hydronic_turn run (Some OverBudget) n)
     (replay_by task (n + 1) run seconds reynold u u.part.fault)
 
 -- the fraction of the whole substep's heat that the limit allows, as seconds
@@ -73,14 +71,14 @@ hydronic_whole task salts n run outcome =
     (cond (limit_reached absorbed task.limit)
     (cond (lt Constants.zero this.0)
     (replayed task salts n run (fraction_seconds task absorbed this) reynold)
-    (hydronic_turn (zoned (record { absorbed = absorbed; reynold = reynold; time = time }) outcome.zones) (Stop Limit) n))
-    (hydronic_turn (zoned (record { absorbed = absorbed; reynold = reynold; time = time }) outcome.zones) On n))
-    (hydronic_turn (zoned (record { absorbed = run.part.absorbed; reynold = reynold; time = time }) outcome.zones) (Stop Level) n)
+    (hydronic_turn (zoned (record { absorbed = absorbed; reynold = reynold; time = time }) outcome.zones) (Some Limit) n))
+    (hydronic_turn (zoned (record { absorbed = absorbed; reynold = reynold; time = time }) outcome.zones) None n))
+    (hydronic_turn (zoned (record { absorbed = run.part.absorbed; reynold = reynold; time = time }) outcome.zones) (Some Level) n)
 
-unfoldable pub hydronic_by : HydronicTask → (ℕ → Salt) → ℕ → Zoned HydronicState → Zoned Outcome → Fault → Zoned HydronicTurn
-hydronic_by task salts n run outcome Nothing = hydronic_whole task salts n run outcome
-hydronic_by task salts n run outcome Logarithm = hydronic_turn run (Stop NoLogarithm) n
-hydronic_by task salts n run outcome NotFinite = hydronic_turn run (Stop NotFiniteRun) n
+unfoldable pub hydronic_by : HydronicTask → (ℕ → Salt) → ℕ → Zoned HydronicState → Zoned Outcome → Option Fault → Zoned HydronicTurn
+hydronic_by task salts n run outcome None = hydronic_whole task salts n run outcome
+hydronic_by task salts n run outcome (Some Logarithm) = hydronic_turn run (Some NoLogarithm) n
+hydronic_by task salts n run outcome (Some NotFinite) = hydronic_turn run (Some NotFiniteRun) n
 
 -- one turn: a whole substep, and the fractional one where the limit calls for it
 unfoldable pub hydronic_step : HydronicTask → (ℕ → Salt) → ℕ → Zoned HydronicState → Zoned HydronicTurn
@@ -97,9 +95,9 @@ hydronic_end_state run = run.state
 abbrev pub hydronic_end : Zoned HydronicState → End → ℕ → Zoned HydronicEnd
 hydronic_end run end n = zoned (record { state = run.part; end = end; substeps = n }) run.zones
 
-abbrev pub hydronic_then : (ℕ → Zoned HydronicState → Zoned HydronicEnd) → Zoned HydronicState → Next → ℕ → Zoned HydronicEnd
-hydronic_then go run On n = go n run
-hydronic_then go run (Stop e) n = hydronic_end run e n
+abbrev pub hydronic_then : (ℕ → Zoned HydronicState → Zoned HydronicEnd) → Zoned HydronicState → Option End → ℕ → Zoned HydronicEnd
+hydronic_then go run None n = go n run
+hydronic_then go run (Some e) n = hydronic_end run e n
 
 -- the run from s with n substeps done and k whole ones left
 unfoldable pub hydronic_run : HydronicTask → (ℕ → Salt) → ℕ → ℕ → Zoned HydronicState → Zoned HydronicEnd

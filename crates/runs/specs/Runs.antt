@@ -1,5 +1,5 @@
 -- What the runs of substeps share: how they end, what they hand out, the Reynolds number between substeps, the time left.
-use Rattle.std.specs.Prelude.{ℕ, Float}
+use Rattle.std.specs.Prelude.{ℕ, Float, Option, Some, None}
 use Rattle.refusals.specs.Refusals.{over_budget, not_finite, no_logarithm}
 use Rattle.floats.specs.F64.{◌⊖◌, ◌⊗◌, ◌⊘◌}
 use Rattle.floats.specs.Constants.{one}
@@ -8,19 +8,17 @@ use Rattle.substep.specs.Substep.{outcome_of}
 use Rattle.substep.specs.declared.Outcome.{Outcome}
 use Rattle.substep.specs.declared.Substep.{Substep}
 use Rattle.substep.specs.declared.Fault.{Fault}
-use Rattle.substep.specs.declared.Fault.TheVariants.{Nothing, Logarithm, NotFinite}
+use Rattle.substep.specs.declared.Fault.TheVariants.{Logarithm, NotFinite}
 use Rattle.battery.specs.declared.Ledger.{Ledger}
 use Rattle.runs.specs.Zoned.{Zoned, zoned}
-use Rattle.runs.specs.declared.Next.{Next}
-use Rattle.runs.specs.declared.Next.TheVariants.{On, Stop}
 use Rattle.runs.specs.declared.End.{End}
 use Rattle.runs.specs.declared.End.TheVariants.{Done, Negative, Met, NoStep, Level, Limit, Time, OverBudget, NoLogarithm, NotFiniteRun}
 
 -- the end that a substep's fault makes
-unfoldable pub fault_end : Fault → End
-fault_end Nothing = Done
-fault_end Logarithm = NoLogarithm
-fault_end NotFinite = NotFiniteRun
+unfoldable pub fault_end : Option Fault → End
+fault_end None = Done
+fault_end (Some Logarithm) = NoLogarithm
+fault_end (Some NotFinite) = NotFiniteRun
 
 -- document 01's numbers, 0 for an end that answers
 unfoldable pub end_refusal : End → ℕ
@@ -36,9 +34,9 @@ end_refusal NotFiniteRun = not_finite
 end_refusal NoLogarithm = no_logarithm
 
 -- the refusal that a turn ends with, 0 for none
-abbrev pub next_refusal : Next → ℕ
-next_refusal On = 0
-next_refusal (Stop e) = end_refusal e
+abbrev pub next_refusal : Option End → ℕ
+next_refusal None = 0
+next_refusal (Some e) = end_refusal e
 
 -- a substep without its energies
 abbrev pub outcome : Substep → Zoned Outcome

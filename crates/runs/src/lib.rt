@@ -2,9 +2,13 @@
 #![tactic(auto)]
 
 ghost use Rattle.std.specs.Prelude.{◌≡◌};
+ghost use Rattle.refusals.specs.Number.{refused_number};
+ghost use Rattle.runs.specs.Charge.{wet_of};
 ghost use Rattle.runs.specs.Runs.{fault_end, end_refusal, reynold_between, time_available};
 
+use battery::{Hydronic, Ledger};
 use card::{Card, HeatBatteryPcm};
+use refusals::Refusal;
 use zone::{Kilojoules, KilowattHours};
 
 // How a run of substeps ends. The last three are refusals 22, 24 and 23.
@@ -22,13 +26,6 @@ pub enum End {
     OverBudget,
     NoLogarithm,
     NotFiniteRun,
-}
-
-// What follows a substep.
-#[derive(Clone, Copy)]
-pub enum Next {
-    On,
-    Stop(End),
 }
 
 // What a run hands out; its zones stay where they lie.
@@ -60,6 +57,23 @@ pub struct Exchanger {
     pub diameter: f64,
 }
 
+impl From<Hydronic> for Exchanger {
+    ghost from_gives = { λ hydronic wet. wet ≡ wet_of hydronic };
+
+    fn from(hydronic: Hydronic) -> Exchanger {
+        Exchanger {
+            inlet: hydronic.inlet,
+            hours: hydronic.hours,
+            flow: hydronic.flow,
+            limit: hydronic.limit,
+            a: hydronic.a,
+            b: hydronic.b,
+            velocity: hydronic.velocity,
+            diameter: hydronic.diameter,
+        }
+    }
+}
+
 #[derive(Clone, Copy)]
 pub enum Source {
     // rated power in kW
@@ -88,7 +102,8 @@ pub struct HydronicState {
 #[derive(Clone, Copy)]
 pub struct HydronicTurn {
     pub state: HydronicState,
-    pub next: Next,
+    // none to go on
+    pub next: Option<End>,
     pub substeps: u32,
 }
 
@@ -99,34 +114,32 @@ pub struct HydronicEnd {
     pub substeps: u32,
 }
 
-pub fn fault_end(fault: substep::Fault) -> End
+#[tactic(auto, unfolding(crate::specs::Runs::fault_end))]
+pub fn fault_end(fault: Option<substep::Fault>) -> End
     ensures { result ≡ fault_end fault }
 {
     match fault {
-        substep::Fault::Nothing => End::Done,
-        substep::Fault::Logarithm => End::NoLogarithm,
-        substep::Fault::NotFinite => End::NotFiniteRun,
+        None => End::Done,
+        Some(substep::Fault::Logarithm) => End::NoLogarithm,
+        Some(substep::Fault::NotFinite) => End::NotFiniteRun,
     }
 }
 
-// Document 01's number, 0 for an end that answers.
-pub fn end_refusal(end: End) -> u8
-    ensures { result ≡ end_refusal end }
+// Whether an end answers.
+#[tactic(auto, unfolding(crate::specs::Runs::end_refusal))]
+pub fn end_refusal(end: End) -> Result<(), Refusal>
+    ensures { refused_number result ≡ end_refusal end }
 {
     match end {
-        End::Done => 0,
-        End::Negative => 0,
-        End::Met => 0,
-        End::NoStep => 0,
-        End::Level => 0,
-        End::Limit => 0,
-        End::Time => 0,
-        End::OverBudget => refusals::OVER_BUDGET,
-        End::NotFiniteRun => refusals::NOT_FINITE,
-        End::NoLogarithm => refusals::NO_LOGARITHM,
+        End::Done | End::Negative | End::Met | End::NoStep | End::Level | End::Limit | End::Time =>
+            Ok(()),
+        End::OverBudget => Err(Refusal::OverBudget),
+        End::NotFiniteRun => Err(Refusal::NotFinite),
+        End::NoLogarithm => Err(Refusal::NoLogarithm),
     }
 }
 
+#[tactic(auto, unfolding(crate::specs::Runs::reynold_between))]
 pub fn reynold_between(inlet: f64, outlet: f64, velocity: f64, diameter: f64) -> f64
     ensures { result ≡ reynold_between inlet outlet velocity diameter }
 {
@@ -135,7 +148,8 @@ pub fn reynold_between(inlet: f64, outlet: f64, velocity: f64, diameter: f64) ->
 }
 
 // Hours.
-pub fn time_available(ledger: battery::Ledger, start: f64) -> f64
+#[tactic(auto, unfolding(crate::specs::Runs::time_available))]
+pub fn time_available(ledger: Ledger, start: f64) -> f64
     ensures { result ≡ time_available ledger start }
 {
     let timestep = ledger.card.timestep;

@@ -1,4 +1,5 @@
 -- A call's bytes are read exactly when they are laid out as document 01 says.
+use Rattle.std.specs.Prelude.{Option, Some}
 use mathlib.Core.Path.{◌≡◌, refl, sym, ap, ◌∙◌}
 use mathlib.Core.List.{List}
 use mathlib.Core.Bool.{true, cond, ◌&&◌}
@@ -17,8 +18,6 @@ use Rattle.card.specs.Services.{Service}
 use Rattle.battery.specs.declared.Call.{Call}
 use Rattle.battery.specs.declared.Call.TheVariants.{DemandEnergy, ChargeElectric, ChargeHydronic, HeatLoss, CloseTimestep, ReadStateOfCharge, ChargeEnergyDemand}
 use Rattle.battery.specs.Kinds.{kind_of}
-use Rattle.sheet_calls.specs.declared.ReadCall.{ReadCall}
-use Rattle.sheet_calls.specs.declared.ReadCall.TheVariants.{Good}
 use Rattle.sheet_calls.specs.Calls.{call_length, commit_place, control_place, return_place, fields_place, mark_ok, given_at, demand_at, demand_call, hydronic_at, charge_demand_call, bare_call, demand_class, call_by, call_of}
 use Rattle.sheet_calls.specs.Laid.{Marked, LaidCall}
 use Rattle.sheet_calls.proofs.CallLaws.{test_good, call_length_lem, call_kind}
@@ -70,28 +69,28 @@ kind_known (ChargeEnergyDemand most target) = omega arith
 Flags : ℕ → List ℕ → Type 0
 Flags version bs = (get_or bs (commit_place version) 0 ≤ 1) × (get_or bs (control_place version) 0 ≤ 1) × Marked bs (return_place version)
 
-flags : (version class : ℕ) (bs : List ℕ) (c : Call) → demand_call version class bs ≡ Good c → Flags version bs
+flags : (version class : ℕ) (bs : List ℕ) (c : Call) → demand_call version class bs ≡ Some c → Flags version bs
 unfolding demand_call Flags
 flags version class bs c h =
     let a = leb (get_or bs (commit_place version) 0) 1 in
     let b = leb (get_or bs (control_place version) 0) 1 in
-    let t = (test_good (a && (b && mark_ok bs (return_place version))) (Good (DemandEnergy (demand_at version class bs))) c h).0 in
+    let t = (test_good (a && (b && mark_ok bs (return_place version))) (Some (DemandEnergy (demand_at version class bs))) c h).0 in
     let p = and_true a (b && mark_ok bs (return_place version)) t in
     let q = and_true b (mark_ok bs (return_place version)) p.1 in
     (leb-true (get_or bs (commit_place version) 0) 1 p.0, leb-true (get_or bs (control_place version) 0) 1 q.0, marked bs (return_place version) q.1)
 
-most : (version : ℕ) (bs : List ℕ) (c : Call) → charge_demand_call version bs ≡ Good c → Marked bs fields_place
+most : (version : ℕ) (bs : List ℕ) (c : Call) → charge_demand_call version bs ≡ Some c → Marked bs fields_place
 unfolding charge_demand_call
 most version bs c h =
-    marked bs fields_place (test_good (mark_ok bs fields_place) (Good (ChargeEnergyDemand (given_at bs fields_place) (f64_at bs 10))) c h).0
+    marked bs fields_place (test_good (mark_ok bs fields_place) (Some (ChargeEnergyDemand (given_at bs fields_place) (f64_at bs 10))) c h).0
 
 -- bytes that are read are laid out
-pub call_laid : (version : ℕ) (services : List Service) (bs : List ℕ) (c : Call) → call_of version services bs ≡ Good c → LaidCall version bs
+pub call_laid : (version : ℕ) (services : List Service) (bs : List ℕ) (c : Call) → call_of version services bs ≡ Some c → LaidCall version bs
 unfolding call_of call_by Flags
 call_laid version services bs c h =
     let k = get_or bs 0 0 in
     let class = demand_class version services k bs in
-    let r : call_by version k class bs ≡ Good c = (test_good (eqb (length bs) (call_length version k)) (call_by version k class bs) c h).1 in
+    let r : call_by version k class bs ≡ Some c = (test_good (eqb (length bs) (call_length version k)) (call_by version k class bs) c h).1 in
     let e = call_kind version services bs c h in
     record {
       from_one = omega (arith, (kind_known c).0, e);
@@ -115,8 +114,8 @@ seven P p₁ p₂ p₃ p₄ p₅ p₆ p₇ k h l = on (ℕ_discrete k 1) (ℕ_di
     on (no a) (no b) (no c) (no d) (no f) (no g) = let e : k ≡ 7 = omega arith in rw e p₇
 
 -- some call is read
-abbrev pub IsRead : ReadCall → Type 0
-IsRead r = (c : Call) × (r ≡ Good c)
+abbrev pub IsRead : Option Call → Type 0
+IsRead r = (c : Call) × (r ≡ Some c)
 
 by_kind : (version class : ℕ) (bs : List ℕ) (k : ℕ) → 1 ≤ k → k ≤ 7 → (k ≡ 1 → Flags version bs) → (k ≡ 7 → Marked bs fields_place) → IsRead (call_by version k class bs)
 unfolding call_by bare_call demand_call charge_demand_call Flags

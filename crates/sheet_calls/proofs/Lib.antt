@@ -1,4 +1,5 @@
 pub mod Places
+pub mod Unknown
 pub mod CallLaws
 pub mod CallExact
 pub mod ByKind

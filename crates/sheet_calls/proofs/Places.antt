@@ -1,10 +1,13 @@
--- Where a demand's fields stand, and how long a call is, whatever the version. No other law opens commit_place or call_length but examples by computation.
+-- Where a demand's fields stand, and how long a call is, whatever the version. No other law opens commit_place or call_length but Unknown's and examples by computation.
 use mathlib.Core.Path.{◌≡◌, refl, ap}
 use mathlib.Core.Bool.{Bool, true, false, cond}
 use Prim.Native.Nat.{ℕ, ◌+◌, ◌≤◌, ◌<◌}
 use native.Mathlib.Omega.{arith}
 use lib.Dec.{eqb}
 use Rattle.card.specs.Version.{lists_services}
+use Rattle.sheet_calls.specs.declared.kind.Kind.{Kind}
+use Rattle.sheet_calls.specs.declared.kind.Kind.TheVariants.{DemandEnergy, ChargeElectric, ChargeHydronic, HeatLoss, CloseTimestep, ReadStateOfCharge, ChargeEnergyDemand}
+use Rattle.sheet_calls.specs.Kinds.{kind_number}
 use Rattle.sheet_calls.specs.Calls.{fields_place, commit_place, return_place, call_length}
 
 -- the flags follow the type, within a byte or two
@@ -36,6 +39,13 @@ pub electric_length : (version : ℕ) → call_length version 2 ≡ 17
 unfolding call_length
 electric_length version = refl
 
+-- its numbers are there
+pub electric_long : (version kind n : ℕ) → kind ≡ 2 → call_length version kind ≤ n → 17 ≤ n
+electric_long version kind n e h =
+    let l = electric_length version in
+    let k = ap (call_length version) e in
+    omega arith
+
 pub hydronic_length : (version : ℕ) → call_length version 3 ≡ 73
 unfolding call_length
 hydronic_length version = refl
@@ -60,3 +70,14 @@ unfolding call_length
 call_short version kind =
     let p = (commit_place_lem version).1 in
     short_by (return_place version + 9) (omega arith) (eqb kind 1) (eqb kind 2) (eqb kind 3) (eqb kind 4) (eqb kind 5) (eqb kind 6) (eqb kind 7)
+
+-- no call of a kind is empty
+pub call_long : (version : ℕ) (kind : Kind) → 1 ≤ call_length version (kind_number kind)
+unfolding call_length
+call_long version DemandEnergy = omega arith
+call_long version ChargeElectric = omega arith
+call_long version ChargeHydronic = omega arith
+call_long version HeatLoss = omega arith
+call_long version CloseTimestep = omega arith
+call_long version ReadStateOfCharge = omega arith
+call_long version ChargeEnergyDemand = omega arith

@@ -1,23 +1,20 @@
 -- Document 01, 'Kinds': a call's bytes, and refusal 10's tests of them. Ranges are the battery's.
-use Rattle.std.specs.Prelude.{ℕ, ◌+◌, List, Bool, cond, ◌&&◌, leb, eqb, length, get_or}
+use Rattle.std.specs.Prelude.{ℕ, ◌+◌, List, Bool, cond, ◌&&◌, leb, eqb, length, get_or, Option, Some, None, Float}
 use Rattle.codec.specs.Bytes.{be_at, f64_at, nth_f64}
 use Rattle.card.specs.Version.{lists_services}
 use Rattle.card.specs.Services.{Service, class_of}
-use Rattle.battery.specs.declared.Given.{Given}
-use Rattle.battery.specs.declared.Given.TheVariants.{Absent, Value}
 use Rattle.battery.specs.declared.Demand.{Demand}
 use Rattle.battery.specs.declared.Hydronic.{Hydronic}
 use Rattle.battery.specs.declared.Call.TheVariants.{DemandEnergy, ChargeElectric, ChargeHydronic, HeatLoss, CloseTimestep, ReadStateOfCharge, ChargeEnergyDemand}
-use Rattle.sheet_calls.specs.declared.ReadCall.{ReadCall}
-use Rattle.sheet_calls.specs.declared.ReadCall.TheVariants.{Good, Bad}
+use Rattle.battery.specs.declared.Call.{Call}
 
 -- a mark is 0 or 1, and 'an absent value has zero bytes'
 unfoldable pub mark_ok : List ℕ → ℕ → Bool
 mark_ok bs at = cond (eqb (get_or bs at 0) 0) (eqb (be_at bs (at + 1) 8) 0) (eqb (get_or bs at 0) 1)
 
 -- a mark and a value
-unfoldable pub given_at : List ℕ → ℕ → Given
-given_at bs at = cond (eqb (get_or bs at 0) 0) Absent (Value (f64_at bs (at + 1)))
+unfoldable pub given_at : List ℕ → ℕ → Option Float
+given_at bs at = cond (eqb (get_or bs at 0) 0) None (Some (f64_at bs (at + 1)))
 
 -- the place of the first field
 abbrev pub fields_place : ℕ
@@ -65,10 +62,10 @@ demand_at version class bs =
       feed = given_at bs (return_place version);
     }
 
-unfoldable pub demand_call : ℕ → ℕ → List ℕ → ReadCall
+unfoldable pub demand_call : ℕ → ℕ → List ℕ → Option Call
 demand_call version class bs =
     cond (leb (get_or bs (commit_place version) 0) 1 && (leb (get_or bs (control_place version) 0) 1 && mark_ok bs (return_place version)))
-    (Good (DemandEnergy (demand_at version class bs))) Bad
+    (Some (DemandEnergy (demand_at version class bs))) None
 
 -- '3 hydronic: inlet, hours, flow, target, limit, hex a, hex b, velocity, diameter'
 unfoldable pub hydronic_at : ℕ → List ℕ → Hydronic
@@ -86,19 +83,19 @@ hydronic_at version bs =
     }
 
 -- '7 charge energy demand: mark and flow maximum, target'
-unfoldable pub charge_demand_call : ℕ → List ℕ → ReadCall
-charge_demand_call version bs = cond (mark_ok bs fields_place) (Good (ChargeEnergyDemand (given_at bs fields_place) (f64_at bs 10))) Bad
+unfoldable pub charge_demand_call : ℕ → List ℕ → Option Call
+charge_demand_call version bs = cond (mark_ok bs fields_place) (Some (ChargeEnergyDemand (given_at bs fields_place) (f64_at bs 10))) None
 
 -- '4 standing loss', '5 close timestep', '6 state of charge': no fields
-unfoldable pub bare_call : ℕ → ℕ → ReadCall
-bare_call version kind = cond (eqb kind 4) (Good HeatLoss) (cond (eqb kind 5) (Good CloseTimestep) (cond (eqb kind 6) (Good ReadStateOfCharge) Bad))
+unfoldable pub bare_call : ℕ → ℕ → Option Call
+bare_call version kind = cond (eqb kind 4) (Some HeatLoss) (cond (eqb kind 5) (Some CloseTimestep) (cond (eqb kind 6) (Some ReadStateOfCharge) None))
 
 -- the fields of a kind, with a demand's class; '2 electric: power, target'
-unfoldable pub call_by : ℕ → ℕ → ℕ → List ℕ → ReadCall
+unfoldable pub call_by : ℕ → ℕ → ℕ → List ℕ → Option Call
 call_by version kind class bs =
     cond (eqb kind 1) (demand_call version class bs)
-    (cond (eqb kind 2) (Good (ChargeElectric (nth_f64 bs fields_place 0) (nth_f64 bs fields_place 1)))
-    (cond (eqb kind 3) (Good (ChargeHydronic (hydronic_at version bs)))
+    (cond (eqb kind 2) (Some (ChargeElectric (nth_f64 bs fields_place 0) (nth_f64 bs fields_place 1)))
+    (cond (eqb kind 3) (Some (ChargeHydronic (hydronic_at version bs)))
     (cond (eqb kind 7) (charge_demand_call version bs) (bare_call version kind))))
 
 -- the kind that a call's bytes begin with, or 0, which is no kind, where they have another length than its calls
@@ -106,7 +103,7 @@ unfoldable pub kind_of : ℕ → List ℕ → ℕ
 kind_of version bs = cond (eqb (length bs) (call_length version (get_or bs 0 0))) (get_or bs 0 0) 0
 
 -- a call's bytes on a card that lists these services; bad ones are of another length, of an unknown kind, with a flag or mark other than 0 or 1, or with nonzero bytes under an absent mark
-unfoldable pub call_of : ℕ → List Service → List ℕ → ReadCall
+unfoldable pub call_of : ℕ → List Service → List ℕ → Option Call
 call_of version services bs =
     let kind = get_or bs 0 0 in
-    cond (eqb (length bs) (call_length version kind)) (call_by version kind (demand_class version services kind bs) bs) Bad
+    cond (eqb (length bs) (call_length version kind)) (call_by version kind (demand_class version services kind bs) bs) None

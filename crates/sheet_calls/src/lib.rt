@@ -1,18 +1,15 @@
 // A call's bytes: its kind and its fields. Ranges are tested by battery::call_ranges::call_in_range.
 #![tactic(auto)]
 
+pub mod kind;
+
 ghost use Rattle.std.specs.Prelude.{◌≡◌, ◌+◌, ◌≤◌, length};
-ghost use Rattle.sheet_calls.specs.Calls.{commit_place, call_length, mark_ok, given_at, demand_at, demand_call, hydronic_at, charge_demand_call, bare_call, kind_of, demand_class, call_by};
-ghost use Rattle.sheet_records.specs.Cards.{card_length, services_at};
+ghost use Rattle.sheet_calls.specs.Calls.{commit_place, call_length, mark_ok, given_at, demand_at, demand_call, hydronic_at, charge_demand_call, kind_of, demand_class, call_by};
+ghost use Rattle.sheet_calls.specs.Kinds.{kind_number, kind_number_or_0};
 
-use battery::{Call, Demand, Given, Hydronic};
-
-// What the bytes of a call are: bad ones are refused with 10 by A's entry, with 42 by the auditor.
-#[derive(Clone, Copy)]
-pub enum ReadCall {
-    Good(Call),
-    Bad,
-}
+use battery::{Call, Demand, Hydronic};
+use card::services::Services;
+use kind::Kind;
 
 // Place of the first field.
 const FIELDS: usize = 1;
@@ -34,26 +31,19 @@ fn commit_place(version: u8) -> usize
     2
 }
 
-// The bytes of a call of a kind, 0 where there is no such kind.
-pub fn call_length(version: u8, kind: u8) -> usize
-    ensures { result ≡ call_length version kind }
+// The bytes of a call of a kind.
+#[tactic(auto, unfolding(crate::specs::Calls::call_length), using(crate::proofs::Places::commit_place_lem))]
+pub fn call_length(version: u8, kind: Kind) -> usize
+    ensures { result ≡ call_length version (kind_number kind) }
 {
-    if kind == 1 {
-        commit_place(version) + RETURN + 9
-    } else if kind == 2 {
-        17
-    } else if kind == 3 {
-        73
-    } else if kind == 4 {
-        1
-    } else if kind == 5 {
-        1
-    } else if kind == 6 {
-        1
-    } else if kind == 7 {
-        18
-    } else {
-        0
+    match kind {
+        Kind::DemandEnergy => commit_place(version) + RETURN + 9,
+        Kind::ChargeElectric => 17,
+        Kind::ChargeHydronic => 73,
+        Kind::HeatLoss => 1,
+        Kind::CloseTimestep => 1,
+        Kind::ReadStateOfCharge => 1,
+        Kind::ChargeEnergyDemand => 18,
     }
 }
 
@@ -69,14 +59,15 @@ pub fn mark_ok(bytes: &[u8], at: usize) -> bool
     }
 }
 
-fn read_given(bytes: &[u8], at: usize) -> Given
+// A mark and a value.
+fn read_given(bytes: &[u8], at: usize) -> Option<f64>
     requires { at + 9 ≤ length bytes.now }
     ensures { result ≡ given_at bytes.now at }
 {
     if bytes[at] == 0 {
-        Given::Absent
+        None
     } else {
-        Given::Value(codec::read_f64(bytes, at + 1))
+        Some(codec::read_f64(bytes, at + 1))
     }
 }
 
@@ -96,19 +87,16 @@ fn read_demand(version: u8, class: u8, bytes: &[u8]) -> Demand
     }
 }
 
-fn demand_call(version: u8, class: u8, bytes: &[u8]) -> ReadCall
+#[tactic(auto, unfolding(crate::specs::Calls::demand_call))]
+fn demand_call(version: u8, class: u8, bytes: &[u8]) -> Option<Call>
     requires { call_length version 1 ≤ length bytes.now }
     ensures { result ≡ demand_call version class bytes.now }
 {
     let commit = commit_place(version);
-    if logic::all_three(
-        bytes[commit] <= 1,
-        bytes[commit + CONTROL] <= 1,
-        mark_ok(bytes, commit + RETURN),
-    ) {
-        return ReadCall::Good(Call::DemandEnergy(read_demand(version, class, bytes)));
+    if (bytes[commit] <= 1) & (bytes[commit + CONTROL] <= 1) & mark_ok(bytes, commit + RETURN) {
+        return Some(Call::DemandEnergy(read_demand(version, class, bytes)));
     }
-    ReadCall::Bad
+    None
 }
 
 fn read_hydronic(version: u8, bytes: &[u8]) -> Hydronic
@@ -128,80 +116,68 @@ fn read_hydronic(version: u8, bytes: &[u8]) -> Hydronic
     }
 }
 
-fn charge_demand_call(version: u8, bytes: &[u8]) -> ReadCall
+fn charge_demand_call(version: u8, bytes: &[u8]) -> Option<Call>
     requires { call_length version 7 ≤ length bytes.now }
     ensures { result ≡ charge_demand_call version bytes.now }
 {
     if mark_ok(bytes, FIELDS) {
         let most = read_given(bytes, FIELDS);
         let target = codec::read_f64(bytes, 10);
-        return ReadCall::Good(Call::ChargeEnergyDemand(most, target));
+        return Some(Call::ChargeEnergyDemand(most, target));
     }
-    ReadCall::Bad
+    None
 }
 
-// The kinds without fields.
-fn bare_call(version: u8, kind: u8) -> ReadCall
-    ensures { result ≡ bare_call version kind }
-{
-    if kind == 4 {
-        return ReadCall::Good(Call::HeatLoss);
-    }
-    if kind == 5 {
-        return ReadCall::Good(Call::CloseTimestep);
-    }
-    if kind == 6 {
-        return ReadCall::Good(Call::ReadStateOfCharge);
-    }
-    ReadCall::Bad
-}
-
-// The kind of a call's bytes; 0, which no call has, where their length is another. `call_by` reads them then, Bad where refusal 10 applies to
+// The kind of a call's bytes; none where they are not as many as its calls have. `call_by` reads them then, none where refusal 10 applies to
 // them: two functions, so that a call's fields are written once and not copied.
-pub fn kind_of(version: u8, bytes: &[u8]) -> u8
-    ensures { result ≡ kind_of version bytes.now }
+pub fn kind_of(version: u8, bytes: &[u8]) -> Option<Kind>
+    ensures { kind_number_or_0 result ≡ kind_of version bytes.now }
 {
-    let kind = codec::byte_or_zero(bytes, 0);
+    let Ok(kind) = Kind::try_from(codec::byte_or_zero(bytes, 0)) else {
+        return None;
+    };
     if bytes.len() == call_length(version, kind) {
-        kind
-    } else {
-        0
+        return Some(kind);
     }
+    None
 }
 
-// The class of a demand's type, by the services of the card at the front of other bytes; 0 for another kind.
-pub fn demand_class(version: u8, card: &[u8], kind: u8, bytes: &[u8]) -> u8
-    requires { (card_length version card.now ≤ length card.now) × (call_length version kind ≤ length bytes.now) }
-    ensures { result ≡ demand_class version (services_at version card.now) kind bytes.now }
+// The class of a demand's type by the services that a card lists; 0 for another kind.
+#[tactic(auto, unfolding(crate::specs::Calls::demand_class))]
+pub fn demand_class<S: Services>(version: u8, services: &S, kind: Kind, bytes: &[u8]) -> u8
+    requires { (length (S.list services.now) ≤ S.room services.now) × (call_length version (kind_number kind) ≤ length bytes.now) }
+    ensures { result ≡ demand_class version (S.list services.now) (kind_number kind) bytes.now }
 {
-    if kind == 1 {
-        if card::version::lists_services(version) {
-            let number = codec::read_u16(bytes, FIELDS);
-            return sheet_records::services::class_of(version, card, number);
+    match kind {
+        Kind::DemandEnergy => {
+            if card::version::lists_services(version) {
+                let number = codec::read_u16(bytes, FIELDS);
+                return card::services::class_of(services, number);
+            }
+            bytes[FIELDS]
         }
-        return bytes[FIELDS];
+        _ => 0,
     }
-    0
 }
 
-// The call of a kind, with a demand's class, in no fewer bytes than it has.
-pub fn call_by(version: u8, kind: u8, class: u8, bytes: &[u8]) -> ReadCall
-    requires { call_length version kind ≤ length bytes.now }
-    ensures { result ≡ call_by version kind class bytes.now }
+// The call of a kind, with a demand's class, in no fewer bytes than it has; none where they are bad, which A's entry refuses with 10, the auditor
+// with 42.
+#[tactic(auto, unfolding(crate::specs::Calls::call_by, crate::specs::Calls::bare_call))]
+pub fn call_by(version: u8, kind: Kind, class: u8, bytes: &[u8]) -> Option<Call>
+    requires { call_length version (kind_number kind) ≤ length bytes.now }
+    ensures { result ≡ call_by version (kind_number kind) class bytes.now }
 {
-    if kind == 1 {
-        return demand_call(version, class, bytes);
+    match kind {
+        Kind::DemandEnergy => demand_call(version, class, bytes),
+        Kind::ChargeElectric => {
+            let power = codec::nth_f64(bytes, FIELDS, 0);
+            let target = codec::nth_f64(bytes, FIELDS, 1);
+            Some(Call::ChargeElectric(power, target))
+        }
+        Kind::ChargeHydronic => Some(Call::ChargeHydronic(read_hydronic(version, bytes))),
+        Kind::HeatLoss => Some(Call::HeatLoss),
+        Kind::CloseTimestep => Some(Call::CloseTimestep),
+        Kind::ReadStateOfCharge => Some(Call::ReadStateOfCharge),
+        Kind::ChargeEnergyDemand => charge_demand_call(version, bytes),
     }
-    if kind == 2 {
-        let power = codec::nth_f64(bytes, FIELDS, 0);
-        let target = codec::nth_f64(bytes, FIELDS, 1);
-        return ReadCall::Good(Call::ChargeElectric(power, target));
-    }
-    if kind == 3 {
-        return ReadCall::Good(Call::ChargeHydronic(read_hydronic(version, bytes)));
-    }
-    if kind == 7 {
-        return charge_demand_call(version, bytes);
-    }
-    bare_call(version, kind)
 }

@@ -1,25 +1,25 @@
 -- The parts of the line at the front of a slice: where they lie, and what its first tests tell of them.
 use mathlib.Core.Path.{◌≡◌, refl, sym, ap, ◌∙◌}
+use Rattle.std.specs.Prelude.{Some, None}
 use mathlib.Core.Bool.{Bool, true, false, cond}
 use mathlib.Core.List.{List}
-use Prim.Native.Nat.{ℕ, ◌+◌, ◌-◌, ◌≤◌, ◌<◌}
+use Prim.Native.Nat.{ℕ, ◌+◌, ◌-◌, ◌≤◌}
 use native.Mathlib.Omega.{arith}
 use borrow.Author.Tests.{eqb-true, leb-true}
 use lib.Dec.{leb, eqb}
 use lib.ListN.{length, take, drop, get_or, length-drop}
-use lib.Ieee.Bits.{is_true}
 use lib.Seq.{length-take-le, get_or-take, get_or-drop}
 use Rattle.logic.proofs.Branch.{three_tests}
-use Rattle.logic.proofs.Tests.{fails}
 use Rattle.codec.specs.Bytes.{be_at}
 use Rattle.card.specs.Services.{Service}
 use Rattle.card.specs.declared.Card.{Card}
+use Rattle.sheet_calls.specs.Kinds.{kind_number}
 use Rattle.sheet_calls.specs.Calls.{call_length, demand_class, call_by, call_of}
 use Rattle.sheet_calls.proofs.CallLaws.{call_by_lem}
 use Rattle.sheet_lines.specs.declared.front.LineHead.{LineHead}
 use Rattle.sheet_lines.specs.Answers.{head_length, answer_length}
 use Rattle.sheet_lines.specs.Lines.{line_length, line_size}
-use Rattle.sheet_lines.specs.Front.{line_call_length, call_part, answer_part, following, head_ok, no_line, line_head}
+use Rattle.sheet_lines.specs.Front.{line_call_length, call_part, answer_part, following, head_ok, HeadNumbers, head_numbers, line_head}
 
 pub size_is : (version : ℕ) (c : Card) (n : ℕ) → line_size version c n ≡ 2 + n + answer_length version c
 unfolding line_size line_length
@@ -67,30 +67,35 @@ module _ (version : ℕ) (c : Card) (bs : List ℕ) where
 pub record Headed (version : ℕ) (c : Card) (bs : List ℕ) (h : LineHead) : Type 0 where
   pub ok : head_ok version c bs ≡ true
   pub fits : Front version c bs
-  pub kind_is : h.kind ≡ get_or bs 2 0
+  pub kind_is : kind_number h.kind ≡ get_or bs 2 0
   pub inside : (2 + h.call ≤ h.size) × (h.size ≤ length bs)
   pub calls : take (2 + h.call - 2) (drop 2 bs) ≡ call_part version bs
   pub answers : take (h.size - (2 + h.call)) (drop (2 + h.call) bs) ≡ answer_part version c bs
   pub follows : drop h.size bs ≡ following version c bs
 
-module _ (version : ℕ) (c : Card) (bs : List ℕ) (h : LineHead) (e : h ≡ line_head version c bs) where
-  is_known : head_ok version c bs ≡ true → h ≡ record { kind = get_or bs 2 0; call = line_call_length version bs; size = line_size version c (line_call_length version bs) }
-  unfolding line_head
-  is_known ok = e ∙ rw ok
+-- where the head is, it is in order
+some_by : (t : Bool) (x h : HeadNumbers) → Some h ≡ cond t (Some x) None → (t ≡ true) × (h ≡ x)
+some_by true x h e = (refl, cc)
+some_by false x h e = let z : ◌≡◌ {A = ℕ} 0 1 = cc in absurd (omega arith)
 
-  pub headed : head_ok version c bs ≡ true → Headed version c bs h
-  unfolding call_part answer_part following
-  headed ok =
+none_by : (t : Bool) (x : HeadNumbers) → None ≡ cond t (Some x) None → t ≡ false
+none_by true x e = let z : ◌≡◌ {A = ℕ} 0 1 = cc in absurd (omega arith)
+none_by false x e = refl
+
+module _ (version : ℕ) (c : Card) (bs : List ℕ) where
+  pub headed : (h : LineHead) → head_numbers (Some h) ≡ line_head version c bs → Headed version c bs h
+  unfolding line_head call_part answer_part following
+  headed h e =
       let n = line_call_length version bs in
-      let f = front version c bs ok in
-      let v = is_known ok in
-      let k : h.kind ≡ get_or bs 2 0 = rw v in
-      let l : h.call ≡ n = rw v in
-      let s : h.size ≡ line_size version c n = rw v in
+      let t = some_by (head_ok version c bs) _ _ e in
+      let f = front version c bs t.0 in
+      let k : kind_number h.kind ≡ get_or bs 2 0 = ap (λ (x : HeadNumbers). x.kind) t.1 in
+      let l : h.call ≡ n = ap (λ (x : HeadNumbers). x.call) t.1 in
+      let s : h.size ≡ line_size version c n = ap (λ (x : HeadNumbers). x.size) t.1 in
       let m : 2 + h.call - 2 ≡ n = omega arith in
       let r : h.size - (2 + h.call) ≡ answer_length version c = omega (arith, size_is version c n) in
       record {
-        ok = ok;
+        ok = t.0;
         fits = f;
         kind_is = k;
         inside = (omega (arith, size_is version c n), omega (arith, size_is version c n, f.whole));
@@ -99,18 +104,6 @@ module _ (version : ℕ) (c : Card) (bs : List ℕ) (h : LineHead) (e : h ≡ li
         follows = rw s;
       }
 
-  some_by : (t : Bool) (x : LineHead) → h ≡ cond t x no_line → 1 ≤ h.call → t ≡ true
-  some_by true x v l = refl
-  some_by false x v l = let z : h.call ≡ 0 = rw v in absurd (omega arith)
-
-  pub head_some : 1 ≤ h.call → Headed version c bs h
+  pub head_none : None ≡ line_head version c bs → head_ok version c bs ≡ false
   unfolding line_head
-  head_some l = headed (some_by (head_ok version c bs) _ e l)
-
-  pub head_none : h.call < 1 → head_ok version c bs ≡ false
-  head_none l =
-      fails (head_ok version c bs)
-      (λ t.
-      let ok : head_ok version c bs ≡ true = is_true (head_ok version c bs) t in
-      let n : h.call ≡ line_call_length version bs = rw (is_known ok) in
-      omega (arith, l, n, (front version c bs ok).known))
+  head_none e = none_by (head_ok version c bs) _ e

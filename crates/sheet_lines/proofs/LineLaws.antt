@@ -1,4 +1,5 @@
 -- The parts of a line and of the opening are found again at their places; 01's closing line.
+use Rattle.std.specs.Prelude.{Some}
 use mathlib.Core.Path.{◌≡◌, refl, ap, ◌∙◌}
 use mathlib.Core.List.{List, [], ◌∷◌, ◌++◌, append_assoc}
 use Prim.Native.Nat.{ℕ, ◌+◌, ◌%◌, ◌≤◌, ◌<◌}
@@ -16,7 +17,6 @@ use Rattle.battery.specs.declared.Battery.{Battery}
 use Rattle.battery.specs.declared.Answer.{Answer}
 use Rattle.battery.specs.declared.Call.TheVariants.{CloseTimestep}
 use Rattle.battery.specs.Answer.{plain_answer}
-use Rattle.sheet_calls.specs.declared.ReadCall.TheVariants.{Good}
 use Rattle.sheet_records.specs.Cards.{card_length}
 use Rattle.sheet_records.specs.Records.{state_length, zones_bytes, totals_bytes, state_bytes}
 use Rattle.sheet_calls.specs.Calls.{call_length, bare_call, call_by, call_of}
@@ -106,7 +106,7 @@ unfolding line_bytes line_length plain_answer answer_length head_length state_le
 closing_line version b c = rw (c.layers, c.zone, c.total, c.pump, c.direct, c.charged, c.electric)
 
 -- and its call is the closing of a timestep
-pub closing_call : (version : ℕ) (services : List Service) → call_of version services (5 ∷ []) ≡ Good CloseTimestep
+pub closing_call : (version : ℕ) (services : List Service) → call_of version services (5 ∷ []) ≡ Some CloseTimestep
 unfolding call_of call_length call_by bare_call
 closing_call version services = refl
 

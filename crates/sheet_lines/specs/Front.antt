@@ -1,15 +1,15 @@
 -- Document 01, 'Sheet': the call line at the front of bytes.
-use Rattle.std.specs.Prelude.{ℕ, ◌+◌, Bool, false, cond, List, leb, eqb, length, take, drop, get_or}
+use Rattle.std.specs.Prelude.{ℕ, ◌+◌, Bool, false, cond, Option, Some, None, List, leb, eqb, length, take, drop, get_or}
 use Rattle.codec.specs.Bytes.{be_at}
 use Rattle.card.specs.Services.{Service}
 use Rattle.card.specs.declared.Card.{Card}
 use Rattle.battery.specs.declared.Answer.{Answer}
+use Rattle.sheet_calls.specs.Kinds.{kind_number}
 use Rattle.sheet_calls.specs.Calls.{call_length, call_of}
-use Rattle.sheet_calls.specs.declared.ReadCall.{ReadCall}
-use Rattle.sheet_calls.specs.declared.ReadCall.TheVariants.{Bad}
 use Rattle.sheet_lines.specs.declared.front.LineHead.{LineHead}
 use Rattle.sheet_lines.specs.Answers.{answer_length, answer_at, marks_ok}
 use Rattle.sheet_lines.specs.Lines.{line_length, line_size}
+use Rattle.battery.specs.declared.Call.{Call}
 
 -- of the line at the front of bs: the length that its kind gives its call
 abbrev pub line_call_length : ℕ → List ℕ → ℕ
@@ -34,20 +34,27 @@ head_ok version card bs =
     false)
     false
 
--- the kind, the call's length and the line's; all 0 where that does not hold
-abbrev pub no_line : LineHead
-no_line = record { kind = 0; call = 0; size = 0 }
+-- a line's kind, its call's length and its own, in numbers
+pub record HeadNumbers : Type 0 where
+  pub kind : ℕ
+  pub call : ℕ
+  pub size : ℕ
 
-unfoldable pub line_head : ℕ → Card → List ℕ → LineHead
+abbrev pub head_numbers : Option LineHead → Option HeadNumbers
+head_numbers (Some head) = Some (record { kind = kind_number head.kind; call = head.call; size = head.size })
+head_numbers None = None
+
+-- the kind, the call's length and the line's, where that holds
+unfoldable pub line_head : ℕ → Card → List ℕ → Option HeadNumbers
 line_head version card bs =
     cond (head_ok version card bs)
-    (record { kind = get_or bs 2 0; call = line_call_length version bs; size = line_size version card (line_call_length version bs) })
-    no_line
+    (Some (record { kind = get_or bs 2 0; call = line_call_length version bs; size = line_size version card (line_call_length version bs) }))
+    None
 
 -- the call of the line at the front of bs, on a card that lists these services, ranges aside
-unfoldable pub line_call : ℕ → List Service → Card → List ℕ → ReadCall
+unfoldable pub line_call : ℕ → List Service → Card → List ℕ → Option Call
 line_call version services card bs =
-    cond (head_ok version card bs) (cond (marks_ok version (answer_part version card bs)) (call_of version services (call_part version bs)) Bad) Bad
+    cond (head_ok version card bs) (cond (marks_ok version (answer_part version card bs)) (call_of version services (call_part version bs)) None) None
 
 -- its answer
 abbrev pub line_answer : ℕ → Card → List ℕ → Answer

@@ -68,7 +68,7 @@ pub fn put_answer(version: u8, bytes: &mut [u8], at: usize, answer: Answer) -> u
     sheet_records::put_state(version, bytes, p, b)
 }
 
-// Document 01: 'Numbers agree when f64 equality holds'.
+// Document 01: 'Numbers agree when f64 equality holds'. Not a derived PartialEq: `agrees` takes the comparison of numbers as an argument, to which a derive can't be tied.
 fn same_number(x: f64, y: f64) -> bool
     ensures { result ≡ same_number x y }
 {
@@ -80,25 +80,26 @@ fn same_zones(x: [f64; 64], y: [f64; 64], n: usize) -> bool
     ensures { result ≡ same_zones same_number x y n }
 {
     let mut ok = true;
+    // By the place, which names both lists' zones.
     for k in 0..n {
-        ok = logic::both(ok, same_number(x[k], y[k]));
+        ok = ok & same_number(x[k], y[k]);
     }
     ok
 }
 
+#[tactic(auto, unfolding(crate::specs::Answers::same_totals))]
 fn same_totals(x: Battery, y: Battery) -> bool
     ensures { result ≡ same_totals same_number x y }
 {
-    logic::all_five(
-        same_number(x.total, y.total),
-        same_number(x.pump, y.pump),
-        same_number(x.direct, y.direct),
-        same_number(x.charged, y.charged),
-        same_number(x.electric, y.electric),
-    )
+    same_number(x.total, y.total)
+        & same_number(x.pump, y.pump)
+        & same_number(x.direct, y.direct)
+        & same_number(x.charged, y.charged)
+        & same_number(x.electric, y.electric)
 }
 
 // Whether two answers agree; the zones compared are those of the first one's layers.
+#[tactic(auto, unfolding(crate::specs::Answers::agrees))]
 pub fn answers_agree(x: Answer, y: Answer) -> bool
     requires { x.battery.card.layers ≤ 64 }
     ensures { result ≡ agrees same_number x y }
@@ -108,17 +109,13 @@ pub fn answers_agree(x: Answer, y: Answer) -> bool
     let n = b.card.layers as usize;
     let own = b.zones;
     let other = c.zones;
-    let run = logic::all_four(
-        same_number(x.time, y.time),
-        x.substeps == y.substeps,
-        same_zones(own, other, n),
-        same_totals(b, c),
-    );
-    logic::all_five(
-        x.refusal == y.refusal,
-        same_number(x.energy, y.energy),
-        x.mark == y.mark,
-        same_number(x.outlet, y.outlet),
-        run,
-    )
+    let run = same_number(x.time, y.time)
+        & (x.substeps == y.substeps)
+        & same_zones(own, other, n)
+        & same_totals(b, c);
+    (x.refusal == y.refusal)
+        & same_number(x.energy, y.energy)
+        & (x.mark == y.mark)
+        & same_number(x.outlet, y.outlet)
+        & run
 }

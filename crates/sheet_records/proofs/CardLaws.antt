@@ -14,8 +14,8 @@ use Rattle.codec.specs.Bytes.{be}
 use Rattle.codec.proofs.Places.{in_front}
 use Rattle.card.specs.Version.{lists_services}
 use Rattle.card.specs.Card.{card_refusal}
-use Rattle.card.specs.Services.{listed, most_services, rising_from, services_ok}
-use Rattle.card.proofs.Listed.{listed_length, listed_same, full_accepted}
+use Rattle.card.specs.Services.{Service, listed, most_services, rising_from, services_ok}
+use Rattle.card.proofs.Listed.{listed_length, entry_if, listed_same, full_accepted}
 use Rattle.sheet_records.specs.Cards.{count_place, service_place, card_length, card_at, service_at, services_at, refusal_at}
 
 -- with services or without
@@ -44,6 +44,20 @@ services_listed version bs t = rw t
 pub services_none : (version : ℕ) (bs : List ℕ) → lists_services version ≡ false → services_at version bs ≡ []
 unfolding services_at
 services_none version bs t = rw t
+
+pub services_count : (version : ℕ) (bs : List ℕ) → lists_services version ≡ true → length (services_at version bs) ≡ get_or bs count_place 0
+services_count version bs t = ap length (services_listed version bs t) ∙ listed_length (service_at bs) 0 (get_or bs count_place 0)
+
+-- one of them: where it lies, and what it is
+pub service_there : (version : ℕ) (bs : List ℕ) (k : ℕ) → k < length (services_at version bs) → card_length version bs ≤ length bs → service_place (k + 1) ≤ length bs
+unfolding services_at
+service_there version bs k h fits =
+    let e = entry_if (lists_services version) (service_at bs) (get_or bs count_place 0) k (record { number = 0; class = 0 }) h in
+    omega (arith, e.1, services_fit version bs e.0 fits)
+
+pub services_entry : (version : ℕ) (bs : List ℕ) (k : ℕ) (d : Service) → k < length (services_at version bs) → get_or (services_at version bs) k d ≡ service_at bs k
+unfolding services_at
+services_entry version bs k d h = (entry_if (lists_services version) (service_at bs) (get_or bs count_place 0) k d h).2
 
 -- ---- the length hangs on the card's own bytes: none that follow them, and no others
 

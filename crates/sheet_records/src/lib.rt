@@ -15,6 +15,7 @@ use card::Card;
 // Bytes of the five totals.
 const TOTALS: usize = 40;
 
+// The version goes beside a card here, and beside bytes, a battery or a ledger elsewhere: it is the sheet's and no field of either.
 pub fn state_length(version: u8, card: Card) -> usize
     ensures { result ≡ state_length version card }
 {
@@ -34,6 +35,7 @@ fn read_zones(bytes: &[u8], at: usize, n: usize) -> [f64; 64]
     ensures { result ≡ zones_at bytes.now at n }
 {
     let mut zones = [0.0; 64];
+    // By its place, which names the zone's bytes too.
     for k in 0..n {
         zones[k] = codec::nth_f64(bytes, at, k);
     }
@@ -74,10 +76,8 @@ fn put_zones(bytes: &mut [u8], at: usize, n: usize, zones: [f64; 64]) -> usize
     ensures { (result ≡ at + 8 * n) × (bytes.new ≡ sets bytes.old at (zones_bytes zones n)) }
 {
     let mut p = at;
-    let mut k = 0;
-    while k < n {
-        p = codec::put_f64(bytes, p, zones[k]);
-        k += 1;
+    for zone in &zones[..n] {
+        p = codec::put_f64(bytes, p, *zone);
     }
     p
 }

@@ -1,81 +1,53 @@
 // The services that a card's bytes list.
-ghost use Rattle.std.specs.Prelude.{◌≡◌, true, ◌≤◌, length, get_or};
-ghost use Rattle.card.specs.Version.{lists_services};
-ghost use Rattle.card.specs.Services.{listed, rising_from, services_ok, listed_class, class_of};
-ghost use Rattle.sheet_records.specs.Cards.{count_place, service_place, card_length, card_at, service_at, services_at, refusal_at};
+ghost use Rattle.std.specs.Prelude.{◌≡◌, ◌≤◌, length};
+ghost use Rattle.refusals.specs.Number.{refused_number};
+ghost use Rattle.sheet_records.specs.Cards.{card_length, card_at, services_at, refusal_at};
+ghost use Rattle.std.proofs.Math.Nat.{le_refl};
 
 use crate::cards::{COUNT, SERVICE, SERVICES};
 use card::Card;
+use card::services::{Service, Services};
+use refusals::Refusal;
 
-// Whether the first n services rise from 4 and have known classes.
-fn services_rise(bytes: &[u8], n: usize) -> bool
-    requires { (n ≤ 255) × (service_place n ≤ length bytes.now) }
-    ensures { result ≡ rising_from 4 (listed (service_at bytes.now) 0 n) }
-{
-    let mut least: u32 = 4;
-    for k in 0..n {
+// A card at the front of bytes in which all of it lies.
+#[derive(Clone, Copy)]
+pub struct CardBytes<'a> {
+    pub version: u8,
+    pub bytes: &'a [u8],
+    pub ghost fits: { card_length version bytes.now ≤ length bytes.now },
+}
+
+impl<'a> Services for CardBytes<'a> {
+    ghost list = { λ card. services_at card.version card.bytes.now };
+
+    ghost room = { λ card. length (services_at card.version card.bytes.now) };
+
+    fn count(&self) -> usize {
+        if card::version::lists_services(self.version) {
+            return codec::byte_or_zero(self.bytes, COUNT) as usize;
+        }
+        0
+    }
+
+    fn service(&self, k: usize) -> Service {
         let at = SERVICES + SERVICE * k;
-        let number = codec::read_u16(bytes, at);
-        if card::services::service_ok(least, number, bytes[at + 2]) {
-            least = (number as u32) + 1;
-        } else {
-            return false;
+        Service {
+            number: codec::read_u16(self.bytes, at),
+            class: self.bytes[at + 2],
         }
     }
-    true
+
+    ghost few_fit = { λ card few. le_refl (length (services_at card.version card.bytes.now)) };
 }
 
-// Whether the services of the card at the front of the bytes are accepted: refusal 61's test.
-fn services_ok(version: u8, bytes: &[u8]) -> bool
-    requires { card_length version bytes.now ≤ length bytes.now }
-    ensures { result ≡ services_ok (services_at version bytes.now) }
-{
-    if card::version::lists_services(version) {
-        let n = codec::byte_or_zero(bytes, COUNT) as usize;
-        if n <= card::services::MOST_SERVICES {
-            return services_rise(bytes, n);
-        }
-        return false;
-    }
-    true
-}
-
-// The refusal of that card, read already: 1 to 4, then 61, 0 for none.
-pub fn refusal(version: u8, card: Card, bytes: &[u8]) -> u8
+// Whether that card, read already, is accepted: 1 to 4, then 61.
+pub fn check(version: u8, card: Card, bytes: &[u8]) -> Result<(), Refusal>
     requires { (card ≡ card_at version bytes.now) × (card_length version bytes.now ≤ length bytes.now) }
-    ensures { result ≡ refusal_at version bytes.now }
+    ensures { refused_number result ≡ refusal_at version bytes.now }
 {
-    let refusal = card::verdict::refusal(version, card);
-    if refusal == refusals::ANSWERED {
-        if services_ok(version, bytes) {
-            return refusals::ANSWERED;
-        }
-        return refusals::BAD_SERVICES;
+    card::verdict::check(version, card)?;
+    if !card::services::services_ok(&CardBytes { version, bytes }) {
+        return Err(Refusal::BadServices);
     }
-    refusal
-}
-
-// The class of a number among the first n services, 0 where it isn't there.
-fn listed_class(bytes: &[u8], n: usize, number: u16) -> u8
-    requires { (n ≤ 255) × (service_place n ≤ length bytes.now) }
-    ensures { result ≡ listed_class (listed (service_at bytes.now) 0 n) number }
-{
-    for k in 0..n {
-        let at = SERVICES + SERVICE * k;
-        if codec::read_u16(bytes, at) == number {
-            return bytes[at + 2];
-        }
-    }
-    0
-}
-
-// The class that the card gives a number.
-pub fn class_of(version: u8, bytes: &[u8], number: u16) -> u8
-    requires { (lists_services version ≡ true) × (card_length version bytes.now ≤ length bytes.now) }
-    ensures { result ≡ class_of (services_at version bytes.now) number }
-{
-    if number <= card::services::LAST_TYPE {
-        return number as u8;
-    }
-    listed_class(bytes, codec::byte_or_zero(bytes, COUNT) as usize, number)
+    Ok(())
 }

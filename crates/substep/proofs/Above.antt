@@ -1,12 +1,11 @@
 -- A substep leaves the places above the count, and the number of places.
+use Rattle.std.specs.Prelude.{None, Option, Some}
 use mathlib.Core.Path.{◌≡◌, refl}
 use mathlib.Core.List.{List}
 use Prim.Native.Nat.{ℕ}
 use native.Mathlib.Omega.{arith}
 use lib.ListN.{length}
 use lib.Ieee.{Float}
-use Rattle.floats.specs.declared.Log.{Log}
-use Rattle.floats.specs.declared.Log.TheVariants.{Value, Refused}
 use Rattle.zone.specs.declared.Salt.{Salt}
 use Rattle.card.specs.declared.Card.{Card}
 use Rattle.card.specs.declared.HeatBatteryPcm.{HeatBatteryPcm}
@@ -27,10 +26,10 @@ pub progress_above : (x : Common) (s : ℕ → Salt) (n : ℕ) (p : Progress) �
 progress_above x s n p = record { places = progress_places x s n n p; above = λ j h. untouched x s n n p j (omega arith) h }
 
 module _ (c : Card) (pcm : HeatBatteryPcm) (s : ℕ → Salt) (d : SubstepInput) (zones : List Float) where
-  transferred : (l : Log) → SameAbove c.layers zones (with_transfer c pcm s d zones l).zones
+  transferred : (l : Option Float) → SameAbove c.layers zones (with_transfer c pcm s d zones l).zones
   unfolding with_transfer without_logarithm substep_from progress_from
-  transferred Refused = same_above c.layers zones
-  transferred (Value u) = progress_above (common_of c pcm d u) s c.layers (progress_from d zones)
+  transferred None = same_above c.layers zones
+  transferred (Some u) = progress_above (common_of c pcm d u) s c.layers (progress_from d zones)
 
   pub substep_above : SameAbove c.layers zones (process_heat_battery_zones c pcm s d zones).zones
   unfolding process_heat_battery_zones

@@ -1,10 +1,9 @@
 -- Document 02, Two: the logarithms of a substep.
+use Rattle.std.specs.Prelude.{None, Option, Some}
 use Prim.Native.Nat.{ℕ}
 use mathlib.Core.Path.{◌≡◌, refl, ◌∙◌, ap}
 use mathlib.Core.List.{List}
 use lib.Ieee.{Float}
-use Rattle.floats.specs.declared.Log.{Log}
-use Rattle.floats.specs.declared.Log.TheVariants.{Value, Refused}
 use Rattle.zone.specs.declared.Salt.{Salt}
 use Rattle.zone_water.specs.declared.Mode.TheVariants.{OnlyCharging, Losses, Normal}
 use Rattle.card.specs.declared.Card.{Card}
@@ -14,12 +13,12 @@ use Rattle.substep.specs.declared.SubstepInput.{SubstepInput}
 use Rattle.substep.specs.declared.Fault.TheVariants.{Logarithm}
 
 module _ (card : Card) (pcm : HeatBatteryPcm) (s : ℕ → Salt) (input : SubstepInput) (zones : List Float) where
-  counted : (l : Log) → ((with_transfer card pcm s input zones l).fault ≡ Logarithm → ⊥) → (with_transfer card pcm s input zones l).logarithms ≡ logarithms_of input.mode
+  counted : (l : Option Float) → ((with_transfer card pcm s input zones l).fault ≡ Some Logarithm → ⊥) → (with_transfer card pcm s input zones l).logarithms ≡ logarithms_of input.mode
   unfolding with_transfer without_logarithm substep_from
-  counted (Value u) h = refl
-  counted Refused h = absurd (h refl)
+  counted (Some u) h = refl
+  counted None h = absurd (h refl)
 
-  module _ (h : (process_heat_battery_zones card pcm s input zones).fault ≡ Logarithm → ⊥) where
+  module _ (h : (process_heat_battery_zones card pcm s input zones).fault ≡ Some Logarithm → ⊥) where
     -- 'Each substep not stopped by 24 hands out the logarithms it took': those of its mode
     pub logarithms_taken : (process_heat_battery_zones card pcm s input zones).logarithms ≡ logarithms_of input.mode
     unfolding process_heat_battery_zones

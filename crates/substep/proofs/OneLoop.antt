@@ -1,5 +1,6 @@
 -- One loop over the zones, as the engine has it: no array of energies, their sum and the zones' tests in the mode's order. After the last
 -- zone it has what the definition reads of its arrays.
+use Rattle.std.specs.Prelude.{None, Option, Some}
 use mathlib.Core.Path.{◌≡◌, refl, sym, ◌∙◌, ap, subst}
 use mathlib.Core.Bool.{Bool, true, cond, ◌&&◌}
 use mathlib.Core.List.{List}
@@ -30,7 +31,7 @@ use Rattle.substep.specs.Substep.{zone_index, zone_step, zone_at, zones_after, c
 use Rattle.substep.specs.declared.Common.{Common}
 use Rattle.substep.specs.declared.SubstepInput.{SubstepInput}
 use Rattle.substep.specs.declared.Fault.{Fault}
-use Rattle.substep.specs.declared.Fault.TheVariants.{Nothing, NotFinite}
+use Rattle.substep.specs.declared.Fault.TheVariants.{NotFinite}
 use Rattle.substep.specs.declared.Outcome.{Outcome}
 use Rattle.substep.specs.Progress.{Progress}
 use Rattle.substep.specs.declared.ZoneStep.{ZoneStep}
@@ -146,15 +147,24 @@ module _ (x : Common) (s : ℕ → Salt) (n : ℕ) (p : Progress) (none : p.ener
           same_test = rw (add-one, t, g, d, u.same_zones_lem, u.same_test) tests_more;
         }
 
--- the loop's start from the zones alone, with no energies yet
-abbrev pub start_of : List Float → Float → Kilojoules → KilowattHours → Progress
-start_of zones outlet left charged = record { zones = zones; energies = replicate 64 Constants.zero; outlet = outlet; left = left; charged = charged }
+    -- and its energy
+    pub energies_more :
+        (zones : List Float) (outlet : Float) (left : Kilojoules) (charged : KilowattHours) (sum : Sum2) (spread : Float) (j : ℕ) (own : Salt) (z : ZoneStep) →
+        Underway x s n k p zones outlet left charged sum spread →
+        j ≡ zone_index x.mode n k →
+        own ≡ s j →
+        z ≡ zone_step x own (get_or zones j nan) outlet left charged →
+        set (zones_after x s n k p).energies j (get_or (zones_after x s n k p).energies j nan ⊕ z.energy.0) ≡ (zones_after x s n (k + 1) p).energies
+    unfolding zones_after zone_at
+    energies_more zones outlet left charged sum spread j own z u d r e = rw (add-one, e, r, d, u.same_zones_lem, u.same_outlet, u.same_left, u.same_charged)
 
+-- before the first zone, with no energies yet
 pub underway_start :
-    (x : Common) (s : ℕ → Salt) (n : ℕ) (zones : List Float) (outlet : Float) (left : Kilojoules) (charged : KilowattHours) →
-    Underway x s n 0 (start_of zones outlet left charged) zones outlet left charged no_sum Constants.zero
-unfolding zones_after in_order
-underway_start x s n zones outlet left charged = record { same_zones_lem = refl; same_outlet = refl; same_left = refl; same_charged = refl; same_sum = refl; same_test = spread_start }
+    (x : Common) (s : ℕ → Salt) (n : ℕ) (d : SubstepInput) (zones : List Float) (heat : Kilojoules) →
+    heat ≡ charger_heat d →
+    Underway x s n 0 (progress_from d zones) zones d.inlet heat (kwh Constants.zero) no_sum Constants.zero
+unfolding progress_from zones_after in_order
+underway_start x s n d zones heat h = record { same_zones_lem = refl; same_outlet = refl; same_left = h; same_charged = refl; same_sum = refl; same_test = spread_start }
 
 -- after the last zone: the zones, and what a substep hands out besides
 module _ (c : Card) (x : Common) (s : ℕ → Salt) (k : ℕ) (d : SubstepInput) (start : List Float) (few : c.layers ≤ 64) where
@@ -171,32 +181,21 @@ module _ (c : Card) (x : Common) (s : ℕ → Salt) (k : ℕ) (d : SubstepInput)
   unfolding end
   tests_end = tests_all x.mode c.layers end.zones
 
-  module _ (zones : List Float) (outlet : Float) (left heat : Kilojoules) (charged : KilowattHours) (sum : Sum2) (spread : Float) (f : Fault) (taken logarithms : ℕ)
+  module _ (zones : List Float) (outlet : Float) (left : Kilojoules) (charged : KilowattHours) (sum : Sum2) (spread : Float) (f : Option Fault) (taken logarithms : ℕ)
       (same : logarithms ≡ taken) where
-    following_all :
-        heat ≡ charger_heat d →
-        k ≡ c.layers →
-        Underway x s c.layers k (start_of start d.inlet heat (kwh Constants.zero)) zones outlet left charged sum spread →
-        Underway x s c.layers c.layers (progress_from d start) zones outlet left charged sum spread
-    unfolding progress_from
-    following_all h e u =
-        subst (λ (i : ℕ). Underway x s c.layers i (progress_from d start) zones outlet left charged sum spread) e
-        (subst (λ (q : Kilojoules). Underway x s c.layers k (start_of start d.inlet q (kwh Constants.zero)) zones outlet left charged sum spread) h u)
-
     handed_out :
         Underway x s c.layers c.layers (progress_from d start) zones outlet left charged sum spread →
-        f ≡ cond (eq spread Constants.zero && (finite64 outlet && (finite64 (sum.s ⊕ sum.c) && finite64 charged.0))) Nothing NotFinite →
+        f ≡ cond (eq spread Constants.zero && (finite64 outlet && (finite64 (sum.s ⊕ sum.c) && finite64 charged.0))) None (Some NotFinite) →
         (zones ≡ end.zones) × (◌≡◌ {A = Outcome} (record { outlet = outlet; delivered = kj (sum.s ⊕ sum.c); charged = charged; fault = f; logarithms = logarithms }) (outcome_of (substep_from c taken end)))
     unfolding end outcome_of substep_from progress_fault progress_finite sum2
     handed_out u g = (u.same_zones_lem, rw (same, g, u.same_test, tests_end, u.same_sum, sum_end, u.same_outlet, u.same_charged))
 
     pub underway_end :
-        heat ≡ charger_heat d →
         k ≤ c.layers →
         c.layers ≤ k →
-        Underway x s c.layers k (start_of start d.inlet heat (kwh Constants.zero)) zones outlet left charged sum spread →
-        f ≡ cond (eq spread Constants.zero && (finite64 outlet && (finite64 (sum.s ⊕ sum.c) && finite64 charged.0))) Nothing NotFinite →
+        Underway x s c.layers k (progress_from d start) zones outlet left charged sum spread →
+        f ≡ cond (eq spread Constants.zero && (finite64 outlet && (finite64 (sum.s ⊕ sum.c) && finite64 charged.0))) None (Some NotFinite) →
         InPlace (substep_from c taken (zones_after x s c.layers c.layers (progress_from d start)))
         (record { outlet = outlet; delivered = kj (sum.s ⊕ sum.c); charged = charged; fault = f; logarithms = logarithms }) zones
     unfolding end substep_from
-    underway_end h a b u g = handed_out (following_all h (omega arith) u) g
+    underway_end a b u g = handed_out (subst (λ (i : ℕ). Underway x s c.layers i (progress_from d start) zones outlet left charged sum spread) (omega arith) u) g

@@ -1,4 +1,5 @@
 -- A substep with water that works ran for a finite time: seconds that aren't finite show in the heat of its last zone, and so in the delivered sum.
+use Rattle.std.specs.Prelude.{None, Option, Some}
 use mathlib.Core.Path.{◌≡◌, refl, subst}
 use mathlib.Core.Bool.{Bool, true, false, cond, ◌&&◌}
 use mathlib.Core.List.{List}
@@ -13,8 +14,6 @@ use Rattle.logic.proofs.Tests.{no_both, and_true, holds}
 use Rattle.floats.specs.F64.{◌⊕◌}
 use Rattle.floats.specs.Standins.{finite64}
 use Rattle.floats.specs.Sum2.{sum2}
-use Rattle.floats.specs.declared.Log.{Log}
-use Rattle.floats.specs.declared.Log.TheVariants.{Value, Refused}
 use Rattle.floats.proofs.Operands.{sum_operands, product_operands, last_operand}
 use Rattle.floats.proofs.Standins.{finite64_finite}
 use Rattle.zone.specs.Heat.{kj}
@@ -30,7 +29,7 @@ use Rattle.battery.specs.Battery.{zones_finite}
 use Rattle.substep.specs.Substep.{zone_index, zone_step, zone_at, zones_after, zone_transfer, common_of, progress_from, progress_finite, progress_fault, without_logarithm, substep_from, with_transfer, process_heat_battery_zones}
 use Rattle.substep.specs.declared.Common.{Common}
 use Rattle.substep.specs.declared.SubstepInput.{SubstepInput}
-use Rattle.substep.specs.declared.Fault.TheVariants.{Nothing, NotFinite}
+use Rattle.substep.specs.declared.Fault.TheVariants.{NotFinite}
 use Rattle.substep.specs.Progress.{Progress}
 use Rattle.substep.proofs.Stores.{stored_places}
 
@@ -64,11 +63,11 @@ module _ (x : Common) (normal : x.mode ≡ Normal) (s : ℕ → Salt) (n : ℕ) 
 
 module _ (card : Card) (pcm : HeatBatteryPcm) (s : ℕ → Salt) (input : SubstepInput) (zones : List Float) (normal : input.mode ≡ Normal) (n : ℕ) (layers : card.layers ≡ suc n) (few : card.layers ≤ 64) where
   -- no fault: the delivered sum is finite
-  sum_finite : (p : Progress) (sum : Kilojoules) → progress_fault card p sum ≡ Nothing → T (finite64 sum.0)
+  sum_finite : (p : Progress) (sum : Kilojoules) → progress_fault card p sum ≡ None → T (finite64 sum.0)
   unfolding progress_fault progress_finite
   sum_finite p sum h = on (progress_finite card p sum) refl h
     where
-      on : (t : Bool) → progress_finite card p sum ≡ t → cond t Nothing NotFinite ≡ Nothing → T (finite64 sum.0)
+      on : (t : Bool) → progress_finite card p sum ≡ t → cond t None (Some NotFinite) ≡ None → T (finite64 sum.0)
       on true e g =
           let rest = finite64 sum.0 && finite64 p.charged.0 in
           let a = and_true (zones_finite p.zones card.layers) (finite64 p.outlet && rest) e in
@@ -76,15 +75,15 @@ module _ (card : Card) (pcm : HeatBatteryPcm) (s : ℕ → Salt) (input : Subste
           holds (and_true (finite64 sum.0) (finite64 p.charged.0) b.1).0
       on false e g = no_both (cc)
 
-  by_transfer : (l : Log) → (with_transfer card pcm s input zones l).fault ≡ Nothing → T (finite input.seconds)
+  by_transfer : (l : Option Float) → (with_transfer card pcm s input zones l).fault ≡ None → T (finite input.seconds)
   unfolding with_transfer without_logarithm substep_from progress_from common_of
-  by_transfer Refused h = no_both (cc)
-  by_transfer (Value u) h =
+  by_transfer None h = no_both (cc)
+  by_transfer (Some u) h =
       let p = zones_after (common_of card pcm input u) s card.layers card.layers (progress_from input zones) in
       let f = finite64_finite (sum2 p.energies card.layers) (sum_finite p (kj (sum2 p.energies card.layers)) h) in
       last_seconds (common_of card pcm input u) normal s n (progress_from input zones) (omega arith)
       (subst (λ (k : ℕ). T (finite (sum2 (zones_after (common_of card pcm input u) s k k (progress_from input zones)).energies k))) layers f)
 
-  pub seconds_finite : (process_heat_battery_zones card pcm s input zones).fault ≡ Nothing → T (finite input.seconds)
+  pub seconds_finite : (process_heat_battery_zones card pcm s input zones).fault ≡ None → T (finite input.seconds)
   unfolding process_heat_battery_zones
   seconds_finite h = by_transfer (zone_transfer input.mode card input) h

@@ -1,4 +1,5 @@
 -- A pass over the zones, zone by zone; the places from n on are never written.
+use Rattle.std.specs.Prelude.{None, Option, Some}
 use mathlib.Core.Path.{◌≡◌, refl, ◌∙◌, ap}
 use Prim.Native.Nat.{ℕ, zero, suc, ◌≤◌, ◌<◌, ◌+◌}
 use native.Mathlib.Omega.{arith}
@@ -11,8 +12,6 @@ use lib.Ieee.{Float, nan, of_bits, lt, le}
 use lib.Ieee.Bits.{is_true}
 use Rattle.floats.specs.F64.{◌⊕◌}
 use Rattle.floats.specs.Constants as Constants
-use Rattle.floats.specs.declared.Log.{Log}
-use Rattle.floats.specs.declared.Log.TheVariants.{Value, Refused}
 use Rattle.zone.specs.Heat.{kwh}
 use Rattle.zone.specs.Layer.{soc_to_temp}
 use Rattle.zone.specs.declared.Kilojoules.{Kilojoules}
@@ -62,9 +61,9 @@ energies_end n x s k d zones p heat h a b e = rw (← h) (ap (λ (q : Progress).
 
 -- what a pass over the zones of a card leaves
 pub passed :
-    (c : Card) (pcm : HeatBatteryPcm) (s : ℕ → Salt) (d : SubstepInput) (zones : List Float) (l : Log) (u : Float) (x : Common) (taken : ℕ) →
+    (c : Card) (pcm : HeatBatteryPcm) (s : ℕ → Salt) (d : SubstepInput) (zones : List Float) (l : Option Float) (u : Float) (x : Common) (taken : ℕ) →
     l ≡ zone_transfer d.mode c d →
-    l ≡ Value u →
+    l ≡ Some u →
     x ≡ common_of c pcm d u →
     taken ≡ logarithms_of d.mode →
     process_heat_battery_zones c pcm s d zones ≡ substep_from c taken (zones_after x s c.layers c.layers (progress_from d zones))
@@ -72,9 +71,9 @@ unfolding process_heat_battery_zones with_transfer
 passed c pcm s d zones l u x taken h g e f = rw (← h, g, ← e, f)
 
 pub refused_here :
-    (c : Card) (pcm : HeatBatteryPcm) (s : ℕ → Salt) (d : SubstepInput) (zones : List Float) (l : Log) →
+    (c : Card) (pcm : HeatBatteryPcm) (s : ℕ → Salt) (d : SubstepInput) (zones : List Float) (l : Option Float) →
     l ≡ zone_transfer d.mode c d →
-    l ≡ Refused →
+    l ≡ None →
     process_heat_battery_zones c pcm s d zones ≡ without_logarithm zones
 unfolding process_heat_battery_zones with_transfer
 refused_here c pcm s d zones l h g = rw (← h, g)
@@ -102,7 +101,7 @@ untouched x s n (suc k) p j h g =
     get_or-set_other (zones_after x s n k p).zones (zone_index x.mode n k) j _ nan (λ e. omega arith) ∙ untouched x s n k p j (omega arith) g
 
 -- neither mode takes a logarithm
-pub without_logarithm_loss : (c : Card) (d : SubstepInput) → d.mode ≡ Losses → zone_transfer d.mode c d ≡ Value Constants.zero
+pub without_logarithm_loss : (c : Card) (d : SubstepInput) → d.mode ≡ Losses → zone_transfer d.mode c d ≡ Some Constants.zero
 unfolding zone_transfer
 without_logarithm_loss c d m = rw m
 
@@ -124,7 +123,7 @@ pub none_in_a_loss : (d : SubstepInput) → d.mode ≡ Losses → 0 ≡ logarith
 unfolding logarithms_of
 none_in_a_loss d m = rw m
 
-pub without_logarithm_charge : (c : Card) (d : SubstepInput) → d.mode ≡ OnlyCharging → zone_transfer d.mode c d ≡ Value Constants.zero
+pub without_logarithm_charge : (c : Card) (d : SubstepInput) → d.mode ≡ OnlyCharging → zone_transfer d.mode c d ≡ Some Constants.zero
 unfolding zone_transfer
 without_logarithm_charge c d m = rw m
 

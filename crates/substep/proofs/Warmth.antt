@@ -1,4 +1,5 @@
 -- A substep of losses warms no zone and one of charging alone cools none: every zone, over rounding.
+use Rattle.std.specs.Prelude.{Some}
 use mathlib.Core.Path.{◌≡◌}
 use mathlib.Core.Bool.{false}
 use mathlib.Core.List.{List}
@@ -8,7 +9,6 @@ use lib.ListN.{length, get_or}
 use lib.Ieee.{Float, nan, of_bits, lt, le}
 use Rattle.floats.specs.Constants.{zero}
 use Rattle.floats.specs.Standins.{finite64}
-use Rattle.floats.specs.declared.Log.TheVariants.{Value}
 use Rattle.logic.proofs.Branch.{by_test}
 use Rattle.floats.proofs.Compare.{le_of_lt}
 use Rattle.floats.proofs.Order.{le_refl, finite_number}
@@ -69,7 +69,7 @@ module _ (x : Common) (s : Salt) (g : GoodSalt s) (t inlet : Float) (q : Kilojou
 
 module _ (c : Card) (pcm : HeatBatteryPcm) (s : ℕ → Salt) (d : SubstepInput) (zones : List Float) (g : (j : ℕ) → j < c.layers → GoodSalt (s j)) (S : T (le zero d.seconds))
     (places : c.layers ≤ length zones) (finite : (i : ℕ) → i < c.layers → T (finite64 (get_or zones i nan))) where
-  zones_after_lem : zone_transfer d.mode c d ≡ Value zero → (process_heat_battery_zones c pcm s d zones).zones ≡ (zones_after (common_of c pcm d zero) s c.layers c.layers (progress_from d zones)).zones
+  zones_after_lem : zone_transfer d.mode c d ≡ Some zero → (process_heat_battery_zones c pcm s d zones).zones ≡ (zones_after (common_of c pcm d zero) s c.layers c.layers (progress_from d zones)).zones
   unfolding process_heat_battery_zones with_transfer substep_from
   zones_after_lem e = rw e
 

@@ -1,5 +1,5 @@
 -- Document 01, module 5: `process_heat_battery_zones`, 'charging alone goes from the last zone to the first, the others upward'.
-use Rattle.std.specs.Prelude.{ℕ, zero, suc, ◌-◌, Bool, cond, ◌&&◌, ◌≡◌, List, get_or, set, replicate, Float}
+use Rattle.std.specs.Prelude.{ℕ, zero, suc, ◌-◌, Bool, cond, ◌&&◌, ◌≡◌, List, get_or, set, replicate, Float, Option, Some, None}
 use Rattle.std.specs.Float.{nan}
 use Rattle.std.specs.Float.Ieee.{lt, neg}
 use Rattle.floats.specs.F64.{◌⊕◌, ◌⊗◌, ◌⊘◌}
@@ -7,8 +7,6 @@ use Rattle.floats.specs.Constants as Constants
 use Rattle.floats.specs.Constants.{hour}
 use Rattle.floats.specs.Standins.{finite64}
 use Rattle.floats.specs.Sum2.{sum2}
-use Rattle.floats.specs.declared.Log.{Log}
-use Rattle.floats.specs.declared.Log.TheVariants.{Value, Refused}
 use Rattle.zone.specs.Heat.{kj, kwh, kilojoules}
 use Rattle.zone.specs.Layer.{soc_to_temp}
 use Rattle.zone_update.specs.Update.{new_zone_temperature}
@@ -32,7 +30,7 @@ use Rattle.substep.specs.Progress.{Progress}
 use Rattle.substep.specs.declared.Substep.{Substep}
 use Rattle.substep.specs.declared.Outcome.{Outcome}
 use Rattle.substep.specs.declared.Fault.{Fault}
-use Rattle.substep.specs.declared.Fault.TheVariants.{Nothing, Logarithm, NotFinite}
+use Rattle.substep.specs.declared.Fault.TheVariants.{Logarithm, NotFinite}
 
 -- the k-th of n zones in the mode's order
 unfoldable pub zone_index : Mode → ℕ → ℕ → ℕ
@@ -73,13 +71,13 @@ zones_after common s n zero progress = progress
 zones_after common s n (suc k) progress = zone_at common s (zone_index common.mode n k) (zones_after common s n k progress)
 
 -- a zone's share of the heat transfer. 'Only demand and hydronic substeps take a logarithm'
-unfoldable pub per_layer : Card → Log → Log
-per_layer card (Value u) = Value (u ⊘ layers_of card)
-per_layer card Refused = Refused
+unfoldable pub per_layer : Card → Option Float → Option Float
+per_layer card (Some u) = Some (u ⊘ layers_of card)
+per_layer card None = None
 
-unfoldable pub zone_transfer : Mode → Card → SubstepInput → Log
-zone_transfer OnlyCharging card input = Value Constants.zero
-zone_transfer Losses card input = Value Constants.zero
+unfoldable pub zone_transfer : Mode → Card → SubstepInput → Option Float
+zone_transfer OnlyCharging card input = Some Constants.zero
+zone_transfer Losses card input = Some Constants.zero
 zone_transfer Normal card input = per_layer card (heat_transfer input.a input.b input.flow input.reynold)
 
 -- document 02, Two: the logarithms of a substep, '1 where it takes any, else 0', all of them taken for that share
@@ -129,24 +127,24 @@ InPlace substep outcome zones = (zones ≡ substep.zones) × (outcome ≡ outcom
 -- '24 the logarithm's argument is not positive, normal and finite'
 unfoldable pub without_logarithm : List Float → Substep
 without_logarithm zones =
-    record { zones = zones; energies = replicate 64 Constants.zero; outlet = Constants.zero; delivered = kj Constants.zero; charged = kwh Constants.zero; fault = Logarithm; logarithms = 0 }
+    record { zones = zones; energies = replicate 64 Constants.zero; outlet = Constants.zero; delivered = kj Constants.zero; charged = kwh Constants.zero; fault = Some Logarithm; logarithms = 0 }
 
 -- '23 after a substep a zone, outlet, delivered sum or charged energy is not finite'
 unfoldable pub progress_finite : Card → Progress → Kilojoules → Bool
 progress_finite card progress sum =
     zones_finite progress.zones card.layers && (finite64 progress.outlet && (finite64 sum.0 && finite64 progress.charged.0))
 
-unfoldable pub progress_fault : Card → Progress → Kilojoules → Fault
-progress_fault card progress sum = cond (progress_finite card progress sum) Nothing NotFinite
+unfoldable pub progress_fault : Card → Progress → Kilojoules → Option Fault
+progress_fault card progress sum = cond (progress_finite card progress sum) None (Some NotFinite)
 
 unfoldable pub substep_from : Card → ℕ → Progress → Substep
 substep_from card logarithms progress =
     let sum = kj (sum2 progress.energies card.layers) in
     record { zones = progress.zones; energies = progress.energies; outlet = progress.outlet; delivered = sum; charged = progress.charged; fault = progress_fault card progress sum; logarithms = logarithms }
 
-unfoldable pub with_transfer : Card → HeatBatteryPcm → (ℕ → Salt) → SubstepInput → List Float → Log → Substep
-with_transfer card pcm s input zones Refused = without_logarithm zones
-with_transfer card pcm s input zones (Value u) =
+unfoldable pub with_transfer : Card → HeatBatteryPcm → (ℕ → Salt) → SubstepInput → List Float → Option Float → Substep
+with_transfer card pcm s input zones None = without_logarithm zones
+with_transfer card pcm s input zones (Some u) =
     substep_from card (logarithms_of input.mode) (zones_after (common_of card pcm input u) s card.layers card.layers (progress_from input zones))
 
 unfoldable pub process_heat_battery_zones : Card → HeatBatteryPcm → (ℕ → Salt) → SubstepInput → List Float → Substep

@@ -1,15 +1,15 @@
-// Document 01, module 5: a zone's part of a substep. The substep over all zones is a definition here; `substep_loops` has its loops.
+// Document 01, module 5: a zone's part of a substep. The substep over all zones is a definition here; `substep_loops` has its loop.
 #![tactic(auto)]
 
-ghost use Rattle.std.specs.Prelude.{◌≡◌, true, cond, ◌&&◌, List, ◌≤◌, ◌<◌, length, Float};
+ghost use Rattle.std.specs.Prelude.{IfSome, ◌≡◌, true, cond, ◌&&◌, List, ◌≤◌, ◌<◌, length, Float, Some, None};
 ghost use Rattle.std.specs.Float.Ieee.{lt};
 ghost use Rattle.floats.specs.Constants.{zero};
 ghost use Rattle.floats.specs.Standins.{finite64};
-ghost use Rattle.zone.specs.Lent.{zone_salt};
+ghost use Rattle.zone.specs.LentSalts.{lent_salt};
 ghost use Rattle.substep.specs.Substep.{zone_index, zone_charge, target_at, zone_step, per_layer, shared_transfer, target_of, common_of, charger_heat, without_logarithm, outcome_of};
 
 use card::{Card, HeatBatteryPcm};
-use floats::Log;
+use zone::lent::LentSalts;
 use zone::{Kilojoules, KilowattHours, Salt};
 use zone_charging::Charged;
 use zone_water::{Mode, Shared, Transfer};
@@ -52,7 +52,7 @@ pub struct Outcome {
     // the compensated sum of the energies
     pub delivered: Kilojoules,
     pub charged: KilowattHours,
-    pub fault: Fault,
+    pub fault: Option<Fault>,
     // how many the substep took
     pub logarithms: u32,
 }
@@ -72,7 +72,6 @@ pub struct ZoneStep {
 // Why a substep ends its call: refusals 23 and 24.
 #[derive(Clone, Copy)]
 pub enum Fault {
-    Nothing,
     Logarithm,
     NotFinite,
 }
@@ -85,12 +84,13 @@ pub struct Substep {
     // the compensated sum of the energies
     pub delivered: Kilojoules,
     pub charged: KilowattHours,
-    pub fault: Fault,
+    pub fault: Option<Fault>,
     // how many the substep took
     pub logarithms: u32,
 }
 
 // The k-th of n zones in the mode's order.
+#[tactic(auto, unfolding(crate::specs::Substep::zone_index))]
 pub fn zone_index(mode: Mode, n: usize, k: usize) -> usize
     requires { k < n }
     ensures value { result ≡ zone_index mode n k }
@@ -98,28 +98,31 @@ pub fn zone_index(mode: Mode, n: usize, k: usize) -> usize
 {
     match mode {
         Mode::OnlyCharging => n - k - 1,
-        Mode::Losses => k,
-        Mode::Normal => k,
+        Mode::Losses | Mode::Normal => k,
     }
 }
 
+#[tactic(auto, unfolding(crate::specs::Substep::zone_charge))]
 fn zone_charge(
     common: Common,
     salt: Salt,
-    alike: bool,
-    target: f64,
+    target: Option<f64>,
     zone: f64,
     left: Kilojoules,
     energy: Kilojoules,
     charged: KilowattHours,
 ) -> Charged
-    requires { lt left.0 zero ≡ true → alike ≡ true → target ≡ target_at common salt }
+    requires { lt left.0 zero ≡ true → IfSome target (λ t. t ≡ target_at common salt) }
     ensures { result ≡ zone_charge salt zone (target_at common salt) left energy charged }
 {
     if left.0 < 0.0 {
-        let own = zone_target(common, salt, alike, target);
         return zone_charging::process_zone_simultaneous_charging(
-            salt, zone, own, left, energy, charged,
+            salt,
+            zone,
+            zone_target(common, salt, target),
+            left,
+            energy,
+            charged,
         );
     }
     Charged {
@@ -130,59 +133,50 @@ fn zone_charge(
 }
 
 // The temperature of the charge level by a zone's salt: `target` where the zones are alike in it.
-pub fn zone_target(common: Common, salt: Salt, alike: bool, target: f64) -> f64
-    requires { alike ≡ true → target ≡ target_at common salt }
+pub fn zone_target(common: Common, salt: Salt, target: Option<f64>) -> f64
+    requires { IfSome target (λ t. t ≡ target_at common salt) }
     ensures { result ≡ target_at common salt }
 {
-    if alike {
-        return target;
+    match target {
+        Some(shared) => shared,
+        None => zone::layer::soc_to_temp(salt, common.reference, common.max, common.level),
     }
-    zone::layer::soc_to_temp(salt, common.reference, common.max, common.level)
 }
 
+#[tactic(auto, unfolding(crate::specs::Substep::zone_step))]
 pub fn zone_step(
     common: Common,
     salt: Salt,
-    alike: bool,
-    target: f64,
+    target: Option<f64>,
     zone: f64,
     inlet: f64,
     left: Kilojoules,
     charged: KilowattHours,
 ) -> ZoneStep
-    requires { lt left.0 zero ≡ true → alike ≡ true → target ≡ target_at common salt }
+    requires { lt left.0 zero ≡ true → IfSome target (λ t. t ≡ target_at common salt) }
     ensures { result ≡ zone_step common salt zone inlet left charged }
 {
-    let mode = common.mode;
-    let shared = common.shared;
-    let p = zone_water::get_zone_properties(mode, shared, zone, inlet, left);
-    let energy = p.energy;
-    let c = zone_charge(common, salt, alike, target, zone, left, energy, charged);
-    let heat = c.heat;
-    let update = zone_update::calculate_new_zone_temperature(salt, zone, heat);
-    let left = c.left;
-    let charged = c.charged;
+    let p = zone_water::get_zone_properties(common.mode, common.shared, zone, inlet, left);
+    let c = zone_charge(common, salt, target, zone, left, p.energy, charged);
+    let update = zone_update::calculate_new_zone_temperature(salt, zone, c.heat);
     ZoneStep {
         temperature: update.temperature,
-        energy,
+        energy: p.energy,
         outlet: p.outlet,
-        left,
-        charged,
+        left: c.left,
+        charged: c.charged,
         logarithms: p.logarithms,
     }
 }
 
 // A zone's share of the heat transfer, worked out once for all zones; a logarithm is taken in the normal mode alone.
+#[tactic(auto, unfolding(crate::specs::Substep::zone_transfer, crate::specs::Substep::logarithms_of, crate::specs::Substep::shared_transfer, zone_water::specs::Water::counted_transfer))]
 pub fn zone_transfer(mode: Mode, card: Card, input: SubstepInput) -> Transfer
     ensures { result ≡ shared_transfer mode card input }
 {
     match mode {
-        Mode::OnlyCharging => Transfer {
-            value: Log::Value(0.0),
-            logarithms: 0,
-        },
-        Mode::Losses => Transfer {
-            value: Log::Value(0.0),
+        Mode::OnlyCharging | Mode::Losses => Transfer {
+            value: Some(0.0),
             logarithms: 0,
         },
         Mode::Normal => {
@@ -192,35 +186,30 @@ pub fn zone_transfer(mode: Mode, card: Card, input: SubstepInput) -> Transfer
                 input.flow,
                 input.reynold,
             );
-            let log = whole.value;
-            let value = per_layer(card, log);
             Transfer {
-                value,
+                value: per_layer(card, whole.value),
                 logarithms: whole.logarithms,
             }
         }
     }
 }
 
-fn per_layer(card: Card, whole: Log) -> Log
+#[tactic(auto, unfolding(crate::specs::Substep::per_layer))]
+fn per_layer(card: Card, whole: Option<f64>) -> Option<f64>
     ensures { result ≡ per_layer card whole }
 {
-    match whole {
-        Log::Value(u) => Log::Value(u / (card.layers as f64)),
-        Log::Refused => Log::Refused,
-    }
+    Some(whole? / (card.layers as f64))
 }
 
 // The temperature of a charge level by the first zone's salt: once for a run, whose substeps all have it.
-pub fn target_of(card: Card, salts: &[f64], step: usize, level: f64) -> f64
-    requires { 5 ≤ length salts.now }
-    ensures { result ≡ target_of card (zone_salt salts.now step 0) level }
+pub fn target_of<const STEP: usize>(card: Card, salts: LentSalts<'_, STEP>, level: f64) -> f64
+    ensures { result ≡ target_of card (lent_salt salts.entry 0) level }
 {
-    let salt = zone::layer::zone_salt(salts, step, 0);
-    zone::layer::soc_to_temp(salt, card.reference, card.max, level)
+    zone::layer::soc_to_temp(salts.zone(0), card.reference, card.max, level)
 }
 
 // `mode` is the input's.
+#[tactic(auto, unfolding(crate::specs::Substep::common_of))]
 pub fn common_of(
     mode: Mode,
     card: Card,
@@ -231,18 +220,16 @@ pub fn common_of(
     requires { mode ≡ input.mode }
     ensures { result ≡ common_of card pcm input transfer }
 {
-    let mass = zone_water::mass_flow(input.flow);
-    let shared = Shared {
-        layers: card.layers,
-        inlet: input.inlet,
-        rated: pcm.rated,
-        transfer,
-        mass,
-        seconds: input.seconds,
-    };
     Common {
         mode,
-        shared,
+        shared: Shared {
+            layers: card.layers,
+            inlet: input.inlet,
+            rated: pcm.rated,
+            transfer,
+            mass: zone_water::mass_flow(input.flow),
+            seconds: input.seconds,
+        },
         reference: card.reference,
         max: card.max,
         level: input.target,
@@ -250,29 +237,30 @@ pub fn common_of(
 }
 
 // The charger's heat over the substep, at first: kilowatts times hours.
+#[tactic(auto, unfolding(crate::specs::Substep::charger_heat))]
 pub fn charger_heat(input: SubstepInput) -> Kilojoules
     ensures { result ≡ charger_heat input }
 {
     KilowattHours(-input.power * input.seconds / floats::SECONDS_PER_HOUR).kilojoules()
 }
 
-pub fn progress_fault(zones: bool, outlet: f64, sum: Kilojoules, charged: KilowattHours) -> Fault
-    ensures { result ≡ cond (zones && (finite64 outlet && (finite64 sum.0 && finite64 charged.0))) Fault.Nothing Fault.NotFinite }
+pub fn progress_fault(
+    zones: bool,
+    outlet: f64,
+    sum: Kilojoules,
+    charged: KilowattHours,
+) -> Option<Fault>
+    ensures { result ≡ cond (zones && (finite64 outlet && (finite64 sum.0 && finite64 charged.0))) None (Some Fault.NotFinite) }
 {
-    let finite = logic::all_four(
-        zones,
-        floats::is_finite(outlet),
-        floats::is_finite(sum.0),
-        floats::is_finite(charged.0),
-    );
-    if finite {
-        Fault::Nothing
-    } else {
-        Fault::NotFinite
-    }
+    let finite = zones
+        & floats::is_finite(outlet)
+        & floats::is_finite(sum.0)
+        & floats::is_finite(charged.0);
+    if finite { None } else { Some(Fault::NotFinite) }
 }
 
 // What a substep without its logarithm hands out.
+#[tactic(auto, unfolding(crate::specs::Substep::outcome_of, crate::specs::Substep::without_logarithm))]
 pub fn without_logarithm() -> Outcome
     ensures { (zones : List Float) → result ≡ outcome_of (without_logarithm zones) }
 {
@@ -280,7 +268,7 @@ pub fn without_logarithm() -> Outcome
         outlet: 0.0,
         delivered: Kilojoules(0.0),
         charged: KilowattHours(0.0),
-        fault: Fault::Logarithm,
+        fault: Some(Fault::Logarithm),
         logarithms: 0,
     }
 }

@@ -1,2 +1,1 @@
-mod ChargingSteps
-mod LossSteps
+mod Steppings

@@ -1,25 +1,25 @@
 // Id 51: a call on the battery that the last record left.
-use battery::Answer;
+use battery::{Answer, Call};
+use refusals::Refusal;
+use vectors_lists::Held;
+use vectors_words::Words;
 
-fn advanced(bytes: &[u8], held: &[u8]) -> Answer {
-    let version = vectors_lists::version(held);
-    let b = vectors_lists::battery(held);
-    let call = vectors_lists::calls::read(bytes);
+fn advanced(held: Held, call: Call) -> Answer {
+    let b = held.battery;
     let l = battery::ledger_of(b);
     let zones = b.zones;
-    if battery::is_accepted(version, l, &zones) {
-        return engine::steps::advance(version, b, call);
+    if battery::is_accepted(held.version, l, &zones) {
+        return engine::steps::advance(held.version, b, call);
     }
-    battery::answers::refused(refusals::BAD_CALL, b)
+    battery::answers::refused(Refusal::BadCall, b)
 }
 
-pub fn call(bytes: &[u8], held: &mut [u8]) -> bool {
-    let at = vectors_lists::calls::answer_at(bytes);
-    if at == 0 {
+// Whether the answer agrees. None does where no kind is known.
+pub fn call(words: Words<'_>, held: &mut Held) -> bool {
+    let Some((call, at)) = vectors_lists::calls::read(words) else {
         return false;
-    }
-    let a = advanced(bytes, held);
-    let b = a.battery;
-    vectors_lists::hold(held, b);
-    vectors_lists::answer_is(bytes, at, a)
+    };
+    let answer = advanced(*held, call);
+    held.battery = answer.battery;
+    vectors_lists::answer_is(words, at, answer)
 }

@@ -1,76 +1,63 @@
 // Calls of a record's words, and where the answer stands after them.
-ghost use Rattle.std.specs.Prelude.{◌≤◌};
+ghost use Rattle.std.specs.Prelude.{◌≤◌, IfSome};
 
-use battery::{Call, Demand, Given, Hydronic};
+use battery::{Call, Demand, Hydronic};
+use vectors_words::Words;
 
 // A mark and a value.
-pub fn given(bytes: &[u8], i: usize) -> Given
+pub fn given(words: Words<'_>, i: usize) -> Option<f64>
     requires { i ≤ 512 }
 {
-    if vectors_words::word_is(bytes, i, 0) {
-        Given::Absent
+    if words.word_is(i, 0) {
+        None
     } else {
-        Given::Value(vectors_words::number(bytes, i + 1))
+        Some(words.number(i + 1))
     }
 }
 
-fn demand(bytes: &[u8]) -> Call {
-    let feed = given(bytes, 6);
+fn demand(words: Words<'_>) -> Call {
+    let feed = given(words, 6);
     Call::DemandEnergy(Demand {
-        service: vectors_words::small(bytes, 1),
-        commit: vectors_words::word_is(bytes, 2, 1),
-        control: vectors_words::word_is(bytes, 3, 1),
-        required: vectors_words::number(bytes, 4),
-        start: vectors_words::number(bytes, 5),
+        service: words.narrow(1, u8::MAX),
+        commit: words.word_is(2, 1),
+        control: words.word_is(3, 1),
+        required: words.number(4),
+        start: words.number(5),
         feed,
     })
 }
 
-fn hydronic(bytes: &[u8]) -> Call {
+fn hydronic(words: Words<'_>) -> Call {
     Call::ChargeHydronic(Hydronic {
-        inlet: vectors_words::number(bytes, 1),
-        hours: vectors_words::number(bytes, 2),
-        flow: vectors_words::number(bytes, 3),
-        target: vectors_words::number(bytes, 4),
-        limit: vectors_words::number(bytes, 5),
-        a: vectors_words::number(bytes, 6),
-        b: vectors_words::number(bytes, 7),
-        velocity: vectors_words::number(bytes, 8),
-        diameter: vectors_words::number(bytes, 9),
+        inlet: words.number(1),
+        hours: words.number(2),
+        flow: words.number(3),
+        target: words.number(4),
+        limit: words.number(5),
+        a: words.number(6),
+        b: words.number(7),
+        velocity: words.number(8),
+        diameter: words.number(9),
     })
 }
 
-fn energy_demand(bytes: &[u8]) -> Call {
-    let most = given(bytes, 1);
-    Call::ChargeEnergyDemand(most, vectors_words::number(bytes, 3))
+fn energy_demand(words: Words<'_>) -> Call {
+    let most = given(words, 1);
+    Call::ChargeEnergyDemand(most, words.number(3))
 }
 
-// The answer's first word; 0 where no kind is known.
-pub fn answer_at(bytes: &[u8]) -> usize
-    ensures { result ≤ 16 }
+// The call and the answer's first word, where the kind is known.
+pub fn read(words: Words<'_>) -> Option<(Call, usize)>
+    ensures { IfSome result (λ call. call.1 ≤ 16) }
 {
-    match vectors_words::word(bytes, 0) {
-        1 => 8,
-        2 => 3,
-        3 => 10,
-        4..=6 => 1,
-        7 => 4,
-        _ => 0,
-    }
-}
-
-// A call of a known kind.
-pub fn read(bytes: &[u8]) -> Call {
-    match vectors_words::word(bytes, 0) {
-        1 => demand(bytes),
-        2 => Call::ChargeElectric(
-            vectors_words::number(bytes, 1),
-            vectors_words::number(bytes, 2),
-        ),
-        3 => hydronic(bytes),
-        4 => Call::HeatLoss,
-        5 => Call::CloseTimestep,
-        7 => energy_demand(bytes),
-        _ => Call::ReadStateOfCharge,
+    match words.word(0) {
+        1 => Some((demand(words), 8)),
+        2 => Some((Call::ChargeElectric(words.number(1), words.number(2)), 3)),
+        3 => Some((hydronic(words), 10)),
+        4 => Some((Call::HeatLoss, 1)),
+        5 => Some((Call::CloseTimestep, 1)),
+        6 => Some((Call::ReadStateOfCharge, 1)),
+        7 => Some((energy_demand(words), 4)),
+        _ => None,
     }
 }

@@ -1,6 +1,4 @@
 // Lists of calls on one battery, ids 50 and 51 of rust/oracle/VECTORS.md, but for the engine: calls, batteries and answers in words.
-// Between the records of a list the battery is held as the words of record 50: card, zones, five totals, version. Where they have no layers,
-// every call is refused with 10, which no record has.
 #![tactic(auto)]
 
 pub mod calls;
@@ -8,105 +6,86 @@ pub mod calls;
 ghost use Rattle.std.specs.Prelude.{◌≤◌};
 
 use battery::{Answer, Battery};
+use vectors_words::Words;
 
-const ZONES: usize = 24;
+// What the last record of a list left.
+#[derive(Clone, Copy)]
+pub struct Held {
+    pub version: u8,
+    pub battery: Battery,
+}
 
-// Id 50.
-pub fn start(bytes: &[u8], held: &mut [u8]) {
-    let n = vectors_words::count(bytes, 23);
-    if logic::all_four(
-        vectors_words::has(bytes, n + 30),
-        vectors_words::word_is(bytes, 0, n as u64),
-        n <= 64,
-        card::version::known_version(vectors_words::small(bytes, n + 29)),
-    ) {
-        vectors_words::set(held, bytes);
-    } else {
-        vectors_words::set_number(held, 0, 0.0);
+// What stands before a list: the battery of no words, of which no version is known. A call on it is refused with 10.
+impl Default for Held {
+    fn default() -> Held {
+        Held {
+            version: 0,
+            battery: battery(Words(&[]), 0),
+        }
     }
 }
 
-// None for a number of layers that no card has.
-fn zones_of(layers: u8) -> usize
-    ensures { result ≤ 64 }
+// The battery of a record 50 with n zones.
+fn battery(words: Words<'_>, n: usize) -> Battery
+    requires { n ≤ 64 }
 {
-    if layers <= 64 {
-        return layers as usize;
-    }
-    0
-}
-
-// The version of the words held.
-pub fn version(bytes: &[u8]) -> u8 {
-    let n = zones_of(vectors_words::small(bytes, 0));
-    vectors_words::small(bytes, n + 29)
-}
-
-// The battery of the words held.
-pub fn battery(bytes: &[u8]) -> Battery {
-    let card = vectors_words::cards::read(bytes);
-    let n = zones_of(card.layers);
-    let zones = vectors_words::numbers(bytes, ZONES, n);
+    let card = words.card();
     Battery {
         card,
-        zones,
+        zones: words.numbers(24, n),
         count: card.layers,
-        total: vectors_words::number(bytes, n + 24),
-        pump: vectors_words::number(bytes, n + 25),
-        direct: vectors_words::number(bytes, n + 26),
-        charged: vectors_words::number(bytes, n + 27),
-        electric: vectors_words::number(bytes, n + 28),
+        total: words.number(n + 24),
+        pump: words.number(n + 25),
+        direct: words.number(n + 26),
+        charged: words.number(n + 27),
+        electric: words.number(n + 28),
     }
 }
 
-// The five totals, and 0 above them.
-fn totals_of(battery: Battery) -> [f64; 64] {
-    let mut xs = [0.0; 64];
-    xs[0] = battery.total;
-    xs[1] = battery.pump;
-    xs[2] = battery.direct;
-    xs[3] = battery.charged;
-    xs[4] = battery.electric;
-    xs
+// Id 50: card, zones, five totals, version. None of a record that has not those words.
+pub fn start(words: Words<'_>) -> Option<Held> {
+    let n = words.count(23)?;
+    let version = words.narrow(n + 29, u8::MAX);
+    if words.has(n + 30) & words.word_is(0, n as u64) & card::version::known_version(version) {
+        Some(Held {
+            version,
+            battery: battery(words, n),
+        })
+    } else {
+        None
+    }
 }
 
 // The answer's numbers from word `at` on.
-fn numbers_are(bytes: &[u8], at: usize, answer: Answer) -> bool
+fn numbers_are(words: Words<'_>, at: usize, answer: Answer) -> bool
     requires { at ≤ 512 }
 {
-    logic::all_four(
-        vectors_words::marked_is(bytes, at, answer.refusal as u64, answer.energy),
-        vectors_words::marked_is(bytes, at + 2, answer.mark as u64, answer.outlet),
-        vectors_words::number_is(bytes, at + 4, answer.time),
-        vectors_words::word_is(bytes, at + 5, answer.substeps as u64),
-    )
+    words.marked_is(at, answer.refusal as u64, answer.energy)
+        & words.marked_is(at + 2, answer.mark as u64, answer.outlet)
+        & words.number_is(at + 4, answer.time)
+        & words.word_is(at + 5, answer.substeps as u64)
 }
 
 // The record ends with the zones and the totals, from word `at` on.
-fn battery_is(bytes: &[u8], at: usize, battery: Battery) -> bool
+fn battery_is(words: Words<'_>, at: usize, battery: Battery) -> bool
     requires { at ≤ 32 }
 {
     let zones = battery.zones;
-    let n = zones_of(battery.count);
-    logic::all_three(
-        vectors_words::has(bytes, at + n + 5),
-        vectors_words::numbers_are(bytes, at, zones, n),
-        vectors_words::numbers_are(bytes, at + n, totals_of(battery), 5),
-    )
-}
-
-// Holds the battery after a call.
-pub fn hold(held: &mut [u8], battery: Battery) {
-    let zones = battery.zones;
-    let n = zones_of(battery.count);
-    vectors_words::set_numbers(held, ZONES, zones, n);
-    vectors_words::set_numbers(held, ZONES + n, totals_of(battery), 5);
+    let n = (battery.count as usize).min(64);
+    let totals = [
+        battery.total,
+        battery.pump,
+        battery.direct,
+        battery.charged,
+        battery.electric,
+    ];
+    words.has(at + n + 5) & words.numbers_are(at, &zones[..n]) & words.numbers_are(at + n, &totals)
 }
 
 // Whether the record has the answer, from word `at` on.
-pub fn answer_is(bytes: &[u8], at: usize, answer: Answer) -> bool
+pub fn answer_is(words: Words<'_>, at: usize, answer: Answer) -> bool
     requires { at ≤ 16 }
 {
     let b = answer.battery;
-    logic::both(numbers_are(bytes, at, answer), battery_is(bytes, at + 6, b))
+    numbers_are(words, at, answer) & battery_is(words, at + 6, b)
 }

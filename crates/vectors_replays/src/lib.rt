@@ -8,9 +8,11 @@ mod standins;
 mod substeps;
 mod zones;
 
+use vectors_files::ids::Id;
+use vectors_words::Words;
 use zone_water::Mode;
 
-// Document 01's modes as VECTORS.md numbers them.
+// Document 01's modes as VECTORS.md numbers them. No `From`: a crate that has neither type cannot write it.
 fn mode_of(word: u64) -> Mode {
     match word {
         0 => Mode::OnlyCharging,
@@ -19,15 +21,31 @@ fn mode_of(word: u64) -> Mode {
     }
 }
 
-// Whether a record agrees, of which s has the words; none of another id does.
-pub fn replay(id: u64, bytes: &[u8]) -> bool {
+// Whether a record of these words agrees; none of a list does.
+pub fn replay(id: Id, words: Words<'_>) -> bool {
     match id {
-        1..=8 => standins::replay(id, bytes),
-        20..=25 => zones::replay(id, bytes),
-        26..=30 => exchanger::replay(id, bytes),
-        31 => cards::card(bytes),
-        40 => substeps::substep(bytes),
-        41 => levels::charge_energy_demand(bytes),
-        _ => false,
+        Id::Finite => standins::finite(words),
+        Id::NearlyEqual => standins::nearly_equal(words),
+        Id::MaxZero => standins::max_zero(words),
+        Id::Min => standins::min(words),
+        Id::Square => standins::square(words),
+        Id::Sum2 => standins::sum2(words),
+        Id::Ln => standins::ln(words),
+        Id::Truncate => standins::truncate(words),
+        Id::LayerEnergy => zones::layer_energy(words),
+        Id::SocToTemp => zones::soc_to_temp(words),
+        Id::StateOfCharge => zones::state_of_charge(words),
+        Id::EnergyRequired => zones::energy_required(words),
+        Id::NewTemperature => zones::new_temperature(words),
+        Id::Simultaneous => zones::simultaneous(words),
+        Id::Viscosity => exchanger::viscosity(words),
+        Id::Reynolds => exchanger::reynolds(words),
+        Id::HeatTransfer => exchanger::heat_transfer(words),
+        Id::Outlet => exchanger::outlet(words),
+        Id::ZoneProperties => exchanger::zone_properties(words),
+        Id::Card => cards::card(words),
+        Id::Substep => substeps::substep(words),
+        Id::ChargeEnergyDemand => levels::charge_energy_demand(words),
+        Id::Start | Id::Call => false,
     }
 }

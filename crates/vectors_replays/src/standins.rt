@@ -1,81 +1,47 @@
 // Ids 1 to 8: document 01's stand-ins. The function of an id answers whether a record agrees.
+use vectors_words::Words;
 
-pub fn replay(id: u64, bytes: &[u8]) -> bool {
-    match id {
-        1 => finite(bytes),
-        2 => nearly_equal(bytes),
-        3 => max_zero(bytes),
-        4 => min(bytes),
-        5 => square(bytes),
-        6 => sum2(bytes),
-        7 => ln(bytes),
-        8 => truncate(bytes),
-        _ => false,
-    }
+pub fn finite(words: Words<'_>) -> bool {
+    let r = floats::is_finite(words.number(0));
+    words.has(2) & words.flag_is(1, r)
 }
 
-fn finite(bytes: &[u8]) -> bool {
-    let r = floats::is_finite(vectors_words::number(bytes, 0));
-    logic::both(
-        vectors_words::has(bytes, 2),
-        vectors_words::flag_is(bytes, 1, r),
-    )
+pub fn nearly_equal(words: Words<'_>) -> bool {
+    let p = words.number(0);
+    let q = words.number(1);
+    let r = floats::nearly_equal(p, q, words.number(2), words.number(3));
+    words.has(5) & words.flag_is(4, r)
 }
 
-fn nearly_equal(bytes: &[u8]) -> bool {
-    let p = vectors_words::number(bytes, 0);
-    let q = vectors_words::number(bytes, 1);
-    let r = floats::nearly_equal(
-        p,
-        q,
-        vectors_words::number(bytes, 2),
-        vectors_words::number(bytes, 3),
-    );
-    logic::both(
-        vectors_words::has(bytes, 5),
-        vectors_words::flag_is(bytes, 4, r),
-    )
+pub fn max_zero(words: Words<'_>) -> bool {
+    let r = floats::max_zero(words.number(0));
+    words.ends_with(1, r)
 }
 
-fn max_zero(bytes: &[u8]) -> bool {
-    let r = floats::max_zero(vectors_words::number(bytes, 0));
-    vectors_words::ends_with(bytes, 1, r)
+pub fn min(words: Words<'_>) -> bool {
+    let r = floats::min(words.number(0), words.number(1));
+    words.ends_with(2, r)
 }
 
-fn min(bytes: &[u8]) -> bool {
-    let r = floats::min(
-        vectors_words::number(bytes, 0),
-        vectors_words::number(bytes, 1),
-    );
-    vectors_words::ends_with(bytes, 2, r)
+pub fn square(words: Words<'_>) -> bool {
+    let r = floats::square(words.number(0));
+    words.ends_with(1, r)
 }
 
-fn square(bytes: &[u8]) -> bool {
-    let r = floats::square(vectors_words::number(bytes, 0));
-    vectors_words::ends_with(bytes, 1, r)
+pub fn sum2(words: Words<'_>) -> bool {
+    let Some(k) = words.count(0) else {
+        return false;
+    };
+    let r = floats::sum_with_accumulator(words.numbers(1, k), k);
+    words.ends_with(k + 1, r)
 }
 
-fn sum2(bytes: &[u8]) -> bool {
-    let k = vectors_words::count(bytes, 0);
-    if k <= 64 {
-        let r = floats::sum_with_accumulator(vectors_words::numbers(bytes, 1, k), k);
-        return vectors_words::ends_with(bytes, k + 1, r);
-    }
-    false
+pub fn ln(words: Words<'_>) -> bool {
+    let r = floats::bits::ln(words.number(0));
+    words.has(3) & words.option_is(1, r)
 }
 
-fn ln(bytes: &[u8]) -> bool {
-    let r = floats::bits::ln(vectors_words::number(bytes, 0));
-    logic::both(
-        vectors_words::has(bytes, 3),
-        vectors_words::log_is(bytes, 1, r),
-    )
-}
-
-fn truncate(bytes: &[u8]) -> bool {
-    let r = floats::bits::truncate(vectors_words::number(bytes, 0));
-    logic::both(
-        vectors_words::has(bytes, 2),
-        vectors_words::word_is(bytes, 1, r),
-    )
+pub fn truncate(words: Words<'_>) -> bool {
+    let r = floats::bits::truncate(words.number(0));
+    words.has(2) & words.word_is(1, r)
 }

@@ -2,115 +2,81 @@
 ghost use Rattle.std.specs.Prelude.{◌≤◌};
 
 use card::Card;
-use vectors_words::cards;
-use zone::{Kilojoules, KilowattHours, Salt, StateOfCharge};
-
-pub fn replay(id: u64, bytes: &[u8]) -> bool {
-    match id {
-        20 => layer_energy(bytes),
-        21 => soc_to_temp(bytes),
-        22 => state_of_charge(bytes),
-        23 => energy_required(bytes),
-        24 => new_temperature(bytes),
-        25 => simultaneous(bytes),
-        _ => false,
-    }
-}
+use vectors_words::Words;
+use zone::{Kilojoules, KilowattHours, Salt};
 
 // The salt from word `at` on.
-fn salt(bytes: &[u8], at: usize) -> Salt
+fn salt(words: Words<'_>, at: usize) -> Salt
     requires { at ≤ 512 }
 {
     Salt {
-        lower: vectors_words::number(bytes, at),
-        upper: vectors_words::number(bytes, at + 1),
-        below: vectors_words::number(bytes, at + 2),
-        during: vectors_words::number(bytes, at + 3),
-        above: vectors_words::number(bytes, at + 4),
+        lower: words.number(at),
+        upper: words.number(at + 1),
+        below: words.number(at + 2),
+        during: words.number(at + 3),
+        above: words.number(at + 4),
     }
 }
 
-fn layer_energy(bytes: &[u8]) -> bool {
-    let layer = vectors_words::number(bytes, 0);
-    let reference = vectors_words::number(bytes, 1);
-    let r = zone::layer::calculate_layer_energy_stored(layer, reference, salt(bytes, 2));
-    vectors_words::ends_with(bytes, 7, r.0)
+pub fn layer_energy(words: Words<'_>) -> bool {
+    let layer = words.number(0);
+    let reference = words.number(1);
+    let r = zone::layer::calculate_layer_energy_stored(layer, reference, salt(words, 2));
+    words.ends_with(7, r.0)
 }
 
-fn soc_to_temp(bytes: &[u8]) -> bool {
-    let card = cards::read(bytes);
+pub fn soc_to_temp(words: Words<'_>) -> bool {
+    let card = words.card();
     let own = card::pcm::salt_of(card);
-    let r = zone::layer::soc_to_temp(
-        own,
-        card.reference,
-        card.max,
-        vectors_words::number(bytes, 23),
-    );
-    vectors_words::ends_with(bytes, 24, r)
+    let r = zone::layer::soc_to_temp(own, card.reference, card.max, words.number(23));
+    words.ends_with(24, r)
 }
 
-// A mark and a value; both 0 where 25 refuses.
-fn level_is(bytes: &[u8], i: usize, level: StateOfCharge) -> bool
-    requires { i ≤ 512 }
-{
-    match level {
-        StateOfCharge::Level(x) => vectors_words::marked_is(bytes, i, 1, x),
-        StateOfCharge::Above => vectors_words::marked_is(bytes, i, 0, 0.0),
-    }
-}
-
-// The state of charge of the zones after the card.
-pub fn level(bytes: &[u8], card: Card) -> StateOfCharge
+// The state of charge of the zones after the card; none where 25 refuses.
+pub fn level(words: Words<'_>, card: Card) -> Option<f64>
     requires { card.layers ≤ 64 }
 {
     let n = card.layers as usize;
-    let salts = card::pcm::figures_of(card);
-    let stored = card::pcm::energy_at(card, &salts, 0, card.max);
-    let zones = vectors_words::numbers(bytes, 24, n);
-    zone::layer::calc_state_of_charge(&salts, 0, card.reference, stored, zones, n)
+    let figures = card::pcm::figures_of(card);
+    let salts = card::pcm::lent(card, &figures);
+    let stored = card::pcm::energy_at(card, salts, card.max);
+    let zones = words.numbers(24, n);
+    zone::layer::calc_state_of_charge(salts, card.reference, stored, zones, n)
 }
 
-fn state_of_charge(bytes: &[u8]) -> bool {
-    let card = cards::read(bytes);
-    if card.layers <= 64 {
-        let n = card.layers as usize;
-        let r = level(bytes, card);
-        return logic::all_three(
-            vectors_words::has(bytes, n + 26),
-            vectors_words::word_is(bytes, 23, n as u64),
-            level_is(bytes, n + 24, r),
-        );
+pub fn state_of_charge(words: Words<'_>) -> bool {
+    let card = words.card();
+    if card.layers > 64 {
+        return false;
     }
-    false
+    let n = card.layers as usize;
+    let r = level(words, card);
+    words.has(n + 26) & words.word_is(23, n as u64) & words.option_is(n + 24, r)
 }
 
-fn energy_required(bytes: &[u8]) -> bool {
-    let zone = vectors_words::number(bytes, 5);
-    let r = zone::layer::calculate_zone_energy_required(
-        salt(bytes, 0),
-        zone,
-        vectors_words::number(bytes, 6),
-    );
-    vectors_words::ends_with(bytes, 7, r.0)
+pub fn energy_required(words: Words<'_>) -> bool {
+    let zone = words.number(5);
+    let r = zone::layer::calculate_zone_energy_required(salt(words, 0), zone, words.number(6));
+    words.ends_with(7, r.0)
 }
 
-fn new_temperature(bytes: &[u8]) -> bool {
-    let zone = vectors_words::number(bytes, 5);
-    let energy = Kilojoules(vectors_words::number(bytes, 6));
-    let r = zone_update::calculate_new_zone_temperature(salt(bytes, 0), zone, energy);
-    vectors_words::ends_with(bytes, 7, r.temperature)
+pub fn new_temperature(words: Words<'_>) -> bool {
+    let zone = words.number(5);
+    let energy = Kilojoules(words.number(6));
+    let r = zone_update::calculate_new_zone_temperature(salt(words, 0), zone, energy);
+    words.ends_with(7, r.temperature)
 }
 
-fn simultaneous(bytes: &[u8]) -> bool {
-    let zone = vectors_words::number(bytes, 5);
-    let target = vectors_words::number(bytes, 6);
-    let left = Kilojoules(vectors_words::number(bytes, 7));
-    let heat = Kilojoules(vectors_words::number(bytes, 8));
-    let charged = KilowattHours(vectors_words::number(bytes, 9));
-    let own = salt(bytes, 0);
+pub fn simultaneous(words: Words<'_>) -> bool {
+    let zone = words.number(5);
+    let target = words.number(6);
+    let left = Kilojoules(words.number(7));
+    let heat = Kilojoules(words.number(8));
+    let charged = KilowattHours(words.number(9));
+    let own = salt(words, 0);
     let r = zone_charging::process_zone_simultaneous_charging(
         own, zone, target, left, heat, charged,
     );
-    let outputs = vectors_words::three_are(bytes, 10, r.left.0, r.charged.0, r.heat.0);
-    logic::both(vectors_words::has(bytes, 13), outputs)
+    let outputs = words.numbers_are(10, &[r.left.0, r.charged.0, r.heat.0]);
+    words.has(13) & outputs
 }

@@ -4,31 +4,33 @@ use card::Card;
 // The version of a card without a list of calls.
 pub const VERSION: u8 = card::version::OLDEST_VERSION;
 
-// The card of the first 23 words.
-pub fn read(bytes: &[u8]) -> Card {
-    Card {
-        layers: crate::small(bytes, 0),
-        units: crate::medium(bytes, 1),
-        simultaneous: crate::small(bytes, 2),
-        budget: crate::medium(bytes, 3),
-        substep: crate::number(bytes, 4),
-        timestep: crate::number(bytes, 5),
-        inlet: crate::number(bytes, 6),
-        outlet: crate::number(bytes, 7),
-        max: crate::number(bytes, 8),
-        reference: crate::number(bytes, 9),
-        lower: crate::number(bytes, 10),
-        upper: crate::number(bytes, 11),
-        below: crate::number(bytes, 12),
-        during: crate::number(bytes, 13),
-        above: crate::number(bytes, 14),
-        velocity: crate::number(bytes, 15),
-        diameter: crate::number(bytes, 16),
-        a: crate::number(bytes, 17),
-        b: crate::number(bytes, 18),
-        flow: crate::number(bytes, 19),
-        losses: crate::number(bytes, 20),
-        start: crate::number(bytes, 21),
-        power: crate::number(bytes, 22),
+impl<'a> crate::Words<'a> {
+    // The card of the first 23 words.
+    pub fn card(self) -> Card {
+        Card {
+            layers: self.narrow(0, u8::MAX),
+            units: self.narrow(1, u16::MAX),
+            simultaneous: self.narrow(2, u8::MAX),
+            budget: self.narrow(3, u16::MAX),
+            substep: self.number(4),
+            timestep: self.number(5),
+            inlet: self.number(6),
+            outlet: self.number(7),
+            max: self.number(8),
+            reference: self.number(9),
+            lower: self.number(10),
+            upper: self.number(11),
+            below: self.number(12),
+            during: self.number(13),
+            above: self.number(14),
+            velocity: self.number(15),
+            diameter: self.number(16),
+            a: self.number(17),
+            b: self.number(18),
+            flow: self.number(19),
+            losses: self.number(20),
+            start: self.number(21),
+            power: self.number(22),
+        }
     }
 }

@@ -1,148 +1,121 @@
-// The words of a record: 8 bytes each, the highest byte first. A word after the last one reads as 0, and is not written.
+// The words of a record: 8 bytes each, the highest byte first. A word after the last one reads as 0.
 #![tactic(auto)]
 
 pub mod cards;
 
-ghost use Rattle.std.specs.Prelude.{◌≤◌};
+ghost use Rattle.std.specs.Prelude.{◌≡◌, ◌≤◌, ◌/◌, ◌==◌, length, drop, IfSome};
+ghost use Rattle.std.specs.Float.{binary64};
+ghost use Rattle.std.specs.Float.Ieee.{to_bits};
+ghost use Rattle.vectors_words.specs.Words.{word_at, number_at};
 
-use floats::Log;
+#[derive(Clone, Copy)]
+pub struct Words<'a>(pub &'a [u8]);
 
-// Whether the record has n words.
-pub fn has(bytes: &[u8], n: usize) -> bool {
-    bytes.len() / 8 == n
-}
-
-pub fn word(bytes: &[u8], i: usize) -> u64 {
-    if i < bytes.len() / 8 {
-        return codec::read_be(bytes, 8 * i, 8);
+impl<'a> Words<'a> {
+    // Whether the record has n words.
+    pub fn has(self, n: usize) -> bool
+        ensures { result ≡ (length self.entry.0.now / 8 == n) }
+    {
+        self.0.len() / 8 == n
     }
-    0
-}
 
-pub fn number(bytes: &[u8], i: usize) -> f64 {
-    codec::f64_of(word(bytes, i))
-}
-
-// A count of at most 64; 65 stands for each larger one.
-pub fn count(bytes: &[u8], i: usize) -> usize
-    ensures { result ≤ 65 }
-{
-    let w = word(bytes, i);
-    if w <= 64 {
-        return w as usize;
+    // The words after the first.
+    pub fn rest(self) -> Words<'a>
+        ensures { result.0.now ≡ drop 8 self.entry.0.now }
+    {
+        Words(self.0.get(8..).unwrap_or_default())
     }
-    65
-}
 
-// The largest u8 stands for each larger number.
-pub fn small(bytes: &[u8], i: usize) -> u8 {
-    let w = word(bytes, i);
-    if w < 256 {
-        return w as u8;
+    pub fn word(self, i: usize) -> u64
+        ensures { result ≡ word_at self.entry.0.now i }
+    {
+        if i < self.0.len() / 8 {
+            codec::read_be(self.0, 8 * i, 8)
+        } else {
+            0
+        }
     }
-    255
-}
 
-// The largest u16 stands for each larger number.
-pub fn medium(bytes: &[u8], i: usize) -> u16 {
-    let w = word(bytes, i);
-    if w < 65536 {
-        return w as u16;
+    pub fn number(self, i: usize) -> f64
+        ensures { result ≡ number_at self.entry.0.now i }
+    {
+        codec::f64_of(self.word(i))
     }
-    65535
-}
 
-// The n numbers from word `at` on, and 0 above them.
-pub fn numbers(bytes: &[u8], at: usize, n: usize) -> [f64; 64]
-    requires { (at ≤ 512) × (n ≤ 64) }
-{
-    let mut xs = [0.0; 64];
-    for k in 0..n {
-        xs[k] = number(bytes, at + k);
+    // A count of at most 64.
+    pub fn count(self, i: usize) -> Option<usize>
+        ensures { IfSome result (λ n. (n ≡ word_at self.entry.0.now i) × (n ≤ 64)) }
+    {
+        let w = self.word(i);
+        (w <= 64).then_some(w as usize)
     }
-    xs
-}
 
-pub fn word_is(bytes: &[u8], i: usize, x: u64) -> bool {
-    word(bytes, i) == x
-}
-
-pub fn flag_is(bytes: &[u8], i: usize, x: bool) -> bool {
-    if x {
-        word_is(bytes, i, 1)
-    } else {
-        word_is(bytes, i, 0)
+    // A word as a narrower number; `most` stands for each word that is larger than those.
+    pub fn narrow<T: TryFrom<u64> + Drop>(self, i: usize, most: T) -> T
+    where
+        T::Error: Drop,
+    {
+        T::try_from(self.word(i)).unwrap_or(most)
     }
-}
 
-// All 64 bits agree. A NaN agrees with each NaN.
-pub fn number_is(bytes: &[u8], i: usize, x: f64) -> bool {
-    codec::bits_of(x) == codec::bits_of(number(bytes, i))
-}
-
-// A mark and a value.
-pub fn marked_is(bytes: &[u8], i: usize, mark: u64, x: f64) -> bool
-    requires { i ≤ 1024 }
-{
-    logic::both(word_is(bytes, i, mark), number_is(bytes, i + 1, x))
-}
-
-// A mark and a value; both 0 where the logarithm is refused.
-pub fn log_is(bytes: &[u8], i: usize, log: Log) -> bool
-    requires { i ≤ 512 }
-{
-    match log {
-        Log::Value(x) => marked_is(bytes, i, 1, x),
-        Log::Refused => marked_is(bytes, i, 0, 0.0),
+    // The n numbers from word `at` on, and 0 above them. By value, of 64 places: a rule of the project, with no heap.
+    pub fn numbers(self, at: usize, n: usize) -> [f64; 64]
+        requires { (at ≤ 512) × (n ≤ 64) }
+    {
+        let mut xs = [0.0; 64];
+        for (i, x) in (at..at + n).zip(&mut xs) {
+            *x = self.number(i);
+        }
+        xs
     }
-}
 
-pub fn three_are(bytes: &[u8], i: usize, x: f64, y: f64, z: f64) -> bool
-    requires { i ≤ 512 }
-{
-    logic::all_three(
-        number_is(bytes, i, x),
-        number_is(bytes, i + 1, y),
-        number_is(bytes, i + 2, z),
-    )
-}
-
-// The record ends with word i, and that is x.
-pub fn ends_with(bytes: &[u8], i: usize, x: f64) -> bool
-    requires { i ≤ 512 }
-{
-    logic::both(has(bytes, i + 1), number_is(bytes, i, x))
-}
-
-// The n words from `at` on are the first n of xs.
-pub fn numbers_are(bytes: &[u8], at: usize, xs: [f64; 64], n: usize) -> bool
-    requires { (at ≤ 512) × (n ≤ 64) }
-{
-    let mut same = true;
-    for k in 0..n {
-        same = logic::both(same, number_is(bytes, at + k, xs[k]));
+    pub fn word_is(self, i: usize, x: u64) -> bool
+        ensures { result ≡ (word_at self.entry.0.now i == x) }
+    {
+        self.word(i) == x
     }
-    same
-}
 
-// All words of a record that is not longer than s, from the first on.
-pub fn set(bytes: &mut [u8], record: &[u8]) {
-    if record.len() <= bytes.len() {
-        codec::put_bytes(bytes, 0, record);
+    pub fn flag_is(self, i: usize, x: bool) -> bool {
+        self.word_is(i, u64::from(x))
     }
-}
 
-pub fn set_number(bytes: &mut [u8], i: usize, x: f64) {
-    if i < bytes.len() / 8 {
-        codec::put_f64(bytes, 8 * i, x);
+    // All 64 bits agree. A NaN agrees with each NaN.
+    pub fn number_is(self, i: usize, x: f64) -> bool
+        ensures { result ≡ (to_bits binary64 x == to_bits binary64 (number_at self.entry.0.now i)) }
+    {
+        codec::bits_of(x) == codec::bits_of(self.number(i))
     }
-}
 
-// The first n of xs, from word `at` on.
-pub fn set_numbers(bytes: &mut [u8], at: usize, xs: [f64; 64], n: usize)
-    requires { (at ≤ 512) × (n ≤ 64) }
-{
-    for k in 0..n {
-        set_number(bytes, at + k, xs[k]);
+    // A mark and a value.
+    pub fn marked_is(self, i: usize, mark: u64, x: f64) -> bool
+        requires { i ≤ 1024 }
+    {
+        self.word_is(i, mark) & self.number_is(i + 1, x)
+    }
+
+    // A mark and a value; both 0 for none.
+    pub fn option_is(self, i: usize, option: Option<f64>) -> bool
+        requires { i ≤ 512 }
+    {
+        match option {
+            Some(x) => self.marked_is(i, 1, x),
+            None => self.marked_is(i, 0, 0.0),
+        }
+    }
+
+    // The words from word `at` on are xs.
+    pub fn numbers_are(self, at: usize, xs: &[f64]) -> bool
+        requires { (at ≤ 512) × (length xs.now ≤ 64) }
+    {
+        (at..at + xs.len())
+            .zip(xs)
+            .all(|(i, x)| self.number_is(i, *x))
+    }
+
+    // The record ends with word i, and that is x.
+    pub fn ends_with(self, i: usize, x: f64) -> bool
+        requires { i ≤ 512 }
+    {
+        self.has(i + 1) & self.number_is(i, x)
     }
 }

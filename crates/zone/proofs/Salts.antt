@@ -1,13 +1,15 @@
 -- The salts among the figures.
 use mathlib.Core.Path.{◌≡◌, refl, sym, ◌∙◌, ap, fun_ext}
 use mathlib.Core.List.{List}
-use Prim.Native.Nat.{ℕ, zero, suc, ◌≤◌, ◌*◌}
+use Prim.Native.Nat.{ℕ, zero, suc, ◌+◌, ◌*◌, ◌≤◌, ◌<◌}
 use native.Mathlib.Omega.{arith}
 use borrow.Author.Tests.{ne_eqb}
 use lib.ListN.{length}
 use lib.Ieee.{Float}
 use Rattle.zone.specs.Layer.{Salts, One, Each, salt_at}
 use Rattle.zone.specs.Lent.{zone_salt, salts_in, Salted}
+use Rattle.zone.specs.declared.lent.LentSalts.{LentSalts}
+use native.Mathlib.Nat.{le_trans, lt_of_lt_of_le}
 
 -- with the step 0 every zone has the first salt
 pub one_salt : (figures : List Float) (step j : ℕ) → step ≡ 0 → zone_salt figures step j ≡ zone_salt figures step 0
@@ -33,3 +35,10 @@ salts_at figures step s e = each_salt figures step ∙ ap salt_at e
 -- one salt is enough for any zones
 pub one_salted : (figures : List Float) (n : ℕ) → 5 ≤ length figures → Salted figures 0 n
 one_salted figures n h = (h, λ j l. let e : j * 0 ≡ 0 = omega arith in rw e h)
+
+-- what is lent has salts for at most 64 zones, and one for each zone of fewer
+pub few_layers : {step : ℕ} (salts : LentSalts step) (n : ℕ) → n ≤ salts.layers → n ≤ 64
+few_layers salts n h = le_trans h salts.salted.0
+
+pub has_salt : {step : ℕ} (salts : LentSalts step) (n j : ℕ) → n ≤ salts.layers → j < n → j * step + 5 ≤ length salts.figures.now
+has_salt salts n j h l = salts.salted.1.1 j (lt_of_lt_of_le l h)

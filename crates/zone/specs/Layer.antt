@@ -1,5 +1,5 @@
 -- Document 01, module 1: what a layer holds above ref, the temperature of a level, the state of charge, and what a zone needs to its target.
-use Rattle.std.specs.Prelude.{cond, List, ℕ, zero, suc, get_or, Float}
+use Rattle.std.specs.Prelude.{cond, List, ℕ, zero, suc, get_or, Float, Option, Some, None}
 use Rattle.std.specs.Float.{nan}
 use Rattle.std.specs.Float.Ieee.{lt, le}
 use Rattle.floats.specs.F64.{◌⊕◌, ◌⊖◌, ◌⊗◌, ◌⊘◌}
@@ -9,8 +9,6 @@ use Rattle.floats.specs.Standins.{min}
 use Rattle.zone.specs.Heat.{kj}
 use Rattle.zone.specs.declared.Kilojoules.{Kilojoules}
 use Rattle.zone.specs.declared.Salt.{Salt}
-use Rattle.zone.specs.declared.StateOfCharge.{StateOfCharge}
-use Rattle.zone.specs.declared.StateOfCharge.TheVariants.{Level, Above}
 
 -- `calculate_layer_energy_stored`: the energy of a layer at t above ref
 unfoldable pub layer_energy_stored : Float → Float → Salt → Kilojoules
@@ -64,11 +62,11 @@ stored_energy s ref zones (suc k) =
     kj ((stored_energy s ref zones k).0 ⊕ (layer_energy_stored (get_or zones k nan) ref (s k)).0)
 
 -- 'state of charge above 1.0 + 1e-10' is refused; up to there it is at most 1
-unfoldable pub level_of : Float → StateOfCharge
-level_of soc = cond (lt (one ⊕ tolerance) soc) Above (Level (min soc one))
+unfoldable pub level_of : Float → Option Float
+level_of soc = cond (lt (one ⊕ tolerance) soc) None (Some (min soc one))
 
 -- `calc_state_of_charge` of n zones, from the stored maximum
-unfoldable pub state_of_charge : (ℕ → Salt) → Float → Kilojoules → List Float → ℕ → StateOfCharge
+unfoldable pub state_of_charge : (ℕ → Salt) → Float → Kilojoules → List Float → ℕ → Option Float
 state_of_charge s ref most zones n = level_of ((stored_energy s ref zones n).0 ⊘ most.0)
 
 -- `calculate_zone_energy_required`: what a zone at t gives up on the way to its target, so below 0 where it takes heat

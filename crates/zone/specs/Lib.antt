@@ -2,3 +2,4 @@ pub mod Heat
 pub mod Layer
 pub mod Good
 pub mod Lent
+pub mod LentSalts

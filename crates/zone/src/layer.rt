@@ -1,11 +1,13 @@
 // Document 01, module 1.
-ghost use Rattle.std.specs.Prelude.{◌≡◌, ◌+◌, ◌*◌, ◌≤◌, length};
+ghost use Rattle.std.specs.Prelude.{◌≡◌, ◌≤◌};
 ghost use Rattle.zone.specs.Layer.{layer_energy_stored, temp_at, soc_to_temp, stored_energy, level_of, state_of_charge, zone_energy_required};
-ghost use Rattle.zone.specs.Lent.{zone_salt, Salted};
+ghost use Rattle.zone.specs.LentSalts.{lent_salt};
 
-use crate::{Kilojoules, Salt, StateOfCharge};
+use crate::lent::LentSalts;
+use crate::{Kilojoules, Salt};
 
 // The energy of a layer at `layer` °C above `reference`.
+#[tactic(auto, unfolding(crate::specs::Layer::layer_energy_stored))]
 pub fn calculate_layer_energy_stored(layer: f64, reference: f64, salt: Salt) -> Kilojoules
     ensures { result ≡ layer_energy_stored layer reference salt }
 {
@@ -39,6 +41,7 @@ pub fn calculate_layer_energy_stored(layer: f64, reference: f64, salt: Salt) -> 
 }
 
 // The temperature at which a layer holds `energy`, from its energies at lower and at upper.
+#[tactic(auto, unfolding(crate::specs::Layer::temp_at))]
 fn temp_at(
     salt: Salt,
     reference: f64,
@@ -57,6 +60,7 @@ fn temp_at(
     salt.upper + (energy.0 - upper.0) / salt.above
 }
 
+#[tactic(auto, unfolding(crate::specs::Layer::soc_to_temp))]
 pub fn soc_to_temp(salt: Salt, reference: f64, max: f64, soc: f64) -> f64
     ensures { result ≡ soc_to_temp salt reference max soc }
 {
@@ -72,67 +76,56 @@ pub fn soc_to_temp(salt: Salt, reference: f64, max: f64, soc: f64) -> f64
     temp_at(salt, reference, Kilojoules(soc * most.0), lower, upper)
 }
 
-// The salt of zone j: five numbers from j × step on.
-pub fn zone_salt(salts: &[f64], step: usize, j: usize) -> Salt
-    requires { j * step + 5 ≤ length salts.now }
-    ensures { result ≡ zone_salt salts.now step j }
-{
-    let at = j * step;
-    Salt {
-        lower: salts[at],
-        upper: salts[at + 1],
-        below: salts[at + 2],
-        during: salts[at + 3],
-        above: salts[at + 4],
-    }
-}
-
 // The energy of the first n zones above `reference`.
-pub fn stored_energy(
-    salts: &[f64],
-    step: usize,
+#[tactic(auto, using(crate::proofs::Sums::stored_more, crate::proofs::Sums::stored_end), unfolding(crate::specs::Layer::stored_energy))]
+pub fn stored_energy<const STEP: usize>(
+    salts: LentSalts<'_, STEP>,
     reference: f64,
     zones: [f64; 64],
     n: usize,
 ) -> Kilojoules
-    requires { (n ≤ 64) × Salted salts.now step n }
-    ensures { result ≡ stored_energy (zone_salt salts.now step) reference zones n }
+    requires { n ≤ salts.layers }
+    ensures { result ≡ stored_energy (lent_salt salts.entry) reference zones n }
 {
     let mut sum = Kilojoules(0.0);
+    // By its place, which names the zone's salt too.
     for k in 0..n {
-        let layer = calculate_layer_energy_stored(zones[k], reference, zone_salt(salts, step, k));
+        let layer = calculate_layer_energy_stored(zones[k], reference, salts.zone(k));
         sum = Kilojoules(sum.0 + layer.0);
     }
     sum
 }
 
-fn level_of(soc: f64) -> StateOfCharge
+// A level of at most 1; none above 1.0 + 1e-10, which 25 refuses.
+#[tactic(auto, unfolding(crate::specs::Layer::level_of))]
+fn level_of(soc: f64) -> Option<f64>
     ensures { result ≡ level_of soc }
 {
     if soc > 1.0 + floats::TOLERANCE {
-        return StateOfCharge::Above;
+        return None;
     }
     let level = floats::min(soc, 1.0);
-    StateOfCharge::Level(level)
+    Some(level)
 }
 
-// `stored` is the stored maximum.
-pub fn calc_state_of_charge(
-    salts: &[f64],
-    step: usize,
+// `stored` is the stored maximum; none where 25 refuses.
+#[tactic(auto, unfolding(crate::specs::Layer::state_of_charge))]
+pub fn calc_state_of_charge<const STEP: usize>(
+    salts: LentSalts<'_, STEP>,
     reference: f64,
     stored: Kilojoules,
     zones: [f64; 64],
     n: usize,
-) -> StateOfCharge
-    requires { (n ≤ 64) × Salted salts.now step n }
-    ensures { result ≡ state_of_charge (zone_salt salts.now step) reference stored zones n }
+) -> Option<f64>
+    requires { n ≤ salts.layers }
+    ensures { result ≡ state_of_charge (lent_salt salts.entry) reference stored zones n }
 {
-    let sum = stored_energy(salts, step, reference, zones, n);
+    let sum = stored_energy(salts, reference, zones, n);
     level_of(sum.0 / stored.0)
 }
 
 // Negative where the zone has to take heat to reach its target.
+#[tactic(auto, unfolding(crate::specs::Layer::zone_energy_required))]
 pub fn calculate_zone_energy_required(salt: Salt, zone: f64, target: f64) -> Kilojoules
     ensures { result ≡ zone_energy_required salt zone target }
 {

@@ -2,11 +2,13 @@
 #![tactic(auto)]
 
 pub mod layer;
+pub mod lent;
 
 ghost use Rattle.std.specs.Prelude.{◌≡◌};
 ghost use Rattle.zone.specs.Heat.{kilowatt_hours, kilojoules as kilojoules_of};
 
 // Heat within a substep. Positive where a zone gives it up.
+// No Add, Sub or Neg: sums are of f64 in the Rust's order, some with factors or the addend 0.0, and their definitions write the numbers too.
 #[derive(Clone, Copy)]
 pub struct Kilojoules(pub f64);
 
@@ -15,6 +17,7 @@ pub struct Kilojoules(pub f64);
 pub struct KilowattHours(pub f64);
 
 impl Kilojoules {
+    #[tactic(auto, unfolding(crate::specs::Heat::kilowatt_hours))]
     pub fn kilowatt_hours(self) -> KilowattHours
         ensures { result ≡ kilowatt_hours self }
     {
@@ -23,6 +26,7 @@ impl Kilojoules {
 }
 
 impl KilowattHours {
+    #[tactic(auto, unfolding(crate::specs::Heat::kilojoules))]
     pub fn kilojoules(self) -> Kilojoules
         ensures { result ≡ kilojoules_of self }
     {
@@ -30,7 +34,8 @@ impl KilowattHours {
     }
 }
 
-// A salt: its melting range in °C, and a layer's capacity below, during and above it in kJ/K.
+// A salt: its melting range in °C, and a layer's capacity below, during and above it in kJ/K. A zone's temperature goes beside it and not in it: it lies in the
+// battery's 64 places.
 #[derive(Clone, Copy)]
 pub struct Salt {
     pub lower: f64,
@@ -38,11 +43,4 @@ pub struct Salt {
     pub below: f64,
     pub during: f64,
     pub above: f64,
-}
-
-// What `calc_state_of_charge` answers: a level of at most 1, or above 1.0 + 1e-10, which 25 refuses.
-#[derive(Clone, Copy)]
-pub enum StateOfCharge {
-    Level(f64),
-    Above,
 }

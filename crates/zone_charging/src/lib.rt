@@ -8,7 +8,8 @@ ghost use Rattle.zone_charging.specs.Charging.{counted as counted_of, charging_w
 
 use zone::{Kilojoules, KilowattHours, Salt};
 
-// A zone's part of a charge: the charger's heat left (negative), the energy charged so far, the heat that the zone gives up.
+// A zone's part of a charge: the charger's heat left (negative), the energy charged so far, the heat that the zone gives up. What goes in are numbers of the
+// same three kinds, in the Rust's order: a struct for them would be taken apart at once.
 #[derive(Clone, Copy)]
 pub struct Charged {
     pub left: Kilojoules,
@@ -17,6 +18,7 @@ pub struct Charged {
 }
 
 // The energy charged so far and the heat q, counted in kilowatt-hours.
+#[tactic(auto, unfolding(crate::specs::Charging::counted))]
 fn counted(charged: KilowattHours, energy: Kilojoules) -> KilowattHours
     ensures { result ≡ counted_of charged energy }
 {
@@ -25,6 +27,7 @@ fn counted(charged: KilowattHours, energy: Kilojoules) -> KilowattHours
 }
 
 // A zone below its target, from which the water withdraws the heat e ≥ 0.
+#[tactic(auto, unfolding(crate::specs::Charging::charging_withdrawn))]
 fn charging_withdrawn(
     required: Kilojoules,
     left: Kilojoules,
@@ -60,6 +63,7 @@ fn charging_withdrawn(
 }
 
 // A zone below its target, to which the water adds heat, e < 0.
+#[tactic(auto, unfolding(crate::specs::Charging::charging_added))]
 fn charging_added(
     required: Kilojoules,
     left: Kilojoules,
@@ -92,6 +96,7 @@ fn charging_added(
 }
 
 // A zone at its target or above.
+#[tactic(auto, unfolding(crate::specs::Charging::charging_full))]
 fn charging_full(left: Kilojoules, energy: Kilojoules, charged: KilowattHours) -> Charged
     ensures { result ≡ charging_full left energy charged }
 {
@@ -118,6 +123,7 @@ fn charging_full(left: Kilojoules, energy: Kilojoules, charged: KilowattHours) -
     }
 }
 
+#[tactic(auto, unfolding(crate::specs::Charging::zone_simultaneous_charging))]
 pub fn process_zone_simultaneous_charging(
     salt: Salt,
     zone: f64,
@@ -139,6 +145,8 @@ pub fn process_zone_simultaneous_charging(
 }
 
 // The same in charging alone, where no water runs: short enough to be compiled in place in a loop of its own.
+// As a call of the one above, which then is nowhere compiled in place, a demand while charging took a quarter more instructions.
+#[tactic(auto, unfolding(crate::specs::Charging::zone_simultaneous_charging))]
 pub fn charge_zone_alone(
     salt: Salt,
     zone: f64,

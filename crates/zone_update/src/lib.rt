@@ -6,8 +6,8 @@ ghost use Rattle.zone_update.specs.Update.{delivering_from_above, delivering as 
 
 use zone::{Kilojoules, Salt};
 
-// Falls of a zone's temperature above, within and below the melting range.
-#[derive(Clone, Copy)]
+// Falls of a zone's temperature above, within and below the melting range; none by default.
+#[derive(Clone, Copy, Default)]
 pub struct Deltas {
     pub above: f64,
     pub during: f64,
@@ -21,6 +21,7 @@ pub struct ZoneUpdate {
 }
 
 // A zone at upper or warmer gives up the energy e > 0.
+#[tactic(auto, unfolding(crate::specs::Update::delivering_from_above))]
 fn delivering_from_above(salt: Salt, zone: f64, energy: Kilojoules) -> Deltas
     ensures { result ≡ delivering_from_above salt zone energy }
 {
@@ -29,15 +30,14 @@ fn delivering_from_above(salt: Salt, zone: f64, energy: Kilojoules) -> Deltas
     if energy.0 <= heat_range_1 {
         return Deltas {
             above: energy.0 / salt.above,
-            during: 0.0,
-            below: 0.0,
+            ..Deltas::default()
         };
     }
     if energy.0 - heat_range_1 <= heat_range_2 {
         return Deltas {
             above: zone - salt.upper,
             during: (energy.0 - heat_range_1) / salt.during,
-            below: 0.0,
+            ..Deltas::default()
         };
     }
     Deltas {
@@ -48,6 +48,7 @@ fn delivering_from_above(salt: Salt, zone: f64, energy: Kilojoules) -> Deltas
 }
 
 // A zone gives up the energy e > 0.
+#[tactic(auto, unfolding(crate::specs::Update::delivering))]
 fn delivering(salt: Salt, zone: f64, energy: Kilojoules) -> Deltas
     ensures { result ≡ delivering_of salt zone energy }
 {
@@ -58,25 +59,24 @@ fn delivering(salt: Salt, zone: f64, energy: Kilojoules) -> Deltas
         let heat_range_2 = (zone - salt.lower) * salt.during;
         if energy.0 <= heat_range_2 {
             return Deltas {
-                above: 0.0,
                 during: energy.0 / salt.during,
-                below: 0.0,
+                ..Deltas::default()
             };
         }
         return Deltas {
-            above: 0.0,
             during: zone - salt.lower,
             below: (energy.0 - heat_range_2) / salt.below,
+            ..Deltas::default()
         };
     }
     Deltas {
-        above: 0.0,
-        during: 0.0,
         below: energy.0 / salt.below,
+        ..Deltas::default()
     }
 }
 
 // A zone at lower or cooler takes up the energy -e, e < 0.
+#[tactic(auto, unfolding(crate::specs::Update::retrieving_from_below))]
 fn retrieving_from_below(salt: Salt, zone: f64, energy: Kilojoules) -> Deltas
     ensures { result ≡ retrieving_from_below salt zone energy }
 {
@@ -84,16 +84,15 @@ fn retrieving_from_below(salt: Salt, zone: f64, energy: Kilojoules) -> Deltas
     let heat_range_2 = (salt.lower - salt.upper) * salt.during;
     if energy.0 >= heat_range_3 {
         return Deltas {
-            above: 0.0,
-            during: 0.0,
             below: energy.0 / salt.below,
+            ..Deltas::default()
         };
     }
     if energy.0 - heat_range_3 >= heat_range_2 {
         return Deltas {
-            above: 0.0,
             during: (energy.0 - heat_range_3) / salt.during,
             below: zone - salt.lower,
+            ..Deltas::default()
         };
     }
     Deltas {
@@ -104,6 +103,7 @@ fn retrieving_from_below(salt: Salt, zone: f64, energy: Kilojoules) -> Deltas
 }
 
 // A zone takes up the energy -e, e < 0.
+#[tactic(auto, unfolding(crate::specs::Update::retrieving))]
 fn retrieving(salt: Salt, zone: f64, energy: Kilojoules) -> Deltas
     ensures { result ≡ retrieving_of salt zone energy }
 {
@@ -114,21 +114,19 @@ fn retrieving(salt: Salt, zone: f64, energy: Kilojoules) -> Deltas
         let heat_range_2 = (zone - salt.upper) * salt.during;
         if energy.0 >= heat_range_2 {
             return Deltas {
-                above: 0.0,
                 during: energy.0 / salt.during,
-                below: 0.0,
+                ..Deltas::default()
             };
         }
         return Deltas {
             above: (energy.0 - heat_range_2) / salt.above,
             during: zone - salt.upper,
-            below: 0.0,
+            ..Deltas::default()
         };
     }
     Deltas {
         above: energy.0 / salt.above,
-        during: 0.0,
-        below: 0.0,
+        ..Deltas::default()
     }
 }
 
@@ -142,6 +140,7 @@ fn lowered(zone: f64, deltas: Deltas) -> ZoneUpdate
 
 // The falls of a zone that gives up the energy e. Nearly equal to 0 is a magnitude of at most NEGLIGIBLE_ENERGY_KJ, and two comparisons cost
 // less; a NaN leaves the zone.
+#[tactic(auto, unfolding(crate::specs::Update::zone_falls))]
 fn zone_falls(salt: Salt, zone: f64, energy: Kilojoules) -> Deltas
     ensures { result ≡ zone_falls salt zone energy }
 {
@@ -151,11 +150,7 @@ fn zone_falls(salt: Salt, zone: f64, energy: Kilojoules) -> Deltas
     if energy.0 < -floats::NEGLIGIBLE_ENERGY_KJ {
         return retrieving(salt, zone, energy);
     }
-    Deltas {
-        above: 0.0,
-        during: 0.0,
-        below: 0.0,
-    }
+    Deltas::default()
 }
 
 // A zone is lowered in one place, by falls of 0 where it stays: so short, it is compiled in place in the loop of every mode.

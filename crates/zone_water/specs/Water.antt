@@ -1,13 +1,11 @@
 -- Document 01, module 4: viscosity, Reynolds number, heat transfer, outlet and `get_zone_properties`. Factors in the Rust's order.
-use Rattle.std.specs.Prelude.{pos, Float}
+use Rattle.std.specs.Prelude.{pos, Float, Option, Some, None}
 use Rattle.std.specs.Float.{binary64}
 use Rattle.std.specs.Float.Ieee.{of_bits, of_int}
 use Rattle.floats.specs.F64.{◌⊕◌, ◌⊖◌, ◌⊗◌, ◌⊘◌}
 use Rattle.floats.specs.Constants.{zero, one, two, minute, thousand, hour}
 use Rattle.floats.specs.Standins.{square, max_zero}
 use Rattle.floats.specs.Ln.{ln}
-use Rattle.floats.specs.declared.Log.{Log}
-use Rattle.floats.specs.declared.Log.TheVariants.{Value, Refused}
 use Rattle.zone.specs.Heat.{kj}
 use Rattle.zone.specs.declared.Kilojoules.{Kilojoules}
 use Rattle.zone_water.specs.declared.Mode.{Mode}
@@ -48,11 +46,11 @@ unfoldable pub mass_flow : Float → Float
 mass_flow flow = (flow ⊘ minute) ⊗ density
 
 -- `calculate_heat_transfer_kw_per_k`, with the logarithm's refusal
-unfoldable pub transfer_of : Float → Float → Log → Log
-transfer_of a b (Value l) = Value ((a ⊗ l ⊕ b) ⊘ thousand)
-transfer_of a b Refused = Refused
+unfoldable pub transfer_of : Float → Float → Option Float → Option Float
+transfer_of a b (Some l) = Some ((a ⊗ l ⊕ b) ⊘ thousand)
+transfer_of a b None = None
 
-unfoldable pub heat_transfer : Float → Float → Float → Float → Log
+unfoldable pub heat_transfer : Float → Float → Float → Float → Option Float
 heat_transfer a b flow reynold = transfer_of a b (ln (reynold ⊗ flow))
 
 -- document 02, Two: 'each counted where it is computed'

@@ -4,7 +4,6 @@
 ghost use Rattle.std.specs.Prelude.{◌≡◌};
 ghost use Rattle.zone_water.specs.Water.{kinematic_viscosity, reynold_number, mass_flow, transfer_of, counted_transfer, outlet_temp, zone_properties};
 
-use floats::Log;
 use zone::Kilojoules;
 
 // The Rust's HeatBatteryPcmOperationMode.
@@ -43,7 +42,8 @@ pub struct ZoneProperties {
 // A heat transfer in kW/K, and the logarithms that were taken for it.
 #[derive(Clone, Copy)]
 pub struct Transfer {
-    pub value: Log,
+    // refused where its logarithm is
+    pub value: Option<f64>,
     pub logarithms: u32,
 }
 
@@ -56,6 +56,7 @@ const SPECIFIC_HEAT_CAPACITY: f64 = 4184.0;
 const JOULES_PER_KILOWATT_HOUR: f64 = 3600000.0;
 
 // m²/s at the mean of inlet and outlet.
+#[tactic(auto, unfolding(crate::specs::Water::kinematic_viscosity))]
 pub fn calculate_water_kinematic_viscosity_m2_per_s(inlet: f64, outlet: f64) -> f64
     ensures { result ≡ kinematic_viscosity inlet outlet }
 {
@@ -63,6 +64,7 @@ pub fn calculate_water_kinematic_viscosity_m2_per_s(inlet: f64, outlet: f64) -> 
     0.000000000145238 * floats::square(mean) - 0.0000000248238 * mean + 0.000001432
 }
 
+#[tactic(auto, unfolding(crate::specs::Water::reynold_number))]
 pub fn calculate_reynold_number_at_1_l_per_min(viscosity: f64, velocity: f64, diameter: f64) -> f64
     ensures { result ≡ reynold_number viscosity velocity diameter }
 {
@@ -70,6 +72,7 @@ pub fn calculate_reynold_number_at_1_l_per_min(viscosity: f64, velocity: f64, di
 }
 
 // kg/s of a flow in l/min.
+#[tactic(auto, unfolding(crate::specs::Water::mass_flow))]
 pub fn mass_flow(flow: f64) -> f64
     ensures { result ≡ mass_flow flow }
 {
@@ -77,16 +80,16 @@ pub fn mass_flow(flow: f64) -> f64
 }
 
 // kW/K by a logarithm; refused where it is.
-fn transfer_of(a: f64, b: f64, log: Log) -> Log
+#[tactic(auto, unfolding(crate::specs::Water::transfer_of))]
+fn transfer_of(a: f64, b: f64, log: Option<f64>) -> Option<f64>
     ensures { result ≡ transfer_of a b log }
 {
-    match log {
-        Log::Value(l) => Log::Value((a * l + b) / floats::WATTS_PER_KILOWATT),
-        Log::Refused => Log::Refused,
-    }
+    let l = log?;
+    Some((a * l + b) / floats::WATTS_PER_KILOWATT)
 }
 
 // kW/K of the whole exchanger, with the one logarithm that is taken here.
+#[tactic(auto, unfolding(crate::specs::Water::counted_transfer, crate::specs::Water::heat_transfer))]
 pub fn calculate_heat_transfer_kw_per_k(a: f64, b: f64, flow: f64, reynold: f64) -> Transfer
     ensures { result ≡ counted_transfer a b flow reynold }
 {
@@ -98,6 +101,7 @@ pub fn calculate_heat_transfer_kw_per_k(a: f64, b: f64, flow: f64, reynold: f64)
     }
 }
 
+#[tactic(auto, using(floats::proofs::Doubling::doubled), unfolding(crate::specs::Water::outlet_temp))]
 pub fn calculate_outlet_temp_c(transfer: f64, zone: f64, inlet: f64, mass: f64) -> f64
     ensures { result ≡ outlet_temp transfer zone inlet mass }
 {
@@ -109,6 +113,7 @@ pub fn calculate_outlet_temp_c(transfer: f64, zone: f64, inlet: f64, mass: f64) 
 }
 
 // The heat that a zone gives up, and its outlet. `inlet` is the water's temperature at the zone, `left` the charger's heat.
+#[tactic(auto, unfolding(crate::specs::Water::zone_properties))]
 pub fn get_zone_properties(
     mode: Mode,
     shared: Shared,

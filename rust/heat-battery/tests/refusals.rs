@@ -35,11 +35,15 @@ fn of_header(line: &str) -> Option<(String, String)> {
     (!other).then(|| (name.to_string(), number.to_string()))
 }
 
-/// `pub const NAME: u8 = NUMBER;`
+/// `Name = NUMBER,`, a case of the enum
 fn of_code(line: &str) -> Option<(String, String)> {
-    let rest = line.strip_prefix("pub const ")?.strip_suffix(';')?;
-    let (name, number) = rest.split_once(": u8 = ")?;
-    (name != "ANSWERED").then(|| (name.to_string(), number.to_string()))
+    let (name, number) = line.trim().strip_suffix(',')?.split_once(" = ")?;
+    number.parse::<u8>().ok()?;
+    let upper = |(i, c): (usize, char)| match i > 0 && c.is_uppercase() {
+        true => format!("_{c}"),
+        false => c.to_uppercase().to_string(),
+    };
+    Some((name.chars().enumerate().map(upper).collect(), number.to_string()))
 }
 
 /// `nameInCamelCase = NUMBER`

@@ -8,68 +8,68 @@ use Rattle.auditor.proofs.Opening.{opening_is, card_slice, card_whole, card_line
 use Rattle.auditor.proofs.Turns.{rest_of}
 use Rattle.auditor.proofs.audit.Goals as goal
 
-pub returns-in-Unfit : goal.returns-in-Unfit
+pub returns-in_default : goal.returns-in_default
 unfolding audit_of
-returns-in-Unfit c =
+returns-in_default c =
     let bs = c.args.sheet.now in
     let first = c.byte_or_zero-version in
-    let unfit = card_line_unfit first.result bs (sym c.in-Unfit.is ∙ c.card_line.ensures) in
-    rw (← first.ensures) (via_true _ _ (sym c.known_version.ensures ∙ c.if-known_version.true) (via_false _ _ unfit refl))
+    let unfit = card_line_unfit first.result bs (sym c.in_default.is ∙ c.card_line.ensures) in
+    rw (← first.ensures) (via_true _ _ (sym c.known_version.ensures ∙ c.if-not-known_version.false) (via_false _ _ unfit refl))
 
 pub slice_bounds-audit_lines-start : goal.slice_bounds-audit_lines-start
 slice_bounds-audit_lines-start c =
     let bs = c.args.sheet.now in
     let version = c.byte_or_zero-version.result in
-    let fit = card_line_fit version bs _ _ (sym c.in-Fit.is ∙ c.card_line.ensures) in
+    let fit = card_line_fit version bs _ (sym c.in-Some.is ∙ c.card_line.ensures) in
     omega (arith, fit.2, opening_is version (drop 3 bs), (card_line_lem version bs fit.0).long)
 
 pub slice_bounds-audit_lines-count : goal.slice_bounds-audit_lines-count
 slice_bounds-audit_lines-count c =
     let bs = c.args.sheet.now in
     let version = c.byte_or_zero-version.result in
-    let fit = card_line_fit version bs _ _ (sym c.in-Fit.is ∙ c.card_line.ensures) in
+    let fit = card_line_fit version bs _ (sym c.in-Some.is ∙ c.card_line.ensures) in
     omega (arith, fit.2, opening_is version (drop 3 bs), (card_line_lem version bs fit.0).long)
 
 pub slice_bounds-audit_lines-end : goal.slice_bounds-audit_lines-end
 slice_bounds-audit_lines-end c =
     let bs = c.args.sheet.now in
     let version = c.byte_or_zero-version.result in
-    let fit = card_line_fit version bs _ _ (sym c.in-Fit.is ∙ c.card_line.ensures) in
+    let fit = card_line_fit version bs _ (sym c.in-Some.is ∙ c.card_line.ensures) in
     omega (arith, fit.2, opening_is version (drop 3 bs), (card_line_lem version bs fit.0).long)
 
-pub slice_bounds-audit_lines-start-in-Fit : goal.slice_bounds-audit_lines-start-in-Fit
-slice_bounds-audit_lines-start-in-Fit c =
+pub slice_bounds-audit_lines-start-2 : goal.slice_bounds-audit_lines-start-2
+slice_bounds-audit_lines-start-2 c =
     let bs = c.args.sheet.now in
     let version = c.byte_or_zero-version.result in
-    let fit = card_line_fit version bs _ _ (sym c.in-Fit.is ∙ c.card_line.ensures) in
+    let fit = card_line_fit version bs _ (sym c.in-Some.is ∙ c.card_line.ensures) in
     omega (arith, fit.2, opening_is version (drop 3 bs), (card_line_lem version bs fit.0).long)
 
-pub slice_bounds-audit_lines-count-in-Fit : goal.slice_bounds-audit_lines-count-in-Fit
-slice_bounds-audit_lines-count-in-Fit c =
+pub slice_bounds-audit_lines-count-2 : goal.slice_bounds-audit_lines-count-2
+slice_bounds-audit_lines-count-2 c =
     let bs = c.args.sheet.now in
     let version = c.byte_or_zero-version.result in
-    let fit = card_line_fit version bs _ _ (sym c.in-Fit.is ∙ c.card_line.ensures) in
+    let fit = card_line_fit version bs _ (sym c.in-Some.is ∙ c.card_line.ensures) in
     omega (arith, fit.2, opening_is version (drop 3 bs), (card_line_lem version bs fit.0).long)
 
 pub audit_lines-requires : goal.audit_lines-requires
 audit_lines-requires c =
     let bs = c.args.sheet.now in
     let version = c.byte_or_zero-version.result in
-    let fit = card_line_fit version bs _ _ (sym c.in-Fit.is ∙ c.card_line.ensures) in
+    let fit = card_line_fit version bs _ (sym c.in-Some.is ∙ c.card_line.ensures) in
     let line = card_line_lem version bs fit.0 in (
       rw fit.1 (fields_accepted version (card_part version bs) line.accepted),
       card_whole version bs _ fit.2 (omega (arith, fit.2, opening_is version (drop 3 bs), line.long)),
     )
 
-pub returns-in-Fit : goal.returns-in-Fit
+pub returns : goal.returns
 unfolding audit_of audit_card
-returns-in-Fit c =
+returns c =
     let bs = c.args.sheet.now in
     let first = c.byte_or_zero-version in
-    let fit = card_line_fit first.result bs _ _ (sym c.in-Fit.is ∙ c.card_line.ensures) in
+    let fit = card_line_fit first.result bs _ (sym c.in-Some.is ∙ c.card_line.ensures) in
     c.audit_lines.ensures
-    ∙ rw (rest_of, card_slice first.result bs _ fit.2, fit.1, fit.2, ← first.ensures) (via_true _ _ (sym c.known_version.ensures ∙ c.if-known_version.true) (via_true _ _ fit.0 refl))
+    ∙ rw (rest_of, card_slice first.result bs _ fit.2, fit.1, fit.2, ← first.ensures) (via_true _ _ (sym c.known_version.ensures ∙ c.if-not-known_version.false) (via_true _ _ fit.0 refl))
 
-pub returns : goal.returns
+pub returns-then-not-known_version : goal.returns-then-not-known_version
 unfolding audit_of
-returns c = rw (← c.byte_or_zero-version.ensures) (via_false _ _ (sym c.known_version.ensures ∙ c.if-known_version.false) refl)
+returns-then-not-known_version c = rw (← c.byte_or_zero-version.ensures) (via_false _ _ (sym c.known_version.ensures ∙ c.if-not-known_version.true) refl)

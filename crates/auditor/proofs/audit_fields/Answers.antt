@@ -3,4 +3,4 @@ use Rattle.auditor.specs.Audit.{verdict_fields}
 use Rattle.auditor.proofs.audit_fields.Goals as goal
 
 pub returns : goal.returns
-returns c = c.verdict_fields.ensures ∙ ap verdict_fields c.audit.ensures
+returns c = c.from.ensures ∙ ap verdict_fields c.audit.ensures

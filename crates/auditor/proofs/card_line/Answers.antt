@@ -1,4 +1,12 @@
-use mathlib.Core.Path.{refl, sym, ◌∙◌, ap}
+use Rattle.std.specs.Prelude.{Option, Some, None, Result, Ok, Err}
+use Rattle.std.specs.Result.{result_ok}
+use mathlib.Core.Bool.{Bool, true, false}
+use lib.Dec.{eqb}
+use borrow.Author.Rules.{rules}
+use Rattle.refusals.specs.declared.Refusal.{Refusal}
+use Rattle.refusals.specs.Number.{refused_number}
+use Rattle.refusals.proofs.Numbers.{number_not_0}
+use mathlib.Core.Path.{◌≡◌, refl, sym, ◌∙◌, ap}
 use Prim.Native.Nat.{◌+◌}
 use native.Mathlib.Omega.{arith}
 use borrow.Author.Tests.{le-leb, lt-leb, eq-eqb, ne_eqb}
@@ -19,23 +27,22 @@ read_card-card-requires c =
     let a = c.args in
     let n = c.card_length-n in
     let end = opening_end a.version a.sheet.now n.result n.ensures.0 in
-    card_whole a.version a.sheet.now (3 + n.result) end c.if-end-sheet.true
+    card_whole a.version a.sheet.now (3 + n.result) end c.if-sheet-end.false
 
-pub refusal-requires : goal.refusal-requires
-refusal-requires c =
+pub check-requires : goal.check-requires
+check-requires c =
     let a = c.args in
     let n = c.card_length-n in
     let end = opening_end a.version a.sheet.now n.result n.ensures.0 in
-    (c.read_card-card.ensures, card_whole a.version a.sheet.now (3 + n.result) end c.if-end-sheet.true)
+    (c.read_card-card.ensures, card_whole a.version a.sheet.now (3 + n.result) end c.if-sheet-end.false)
 
-pub returns-then-refusal-eq0 : goal.returns-then-refusal-eq0
+pub returns-then-sheet-end : goal.returns-then-sheet-end
 unfolding card_line card_line_ok
-returns-then-refusal-eq0 c =
+returns-then-sheet-end c =
     let a = c.args in
     let n = c.card_length-n in
     let end = opening_end a.version a.sheet.now n.result n.ensures.0 in
-    rw (← end, ← card_slice a.version a.sheet.now (3 + n.result) end, ← (n.ensures.0 ∙ ap (card_length a.version) (from_three a.sheet.now)), ← c.read_be-says.ensures, ← c.read_card-card.ensures, ← c.refusal.ensures)
-    (via_true _ _ (sym (via_true _ _ (le-leb _ _ c.if-end-sheet.true) (via_true _ _ (eq-eqb _ _ c.if-says-n.true) (sym (eq-eqb _ _ c.if-refusal-eq0.true))))) refl)
+    rw (← end) (via_false _ _ (sym (via_false _ _ (lt-leb _ _ c.if-sheet-end.true) refl)) refl)
 
 pub returns-then-says-n : goal.returns-then-says-n
 unfolding card_line card_line_ok
@@ -43,17 +50,28 @@ returns-then-says-n c =
     let a = c.args in
     let n = c.card_length-n in
     let end = opening_end a.version a.sheet.now n.result n.ensures.0 in
-    rw (← end, ← card_slice a.version a.sheet.now (3 + n.result) end, ← (n.ensures.0 ∙ ap (card_length a.version) (from_three a.sheet.now)), ← c.read_be-says.ensures, ← c.read_card-card.ensures, ← c.refusal.ensures)
-    (via_false _ _ (sym (via_true _ _ (le-leb _ _ c.if-end-sheet.true) (via_true _ _ (eq-eqb _ _ c.if-says-n.true) (sym (ne_eqb _ _ c.if-refusal-eq0.false))))) refl)
+    rw (← end, ← (n.ensures.0 ∙ ap (card_length a.version) (from_three a.sheet.now)), ← c.read_be-says.ensures)
+    (via_false _ _ (sym (via_true _ _ (le-leb _ _ c.if-sheet-end.false) (via_false _ _ (ne_eqb _ _ c.if-says-n.true) refl))) refl)
 
-pub returns-then-end-sheet : goal.returns-then-end-sheet
+abbrev is_some : Option Unit → Bool
+is_some (Some u) = true
+is_some None = false
+
+-- the number of what is kept as an Option is 0 where there is one
+number_by_ok : (x : Result Unit Refusal) → eqb (refused_number x) 0 ≡ is_some (result_ok x)
+number_by_ok (Ok u) = refl
+number_by_ok (Err r) = number_not_0 r
+
+pub returns-in_err-ok : goal.returns-in_err-ok
 unfolding card_line card_line_ok
-returns-then-end-sheet c =
+returns-in_err-ok c =
     let a = c.args in
     let n = c.card_length-n in
     let end = opening_end a.version a.sheet.now n.result n.ensures.0 in
-    rw (← end, ← (n.ensures.0 ∙ ap (card_length a.version) (from_three a.sheet.now)), ← c.read_be-says.ensures)
-    (via_false _ _ (sym (via_true _ _ (le-leb _ _ c.if-end-sheet.true) (via_false _ _ (ne_eqb _ _ c.if-says-n.false) refl))) refl)
+    let e : c.from_residual.result ≡ None = search rules in
+    let k : eqb (refused_number c.check.result) 0 ≡ false = number_by_ok c.check.result ∙ ap is_some (sym c.in_err-ok.ensures.value) in
+    rw (e, ← end, ← card_slice a.version a.sheet.now (3 + n.result) end, ← (n.ensures.0 ∙ ap (card_length a.version) (from_three a.sheet.now)), ← c.read_be-says.ensures, ← c.read_card-card.ensures, ← c.check.ensures)
+    (via_false _ _ (sym (via_true _ _ (le-leb _ _ c.if-sheet-end.false) (via_true _ _ (eq-eqb _ _ c.if-says-n.false) (sym k)))) refl)
 
 pub returns : goal.returns
 unfolding card_line card_line_ok
@@ -61,4 +79,6 @@ returns c =
     let a = c.args in
     let n = c.card_length-n in
     let end = opening_end a.version a.sheet.now n.result n.ensures.0 in
-    rw (← end) (via_false _ _ (sym (via_false _ _ (lt-leb _ _ c.if-end-sheet.false) refl)) refl)
+    let k : eqb (refused_number c.check.result) 0 ≡ true = number_by_ok c.check.result ∙ ap is_some (sym c.in_ok-ok.ensures.value) in
+    rw (← end, ← card_slice a.version a.sheet.now (3 + n.result) end, ← (n.ensures.0 ∙ ap (card_length a.version) (from_three a.sheet.now)), ← c.read_be-says.ensures, ← c.read_card-card.ensures, ← c.check.ensures)
+    (via_true _ _ (sym (via_true _ _ (le-leb _ _ c.if-sheet-end.false) (via_true _ _ (eq-eqb _ _ c.if-says-n.false) (sym k)))) refl)

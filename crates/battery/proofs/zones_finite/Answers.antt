@@ -1,19 +1,22 @@
 use native.Mathlib.Numerals.{add-one}
-use Rattle.battery.specs.Battery.{zones_finite}
+use borrow.Author.Rules.{rules}
 use mathlib.Core.Path.{◌≡◌, refl, ◌∙◌, ap}
-use native.Mathlib.Omega.{arith}
+use Rattle.floats.proofs.Front.{front_at, front_end}
+use Rattle.battery.specs.Battery.{zones_finite}
 use Rattle.battery.proofs.zones_finite.Goals as goal
 
-pub loop-k-init : goal.loop-k-init
+pub loop-zone-init : goal.loop-zone-init
 unfolding zones_finite
-loop-k-init c = (omega arith, refl)
+loop-zone-init c = refl
 
-pub loop-k-preserved : goal.loop-k-preserved
+pub loop-zone-preserved : goal.loop-zone-preserved
 unfolding zones_finite
-loop-k-preserved c = (omega arith, c.both-ok.ensures ∙ rw (add-one, c.is_finite.ensures, ← c.loop-k.invariant.1))
+loop-zone-preserved c =
+    let l = c.loop-zone in
+    rw (add-one, c.is_finite-ok.ensures, front_at c.args.zones.now c.args.n l.zone-index c.loop-zone-test.true, ← l.invariant) refl
 
 pub returns : goal.returns
 returns c =
-    let l = c.loop-k in
-    let e : l.k ≡ c.args.n = omega arith in
-    l.invariant.1 ∙ ap (zones_finite _) e
+    let l = c.loop-zone in
+    let e : l.zone-index ≡ c.args.n = front_end c.args.zones.now c.args.n l.zone-index 64 (search rules) c.requires l.auto.zone-index-end c.loop-zone-test.false in
+    l.invariant ∙ ap (zones_finite _) e

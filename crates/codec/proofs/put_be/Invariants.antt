@@ -1,4 +1,4 @@
-use Prim.Native.Nat.{◌≤◌}
+use Prim.Native.Nat.{◌-◌}
 use mathlib.Core.Path.{◌≡◌}
 use lib.ListN.{length}
 use lib.Seq.{sets}
@@ -6,7 +6,4 @@ use Rattle.codec.specs.Bytes.{be_bytes}
 use Rattle.codec.proofs.put_be.Given as goal
 
 abbrev pub invariant-loop-i : goal.invariant-loop-i
-invariant-loop-i l = (l.i ≤ l.w) × (length l.bytes ≡ length l.initial.bytes) × (sets l.initial.bytes l.at (be_bytes l.w l.x) ≡ sets l.bytes l.at (be_bytes l.i l.y))
-
-abbrev pub decreases-loop-i : goal.decreases-loop-i
-decreases-loop-i l = l.i
+invariant-loop-i l = (length l.bytes ≡ length l.initial.bytes) × (sets l.initial.bytes l.at (be_bytes l.w l.x) ≡ sets l.bytes l.at (be_bytes (l.w - l.i) l.y))

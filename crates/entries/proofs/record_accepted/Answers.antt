@@ -1,4 +1,5 @@
 use native.Mathlib.Omega.{arith}
+use mathlib.Core.Path.{refl}
 use Rattle.card.proofs.Accepted.{accepted_layers}
 use Rattle.entries.proofs.Checked.{finite_decides}
 use Rattle.entries.proofs.record_accepted.Goals as goal
@@ -8,4 +9,4 @@ zones_finite-requires c = omega (arith, (accepted_layers c.args.version c.args.b
 
 pub returns : goal.returns
 returns c =
-    rw (finite_decides c.args.version c.args.battery c.requires.0 c.requires.1, ← c.zones_finite.ensures, ← c.totals_finite.ensures) c.both.ensures
+    rw (finite_decides c.args.version c.args.battery c.requires.0 c.requires.1, ← c.zones_finite.ensures, ← c.totals.ensures, ← c.totals_finite.ensures) refl

@@ -1,14 +1,15 @@
+use Rattle.std.specs.Prelude.{Some}
 use mathlib.Core.Path.{◌≡◌, refl, sym, ◌∙◌, ap}
 use mathlib.Core.List.{List}
 use Prim.Native.Nat.{ℕ, ◌<◌}
 use native.Mathlib.Omega.{arith}
 use lib.ListN.{length, get_or}
+use Rattle.std.proofs.Math.Nat.{le_refl}
 use Rattle.battery.specs.declared.Call.{Call}
 use Rattle.sheet_calls.specs.Calls.{call_of}
-use Rattle.sheet_calls.specs.declared.ReadCall.TheVariants.{Good}
 use Rattle.sheet_calls.proofs.CallLaws.{call_length_lem}
 use Rattle.sheet_calls.proofs.Places.{call_short}
-use Rattle.sheet_calls.proofs.ByKind.{kind_fits, read_by_kind}
+use Rattle.sheet_calls.proofs.ByKind.{kind_fits, read_by_kind, none_by_kind}
 use Rattle.engine.proofs.AdvanceKeeps.{advance_keeps_card}
 use Rattle.card.proofs.Accepted.{accepted_layers}
 use Rattle.battery.specs.declared.Battery.{Battery}
@@ -32,15 +33,24 @@ module _ (version : ℕ) where
   answer_is rec b a call e f = f ∙ ap (λ (x : Battery). advance_of version x call) e
 
   -- a call that is read fits a line
-  read_short : (services : List Service) (call : List ℕ) (c : Call) → call_of version services call ≡ Good c → length call < 65536
+  read_short : (services : List Service) (call : List ℕ) (c : Call) → call_of version services call ≡ Some c → length call < 65536
   read_short services call c h = omega (arith, call_length_lem version services call c h, call_short version (get_or call 0 0))
+
+pub returns-in_default : goal.returns-in_default
+unfolding entry_read
+returns-in_default c =
+    let a = c.args in
+    rw (none_by_kind a.version (services_at a.version a.«record».now) a.call.now c.in_default.ensures) (record { code_is = refl; record_is = refl; sheet_is = refl })
+
+pub invariant_of-listed : goal.invariant_of-listed
+invariant_of-listed c = record { fits = (record_laid_lem c.args.version c.args.«record».now c.requires.0).card_there }
 
 pub demand_class-class-requires : goal.demand_class-class-requires
 demand_class-class-requires c =
-    ((record_laid_lem c.args.version c.args.«record».now c.requires.0).card_there, rw c.kind_of-kind.ensures (kind_fits c.args.version c.args.call.now))
+    (le_refl _, rw c.in-Some.ensures (kind_fits c.args.version c.args.call.now))
 
-pub call_by-read-requires : goal.call_by-read-requires
-call_by-read-requires c = let a = c.args in rw c.kind_of-kind.ensures (kind_fits a.version a.call.now)
+pub call_by-requires : goal.call_by-requires
+call_by-requires c = let a = c.args in rw c.in-Some.ensures (kind_fits a.version a.call.now)
 
 pub advance-a-requires : goal.advance-a-requires
 advance-a-requires c = c.requires.2
@@ -53,19 +63,19 @@ enter-requires c =
     let l = record_laid_lem a.version rec c.requires.0 in
     let e = answer_card a.version rec a.battery c.advance-a.result _ c.requires.1 c.advance-a.ensures in (
       rw e (accepted_layers a.version (card_at a.version rec) (fields_accepted a.version rec l.card_accepted)).1,
-      read_short a.version (services_at a.version rec) a.call.now _ (sym (read_by_kind a.version (services_at a.version a.«record».now) a.call.now _ _ _ c.kind_of-kind.ensures c.demand_class-class.ensures c.call_by-read.ensures) ∙ c.in-Good.is),
+      read_short a.version (services_at a.version rec) a.call.now _ (sym (read_by_kind a.version (services_at a.version a.«record».now) a.call.now _ _ _ c.in-Some.ensures c.demand_class-class.ensures c.call_by.ensures) ∙ c.in-Some-call_by.is),
       rw e l.long,
     )
 
-pub returns-in-Bad : goal.returns-in-Bad
+pub returns-in_default-call_by : goal.returns-in_default-call_by
 unfolding entry_read
-returns-in-Bad c =
+returns-in_default-call_by c =
     let a = c.args in
-    rw (← (read_by_kind a.version (services_at a.version a.«record».now) a.call.now _ _ _ c.kind_of-kind.ensures c.demand_class-class.ensures c.call_by-read.ensures), c.in-Bad.is) (record { code_is = refl; record_is = refl; sheet_is = refl })
+    rw (← (read_by_kind a.version (services_at a.version a.«record».now) a.call.now _ _ _ c.in-Some.ensures c.demand_class-class.ensures c.call_by.ensures), c.in_default-call_by.is) (record { code_is = refl; record_is = refl; sheet_is = refl })
 
-pub returns-in-Good : goal.returns-in-Good
+pub returns : goal.returns
 unfolding entry_read
-returns-in-Good c =
+returns c =
     let a = c.args in
-    rw (← (read_by_kind a.version (services_at a.version a.«record».now) a.call.now _ _ _ c.kind_of-kind.ensures c.demand_class-class.ensures c.call_by-read.ensures), c.in-Good.is, ← (answer_is a.version a.«record».now a.battery c.advance-a.result _ c.requires.1 c.advance-a.ensures))
+    rw (← (read_by_kind a.version (services_at a.version a.«record».now) a.call.now _ _ _ c.in-Some.ensures c.demand_class-class.ensures c.call_by.ensures), c.in-Some-call_by.is, ← (answer_is a.version a.«record».now a.battery c.advance-a.result _ c.requires.1 c.advance-a.ensures))
     c.enter.ensures

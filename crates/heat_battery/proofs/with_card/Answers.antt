@@ -23,15 +23,15 @@ record_accepted-requires c =
     rw c.read_record-b.ensures (fields_accepted c.args.version c.args.«record».now (record_laid_lem c.args.version c.args.«record».now c.requires.0).card_accepted, refl)
 
 pub advance-requires : goal.advance-requires
-advance-requires c = (c.requires.0, c.read_record-b.ensures, sym c.record_accepted.ensures ∙ c.if-record_accepted.true)
-
-pub returns-then-record_accepted : goal.returns-then-record_accepted
-returns-then-record_accepted c = c.advance.ensures
+advance-requires c = (c.requires.0, c.read_record-b.ensures, sym c.record_accepted.ensures ∙ c.if-not-record_accepted.false)
 
 pub returns : goal.returns
-returns c =
+returns c = c.advance.ensures
+
+pub returns-then-not-record_accepted : goal.returns-then-not-record_accepted
+returns-then-not-record_accepted c =
     let a = c.args in
     let n : battery_accepted a.version (record_of a.version a.«record».now) ≡ false =
-    rw (← c.read_record-b.ensures) (sym c.record_accepted.ensures ∙ c.if-record_accepted.false) in
+    rw (← c.read_record-b.ensures) (sym c.record_accepted.ensures ∙ c.if-not-record_accepted.true) in
     rw (read_not_accepted a.version a.«record».now a.call.now a.sheet.now n (call_of a.version (services_at a.version a.«record».now) a.call.now))
     (record { code_is = refl; record_is = refl; sheet_is = refl })

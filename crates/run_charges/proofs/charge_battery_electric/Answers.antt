@@ -1,3 +1,4 @@
+use native.Mathlib.Omega.{arith}
 use mathlib.Core.Path.{ap}
 use Rattle.substep.specs.declared.SubstepInput.{SubstepInput}
 use Rattle.runs.specs.Charge.{electric_ended, electric_input, charge_electric}
@@ -7,9 +8,9 @@ use Rattle.run_charges.proofs.charge_battery_electric.Goals as goal
 
 pub charge_in_place-u-requires : goal.charge_in_place-u-requires
 unfolding electric_input
-charge_in_place-u-requires c = let p = c.requires in (p.0, (p.1.0, ap (λ (d : SubstepInput). d.mode) c.electric_input-input.ensures))
+charge_in_place-u-requires g c = (omega arith, (c.args.lent.own.0, ap (λ (d : SubstepInput). d.mode) c.electric_input-input.ensures))
 
 pub returns : goal.returns
 unfolding charge_electric
-returns c =
-    rw (← (salts_at _ _ _ c.requires.1.1), ← c.derived-pcm.ensures, ← c.electric_input-input.ensures) (one_substep (electric_ended c.args.ledger) _ _ _ _ _ _ _ _ c.charge_in_place-u.ensures c.electric_ended.ensures)
+returns g c =
+    rw (← (salts_at _ _ _ c.args.lent.own.1.1), ← c.derived-pcm.ensures, ← c.electric_input-input.ensures) (one_substep (electric_ended c.args.lent.ledger) _ _ _ _ _ _ _ _ c.charge_in_place-u.ensures c.electric_ended.ensures)

@@ -1,7 +1,4 @@
 use native.Mathlib.Omega.{arith}
-use mathlib.Core.Path.{refl}
-use Rattle.logic.proofs.Branch.{via_true, via_false}
-use Rattle.sheet_calls.specs.Calls.{demand_call}
 use Rattle.sheet_calls.proofs.Places.{commit_place_lem, demand_fits}
 use Rattle.sheet_calls.proofs.demand_call.Goals as goal
 
@@ -13,14 +10,6 @@ bounds-bytes-commit-2 c = omega (arith, demand_fits _ _ c.requires, c.commit_pla
 
 pub mark_ok-requires : goal.mark_ok-requires
 mark_ok-requires c = omega (arith, demand_fits _ _ c.requires, c.commit_place-commit.ensures)
-
-pub returns-then-all_three : goal.returns-then-all_three
-unfolding demand_call
-returns-then-all_three c = rw (← c.commit_place-commit.ensures, ← c.mark_ok.ensures, ← c.all_three.ensures, ← c.read_demand.ensures) (via_true _ _ c.if-all_three.true refl)
-
-pub returns : goal.returns
-unfolding demand_call
-returns c = rw (← c.commit_place-commit.ensures, ← c.mark_ok.ensures, ← c.all_three.ensures) (via_false _ _ c.if-all_three.false refl)
 
 pub overflow_add-commit : goal.overflow_add-commit
 overflow_add-commit c = omega (arith, c.commit_place-commit.ensures, (commit_place_lem c.args.version).1)

@@ -1,12 +1,9 @@
-use Rattle.sheet_records.specs.Records.{zones_bytes}
-use Rattle.codec.proofs.Puts.{Written}
-use lib.ListN.{length}
-use Prim.Native.Nat.{◌*◌, ◌≤◌, ◌-◌, ◌+◌}
 use mathlib.Core.Path.{◌≡◌}
+use Prim.Native.Nat.{◌*◌, ◌+◌}
+use lib.ListN.{length}
+use Rattle.codec.proofs.Puts.{Written}
+use Rattle.sheet_records.specs.Records.{zones_bytes}
 use Rattle.sheet_records.proofs.put_zones.Given as goal
 
-abbrev pub invariant-loop-k : goal.invariant-loop-k
-invariant-loop-k l = (l.k ≤ l.n) × (l.p ≡ l.at + 8 * l.k) × (length l.bytes ≡ length l.initial.bytes) × Written l.initial.bytes l.at (zones_bytes l.zones l.k) l.p l.bytes
-
-abbrev pub decreases-loop-k : goal.decreases-loop-k
-decreases-loop-k l = l.n - l.k
+abbrev pub invariant-loop-zone : goal.invariant-loop-zone
+invariant-loop-zone l = (l.p ≡ l.at + 8 * l.zone-index) × (length l.bytes ≡ length l.initial.bytes) × Written l.initial.bytes l.at (zones_bytes l.fn.zones l.zone-index) l.p l.bytes

@@ -11,7 +11,9 @@ use Rattle.auditor.specs.Audit.{audit_lines}
 use Rattle.sheet_lines.specs.Answers.{same_number, agrees, answer_at}
 use Rattle.sheet_records.specs.Cards.{services_at}
 use Rattle.sheet_records.specs.Records.{state_at}
-use Rattle.auditor.proofs.Turns.{turn_bad, turn_out, turn_differs, turn_next, at_end, head_read, rest_less, walked_on}
+use Rattle.sheet_lines.specs.Front.{head_numbers}
+use Rattle.sheet_lines.proofs.Fronts.{headed}
+use Rattle.auditor.proofs.Turns.{some_left, none_left, turn_bad, turn_out, turn_differs, turn_next, at_end, no_head, rest_less, walked_on}
 use Rattle.auditor.proofs.Walks.{own_fresh, advanced_own}
 use Rattle.auditor.proofs.lines.audit_lines.Goals as goal
 
@@ -27,32 +29,37 @@ loop-rest-init c =
     )
 
 pub line_call-requires : goal.line_call-requires
-line_call-requires c = (c.line_head-head.ensures, c.requires.1)
+line_call-requires c = (ap head_numbers (sym c.in-Some.is) ∙ c.line_head.ensures, c.requires.1)
 
-pub returns-in-Bad : goal.returns-in-Bad
-returns-in-Bad c =
+pub returns-in_default : goal.returns-in_default
+returns-in_default c =
     let a = c.args in
     let l = c.loop-rest in
-    let read = sym c.line_call.ensures ∙ c.in-Bad.is in
-    sym (turn_bad same_number a.version (services_at a.version a.line0.now) a.card l.b l.k l.rest.now _ c.loop-rest-test.true l.invariant.0.1 read)
+    let read = no_head a.version (services_at a.version a.line0.now) a.card l.rest.now (ap head_numbers (sym c.in_default.is) ∙ c.line_head.ensures) in
+    sym (turn_bad same_number a.version (services_at a.version a.line0.now) a.card l.b l.k l.rest.now _ (some_left _ _ c.is_empty.ensures c.loop-rest-test.true) l.invariant.0.1 read)
+
+pub returns-in_default-line_call : goal.returns-in_default-line_call
+returns-in_default-line_call c =
+    let a = c.args in
+    let l = c.loop-rest in
+    let read = sym c.line_call.ensures ∙ c.in_default-line_call.is in
+    sym (turn_bad same_number a.version (services_at a.version a.line0.now) a.card l.b l.k l.rest.now _ (some_left _ _ c.is_empty.ensures c.loop-rest-test.true) l.invariant.0.1 read)
 
 pub advance-own-requires : goal.advance-own-requires
 advance-own-requires c = c.loop-rest.invariant.1.good.accepted
 
-pub returns-then-own-eq-BAD_CALL : goal.returns-then-own-eq-BAD_CALL
-returns-then-own-eq-BAD_CALL c =
+pub returns-then-own-number : goal.returns-then-own-number
+returns-then-own-number c =
     let a = c.args in
     let l = c.loop-rest in
     let own = c.advance-own in
-    let read = sym c.line_call.ensures ∙ c.in-Good.is in
-    sym (turn_out same_number a.version (services_at a.version a.line0.now) a.card l.b l.k l.rest.now _ c.loop-rest-test.true l.invariant.0.1 _ read own.result own.ensures c.if-own-eq-BAD_CALL.true)
+    let read = sym c.line_call.ensures ∙ c.in-Some-line_call.is in
+    sym (turn_out same_number a.version (services_at a.version a.line0.now) a.card l.b l.k l.rest.now _ (some_left _ _ c.is_empty.ensures c.loop-rest-test.true) l.invariant.0.1 _ read own.result own.ensures (c.if-own-number.true ∙ c.number.ensures))
 
 pub line_answer-seen-requires : goal.line_answer-seen-requires
 line_answer-seen-requires c =
     let a = c.args in
-    let front = c.line_head-head in
-    let read = sym c.line_call.ensures ∙ c.in-Good.is in
-    ((accepted_layers _ _ c.requires.0).1, front.ensures, (head_read a.version (services_at a.version a.line0.now) a.card c.loop-rest.rest.now front.result front.ensures _ read).ok)
+    ((accepted_layers _ _ c.requires.0).1, ap head_numbers (sym c.in-Some.is) ∙ c.line_head.ensures)
 
 pub answers_agree-requires : goal.answers_agree-requires
 unfolding answer_at state_at
@@ -61,69 +68,60 @@ answers_agree-requires c = rw c.line_answer-seen.ensures (accepted_layers _ _ c.
 pub slice_bounds-rest-start : goal.slice_bounds-rest-start
 slice_bounds-rest-start c =
     let a = c.args in
-    let front = c.line_head-head in
-    let read = sym c.line_call.ensures ∙ c.in-Good.is in
-    let head = head_read a.version (services_at a.version a.line0.now) a.card c.loop-rest.rest.now front.result front.ensures _ read in
+    let head = headed a.version a.card c.loop-rest.rest.now _ (ap head_numbers (sym c.in-Some.is) ∙ c.line_head.ensures) in
     omega (arith, head.inside)
 
 pub slice_bounds-rest-count : goal.slice_bounds-rest-count
 slice_bounds-rest-count c =
     let a = c.args in
-    let front = c.line_head-head in
-    let read = sym c.line_call.ensures ∙ c.in-Good.is in
-    let head = head_read a.version (services_at a.version a.line0.now) a.card c.loop-rest.rest.now front.result front.ensures _ read in
+    let head = headed a.version a.card c.loop-rest.rest.now _ (ap head_numbers (sym c.in-Some.is) ∙ c.line_head.ensures) in
     omega (arith, head.inside)
 
 pub slice_bounds-rest-end : goal.slice_bounds-rest-end
 slice_bounds-rest-end c =
     let a = c.args in
-    let front = c.line_head-head in
-    let read = sym c.line_call.ensures ∙ c.in-Good.is in
-    let head = head_read a.version (services_at a.version a.line0.now) a.card c.loop-rest.rest.now front.result front.ensures _ read in
+    let head = headed a.version a.card c.loop-rest.rest.now _ (ap head_numbers (sym c.in-Some.is) ∙ c.line_head.ensures) in
     omega (arith, head.inside)
 
-pub overflow_add-k : goal.overflow_add-k
-overflow_add-k c =
+pub overflow_add-line : goal.overflow_add-line
+overflow_add-line c =
     let l = c.loop-rest in
-    let k : l.k + 1 ≤ length c.args.bytes.now = omega (arith, l.invariant.0.0, c.loop-rest-test.true) in
+    let k : l.k + 1 ≤ length c.args.bytes.now = omega (arith, l.invariant.0.0, (some_left _ _ c.is_empty.ensures c.loop-rest-test.true)) in
     omega (arith, k, c.well_formed)
 
 pub loop-rest-smaller : goal.loop-rest-smaller
 loop-rest-smaller c =
     let a = c.args in
     let t = c.loop-rest.rest.now in
-    let front = c.line_head-head in
-    let read = sym c.line_call.ensures ∙ c.in-Good.is in
-    let head = head_read a.version (services_at a.version a.line0.now) a.card t front.result front.ensures _ read in
-    rest_less t front.result.size (omega (arith, head.inside)) head.inside.1
+    let head = headed a.version a.card t _ (ap head_numbers (sym c.in-Some.is) ∙ c.line_head.ensures) in
+    rest_less t c.in-Some.head.size (omega (arith, head.inside)) head.inside.1
 
 pub loop-rest-preserved : goal.loop-rest-preserved
 loop-rest-preserved c =
     let a = c.args in
     let l = c.loop-rest in
     let own = c.advance-own in
-    let front = c.line_head-head in
-    let read = sym c.line_call.ensures ∙ c.in-Good.is in
-    let head = head_read a.version (services_at a.version a.line0.now) a.card l.rest.now front.result front.ensures _ read in (
-      walked_on same_number a.version (services_at a.version a.line0.now) a.card a.bytes.now l.rest.now _ l.b _ l.k front.result.size
+    let read = sym c.line_call.ensures ∙ c.in-Some-line_call.is in
+    let head = headed a.version a.card l.rest.now _ (ap head_numbers (sym c.in-Some.is) ∙ c.line_head.ensures) in (
+      walked_on same_number a.version (services_at a.version a.line0.now) a.card a.bytes.now l.rest.now _ l.b _ l.k c.in-Some.head.size
           l.invariant.0 (omega (arith, head.inside)) head.inside.1 head.follows
-          (turn_next same_number a.version (services_at a.version a.line0.now) a.card l.b l.k l.rest.now _ c.loop-rest-test.true l.invariant.0.1 _ read own.result own.ensures c.if-own-eq-BAD_CALL.false
-          (ap (λ (x : Answer). agrees same_number x own.result) (sym c.line_answer-seen.ensures) ∙ sym c.answers_agree.ensures ∙ c.if-answers_agree.true)),
+          (turn_next same_number a.version (services_at a.version a.line0.now) a.card l.b l.k l.rest.now _ (some_left _ _ c.is_empty.ensures c.loop-rest-test.true) l.invariant.0.1 _ read own.result own.ensures (λ e. c.if-own-number.false (e ∙ sym c.number.ensures))
+          (ap (λ (x : Answer). agrees same_number x own.result) (sym c.line_answer-seen.ensures) ∙ sym c.answers_agree.ensures ∙ c.if-not-answers_agree.false)),
       rw own.ensures (advanced_own a.version a.card l.b l.invariant.1 _),
     )
 
-pub returns-else-answers_agree : goal.returns-else-answers_agree
-returns-else-answers_agree c =
+pub returns-then-not-answers_agree : goal.returns-then-not-answers_agree
+returns-then-not-answers_agree c =
     let a = c.args in
     let l = c.loop-rest in
     let own = c.advance-own in
-    let read = sym c.line_call.ensures ∙ c.in-Good.is in
+    let read = sym c.line_call.ensures ∙ c.in-Some-line_call.is in
     sym
-    (turn_differs same_number a.version (services_at a.version a.line0.now) a.card l.b l.k l.rest.now _ c.loop-rest-test.true l.invariant.0.1 _ read own.result own.ensures c.if-own-eq-BAD_CALL.false
-    (ap (λ (x : Answer). agrees same_number x own.result) (sym c.line_answer-seen.ensures) ∙ sym c.answers_agree.ensures ∙ c.if-answers_agree.false))
+    (turn_differs same_number a.version (services_at a.version a.line0.now) a.card l.b l.k l.rest.now _ (some_left _ _ c.is_empty.ensures c.loop-rest-test.true) l.invariant.0.1 _ read own.result own.ensures (λ e. c.if-own-number.false (e ∙ sym c.number.ensures))
+    (ap (λ (x : Answer). agrees same_number x own.result) (sym c.line_answer-seen.ensures) ∙ sym c.answers_agree.ensures ∙ c.if-not-answers_agree.true))
 
 pub returns : goal.returns
 returns c =
     let a = c.args in
     let l = c.loop-rest in
-    sym (at_end same_number a.version (services_at a.version a.line0.now) a.card l.b l.k l.rest.now _ (omega arith) l.invariant.0.1)
+    sym (at_end same_number a.version (services_at a.version a.line0.now) a.card l.b l.k l.rest.now _ (none_left _ _ c.is_empty.ensures c.loop-rest-test.false) l.invariant.0.1)

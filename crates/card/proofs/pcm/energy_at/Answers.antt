@@ -2,11 +2,11 @@ use Rattle.zone.proofs.Salts.{salts_one, salts_each}
 use Rattle.card.specs.Derived.{energy_at}
 use Rattle.card.proofs.pcm.energy_at.Goals as goal
 
-pub returns-then-step-eq0 : goal.returns-then-step-eq0
+pub returns-then-this-eq0 : goal.returns-then-this-eq0
 unfolding energy_at
-returns-then-step-eq0 c =
-    rw (salts_one _ _ c.if-step-eq0.true, ← c.zone_salt-salt.ensures, ← c.calculate_layer_energy_stored-layer.ensures)
+returns-then-this-eq0 g c =
+    rw (salts_one _ _ c.if-this-eq0.true, ← c.zone-salt.ensures, ← c.calculate_layer_energy_stored-layer.ensures)
 
 pub returns : goal.returns
 unfolding energy_at
-returns c = rw (salts_each _ _ c.if-step-eq0.false) c.stored_energy.ensures
+returns g c = rw (salts_each _ _ c.if-this-eq0.false) c.stored_energy.ensures

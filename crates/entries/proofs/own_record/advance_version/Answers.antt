@@ -1,4 +1,4 @@
-use mathlib.Core.Path.{refl, sym, ◌∙◌}
+use mathlib.Core.Path.{sym, ◌∙◌}
 use Rattle.logic.proofs.Branch.{via_true, via_false}
 use Rattle.engine_replies.proofs.Settled.{settled_refusal}
 use Rattle.entries.specs.Record.{answer_own}
@@ -10,5 +10,4 @@ returns-then-known_version c = via_true _ _ (sym c.known_version.ensures ∙ c.i
 
 pub returns : goal.returns
 unfolding answer_own
-returns c =
-    via_false _ _ (sym c.known_version.ensures ∙ c.if-known_version.false) (settled_refusal _ _ _ _ 40 c.refused_reply.ensures refl)
+returns c = via_false _ _ (sym c.known_version.ensures ∙ c.if-known_version.false) (settled_refusal _ _ _ _)

@@ -10,7 +10,7 @@ loop-k-init c = (omega arith, refl)
 
 pub loop-k-preserved : goal.loop-k-preserved
 unfolding same_zones
-loop-k-preserved c = (omega arith, c.both-ok.ensures ∙ rw (add-one, c.same_number.ensures, ← c.loop-k.invariant.1))
+loop-k-preserved c = (omega arith, rw (add-one, c.same_number-ok.ensures, ← c.loop-k.invariant.1) refl)
 
 pub returns : goal.returns
 returns c =
