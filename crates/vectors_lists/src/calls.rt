@@ -46,7 +46,7 @@ fn energy_demand(words: Words<'_>) -> Call {
     Call::ChargeEnergyDemand(most, words.number(3))
 }
 
-// The call and the answer's first word, where the kind is known.
+// The call and the answer's first word, where the kind is known. By the number and not by the sheet's `Kind`: one match tells both, and the crate needs no sheet.
 pub fn read(words: Words<'_>) -> Option<(Call, usize)>
     ensures { IfSome result (λ call. call.1 ≤ 16) }
 {

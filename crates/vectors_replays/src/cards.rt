@@ -18,10 +18,10 @@ fn derived_is(words: Words<'_>, card: Card) -> bool {
 
 pub fn card(words: Words<'_>) -> bool {
     let card = words.card();
-    let refusal = refusals::refused_number(card::verdict::check(VERSION, card));
-    let first = words.has(30) & words.word_is(23, refusal as u64);
-    if refusal == 0 {
-        return first & derived_is(words, card);
+    let verdict = card::verdict::check(VERSION, card);
+    let first = words.has(30) & words.word_is(23, refusals::refused_number(verdict) as u64);
+    match verdict {
+        Ok(()) => first & derived_is(words, card),
+        Err(_) => first & words.numbers_are(24, &[0.0; 6]),
     }
-    first & words.numbers_are(24, &[0.0; 6])
 }

@@ -42,8 +42,11 @@ pub fn outlet(words: Words<'_>) -> bool {
     words.ends_with(4, r)
 }
 
-fn properties_are(words: Words<'_>, mark: u64, properties: ZoneProperties) -> bool {
-    words.marked_is(33, mark, properties.energy.0) & words.ends_with(35, properties.outlet)
+// A mark, energy and outlet; all 0 where the logarithm is refused.
+fn properties_are(words: Words<'_>, properties: Option<ZoneProperties>) -> bool {
+    let energy = properties.map(|p| p.energy.0);
+    let outlet = properties.map_or(0.0, |p| p.outlet);
+    words.option_is(33, energy) & words.ends_with(35, outlet)
 }
 
 // Of a zone with its share of the heat transfer.
@@ -66,26 +69,12 @@ fn properties(words: Words<'_>, card: Card, mode: Mode, share: f64) -> ZonePrope
 pub fn zone_properties(words: Words<'_>) -> bool {
     let card = words.rest().card();
     let mode = crate::mode_of(words.word(0));
-    match mode {
-        Mode::OnlyCharging => properties_are(words, 1, properties(words, card, mode, 0.0)),
-        Mode::Losses => properties_are(words, 1, properties(words, card, mode, 0.0)),
-        Mode::Normal => normal_properties(words, card),
-    }
-}
-
-fn normal_properties(words: Words<'_>, card: Card) -> bool {
-    match transfer(words, 31, 32, 30, 28) {
-        Some(whole) => {
-            let share = whole / (card.layers as f64);
-            properties_are(words, 1, properties(words, card, Mode::Normal, share))
-        }
-        None => {
-            let nothing = ZoneProperties {
-                energy: Kilojoules(0.0),
-                outlet: 0.0,
-                logarithms: 0,
-            };
-            properties_are(words, 0, nothing)
-        }
-    }
+    let share = match mode {
+        Mode::OnlyCharging | Mode::Losses => Some(0.0),
+        Mode::Normal => transfer(words, 31, 32, 30, 28).map(|whole| whole / (card.layers as f64)),
+    };
+    properties_are(
+        words,
+        share.map(|share| properties(words, card, mode, share)),
+    )
 }
