@@ -14,18 +14,19 @@ use auditor::Verdict;
 use std::io::{Read, Write};
 
 // Writes a number's decimal digits from a place on, and returns the place after them.
-// No `Display`: `write!` to lent bytes promises nothing of them, and this one promises which they are and that those after them stay.
+// No `Display`, here and below: `write!` to lent bytes promises nothing of them, and these promise which they are and that those after them stay.
+#[tactic(auto, using(crate::proofs::Texts::few_digits, crate::proofs::Texts::spelled))]
 fn put_decimal(out: &mut [u8], at: usize, n: u64) -> usize
     requires { at + 20 ≤ length out.old }
     ensures { (result ≡ at + length (decimal n)) × (out.new ≡ sets out.old at (decimal n)) }
 {
+    // an array, as there is no heap: the longest number has 20 digits
     let mut text = [0u8; 20];
     let k = io::decimal(n, &mut text);
     codec::put_bytes(out, at, &text[..k])
 }
 
-fn put_accepted(out: &mut [u8], n: u64) -> usize
-    requires { 64 ≤ length out.old }
+fn put_accepted(out: &mut [u8; 64], n: u64) -> usize
     ensures { (result ≡ length (says_accepted n)) × (out.new ≡ over (says_accepted n) out.old) }
 {
     let p = codec::put_bytes(out, 0, b"accepted ");
@@ -33,8 +34,8 @@ fn put_accepted(out: &mut [u8], n: u64) -> usize
     codec::put_bytes(out, q, b"\n")
 }
 
-fn put_refused(out: &mut [u8], refusal: u64, index: u64) -> usize
-    requires { 64 ≤ length out.old }
+// Numbers and no `Refused`: the definition of the text has them.
+fn put_refused(out: &mut [u8; 64], refusal: u64, index: u64) -> usize
     ensures { (result ≡ length (says_refused refusal index)) × (out.new ≡ over (says_refused refusal index) out.old) }
 {
     let p = codec::put_bytes(out, 0, b"refused ");
@@ -44,8 +45,8 @@ fn put_refused(out: &mut [u8], refusal: u64, index: u64) -> usize
     codec::put_bytes(out, t, b"\n")
 }
 
-fn put_verdict(out: &mut [u8], verdict: Verdict) -> usize
-    requires { 64 ≤ length out.old }
+#[tactic(auto, using(crate::proofs::Texts::says_accepted_lem, crate::proofs::Texts::says_refused_lem))]
+fn put_verdict(out: &mut [u8; 64], verdict: Verdict) -> usize
     ensures { (result ≡ length (says (numbered verdict))) × (out.new ≡ over (says (numbered verdict)) out.old) }
 {
     match verdict {
@@ -64,10 +65,11 @@ pub fn report(sheet: &[u8], out: &mut [u8; 64]) -> usize
 }
 
 // Reads a sheet of at most 65,536 bytes and writes the report on it.
+#[tactic(auto, using(crate::proofs::Texts::taken))]
 pub fn report_on<R: Read, W: Write>(reader: &mut R, out: &mut W) -> std::io::Result<()>
     ensures { OnOk result (Reports (R.remaining reader.old) (R.remaining reader.new) (W.contents out.old) (W.contents out.new)) }
 {
-    // one byte more than the limit, so that a longer sheet is seen
+    // No heap, so arrays: one byte more than the limit, so that a longer sheet is seen, and 64 for the longest report.
     let mut sheet = [0u8; 65537];
     let n = reading::read_full(reader, &mut sheet)?;
     let mut line = [0u8; 64];

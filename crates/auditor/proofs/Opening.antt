@@ -81,6 +81,13 @@ module _ (version : ℕ) (bs : List ℕ) where
   unfolding card_line
   card_line_fit line e = let f = fit_by (card_line_ok version bs) _ line e in (f.0, rw f.1, rw f.1)
 
+  -- it lies in the sheet
+  pub card_line_inside : (line : CardLine) → Some line ≡ card_line version bs → (3 ≤ line.end) × (line.end ≤ length bs)
+  card_line_inside line e =
+      let fit = card_line_fit line e in
+      let l = (card_line_lem version bs fit.0).long in
+      (omega (arith, fit.2, opening_is version (drop 3 bs)), omega (arith, l, fit.2, opening_is version (drop 3 bs)))
+
   pub card_line_unfit : None ≡ card_line version bs → card_line_ok version bs ≡ false
   unfolding card_line
   card_line_unfit = unfit_by (card_line_ok version bs) _

@@ -11,6 +11,7 @@ ghost use Rattle.auditor.specs.Verdicts.{numbered};
 
 use card::Card;
 use refusals::Refusal;
+use sheet_records::cards::CardBytes;
 
 // Why a sheet is refused, and the index of the line that is.
 #[derive(Clone, Copy)]
@@ -42,6 +43,7 @@ pub struct AuditVerdict {
 impl From<Verdict> for AuditVerdict {
     ghost from_gives = { λ verdict fields. fields ≡ verdict_fields (numbered verdict) };
 
+    #[tactic(auto, unfolding(crate::specs::Audit::verdict_fields))]
     fn from(verdict: Verdict) -> AuditVerdict {
         match verdict {
             Ok(n) => AuditVerdict {
@@ -75,8 +77,12 @@ fn card_line(version: u8, sheet: &[u8]) -> Option<CardLine>
     if says != (n as u64) {
         return None;
     }
-    let card = sheet_records::cards::read_card(version, &sheet[3..end]);
-    sheet_records::services::check(version, card, &sheet[3..end]).ok()?;
+    let line0 = CardBytes {
+        version,
+        bytes: &sheet[3..end],
+    };
+    let card = line0.read_card();
+    line0.check(card).ok()?;
     Some(CardLine { card, end })
 }
 
@@ -97,15 +103,15 @@ pub fn audit(sheet: &[u8]) -> Verdict
             line: 0,
         });
     };
-    lines::audit_lines(
+    let listed = CardBytes {
         version,
-        line0.card,
-        &sheet[3..line0.end],
-        &sheet[line0.end..],
-    )
+        bytes: &sheet[3..line0.end],
+    };
+    lines::audit_lines(line0.card, listed, &sheet[line0.end..])
 }
 
 // The program's and the C entry's audit: 44 beyond the limit.
+#[tactic(auto, unfolding(crate::specs::Audit::limited_audit_of))]
 pub fn audit_limited(sheet: &[u8]) -> Verdict
     ensures { numbered result ≡ limited_audit_of plain sheet.now }
 {
@@ -118,7 +124,8 @@ pub fn audit_limited(sheet: &[u8]) -> Verdict
     audit(sheet)
 }
 
-// Document 01: 'K × 256 + R, or N × 256 when it accepts'.
+// Document 01: 'K × 256 + R, or N × 256 when it accepts'. No `From`: it asks that the index is within a bound.
+#[tactic(auto, unfolding(crate::specs::Audit::verdict_word))]
 fn verdict_word(verdict: Verdict) -> u64
     requires { IndexAtMost limit (numbered verdict) }
     ensures { result ≡ verdict_word (numbered verdict) }
@@ -130,6 +137,7 @@ fn verdict_word(verdict: Verdict) -> u64
 }
 
 // That word for a sheet.
+#[tactic(auto, using(crate::proofs::Bounds::most_limited))]
 pub fn limited_audit_word(sheet: &[u8]) -> u64
     ensures { result ≡ verdict_word (limited_audit_of plain sheet.now) }
 {
@@ -137,6 +145,7 @@ pub fn limited_audit_word(sheet: &[u8]) -> u64
 }
 
 // Its refusal and line side by side, for a sheet of any length.
+#[tactic(auto, unfolding(crate::specs::Audit::verdict_fields))]
 pub fn audit_fields(sheet: &[u8]) -> AuditVerdict
     ensures { result ≡ verdict_fields (audit_of plain sheet.now) }
 {

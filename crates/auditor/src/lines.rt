@@ -1,7 +1,7 @@
 // The walk over the lines.
-ghost use Rattle.std.specs.Prelude.{◌≡◌, ◌≤◌, length};
+ghost use Rattle.std.specs.Prelude.{◌≡◌};
 ghost use Rattle.card.specs.Card.{card_refusal};
-ghost use Rattle.sheet_records.specs.Cards.{card_length, services_at};
+ghost use Rattle.sheet_records.specs.Cards.{services_at};
 ghost use Rattle.sheet_lines.specs.Answers.{same_number};
 ghost use Rattle.auditor.specs.Audit.{audit_lines};
 ghost use Rattle.auditor.specs.Verdicts.{numbered};
@@ -9,13 +9,15 @@ ghost use Rattle.auditor.specs.Verdicts.{numbered};
 use crate::{Refused, Verdict};
 use card::Card;
 use refusals::Refusal;
+use sheet_records::cards::CardBytes;
 
 // Steps an own battery of an accepted card, with line 0's bytes for its services, through the lines. It stays accepted, so that a line's call is all
 // that 10 tests.
-pub fn audit_lines(version: u8, card: Card, line0: &[u8], bytes: &[u8]) -> Verdict
-    requires { (card_refusal version card ≡ 0) × (card_length version line0.now ≤ length line0.now) }
-    ensures { numbered result ≡ audit_lines same_number version (services_at version line0.now) card bytes.now }
+pub fn audit_lines(card: Card, line0: CardBytes<'_>, bytes: &[u8]) -> Verdict
+    requires { card_refusal line0.version card ≡ 0 }
+    ensures { numbered result ≡ audit_lines same_number line0.entry.version (services_at line0.entry.version line0.entry.bytes.now) card bytes.now }
 {
+    let version = line0.version;
     let mut rest = bytes;
     let mut b = battery::fresh(card);
     let mut k: usize = 0;
@@ -29,8 +31,7 @@ pub fn audit_lines(version: u8, card: Card, line0: &[u8], bytes: &[u8]) -> Verdi
         let Some(head) = sheet_lines::front::line_head(version, card, rest) else {
             return bad_line;
         };
-        let Some(call) = sheet_lines::front::line_call(version, card, line0, Some(head), rest)
-        else {
+        let Some(call) = sheet_lines::front::line_call(card, line0, Some(head), rest) else {
             return bad_line;
         };
         let own = engine::steps::advance(version, b, call);

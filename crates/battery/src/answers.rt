@@ -16,7 +16,7 @@ pub fn refused(refusal: Refusal, battery: Battery) -> Answer
     refused_with(refusal.number(), battery)
 }
 
-// The line with any number, as a sheet may show it.
+// The line of any number, as the definition has it.
 #[tactic(auto, unfolding(crate::specs::Answer::refused_with))]
 pub fn refused_with(refusal: u8, battery: Battery) -> Answer
     ensures { result ≡ refused_with refusal battery }
@@ -90,11 +90,11 @@ pub fn numbers_finite(reply: Reply) -> bool
         & crate::totals_finite(reply.totals)
 }
 
-// Whether every reported number and total is finite.
-#[tactic(auto, unfolding(crate::specs::Answer::answer_finite, crate::specs::Answer::numbers_finite))]
+// Whether every zone, reported number and total is finite.
+#[tactic(auto, unfolding(crate::specs::Answer::answer_finite, crate::specs::Answer::numbers_finite), using(crate::proofs::Zones::finite_front))]
 pub fn reply_finite(ledger: Ledger, reply: Reply, zones: &[f64; 64]) -> bool
     requires { ledger.card.layers ≤ 64 }
     ensures { result ≡ answer_finite (answer_with ledger reply zones.now) }
 {
-    numbers_finite(reply) & crate::zones_finite(zones, ledger.card.layers as usize)
+    numbers_finite(reply) & crate::zones_finite(&zones[..ledger.card.layers as usize])
 }

@@ -48,7 +48,7 @@ fn hydronic_in_range(hydronic: Hydronic) -> bool
         & exchanger
 }
 
-// Refusal 10's test of a call's fields: false where it is refused.
+// Refusal 10's test of a call's fields: false where it is refused. A match and no table of closures, which could leave a kind out.
 #[tactic(auto, unfolding(crate::specs::Call::call_in_range))]
 pub fn call_in_range(version: u8, card: Card, call: Call) -> bool
     ensures { result ≡ call_in_range version card call }

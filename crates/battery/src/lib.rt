@@ -5,9 +5,9 @@ pub mod answers;
 pub mod call_ranges;
 pub mod lent;
 
-ghost use Rattle.std.specs.Prelude.{◌≡◌, ◌≤◌};
+ghost use Rattle.std.specs.Prelude.{◌≡◌, ◌≤◌, length};
 ghost use Rattle.battery.specs.Battery.{fresh as fresh_of, zones_finite, battery_accepted};
-ghost use Rattle.battery.specs.Ledger.{whole, totals_of, totals_finite, ledger_of};
+ghost use Rattle.battery.specs.Ledger.{whole, totals_of, totals_finite, ledger_of, renewed_battery};
 
 use card::Card;
 
@@ -15,7 +15,8 @@ use card::Card;
 #[derive(Clone, Copy)]
 pub struct Battery {
     pub card: Card,
-    // °C, the first `count` of 64 places; no step uses or changes what lies above it
+    // °C, the first `count` of 64 places; no step uses or changes what lies above it. Document 01's form, '64
+    // places and a count', with no heap.
     pub zones: [f64; 64],
     pub count: u8,
     // hours in this timestep: total, pump and direct running time
@@ -88,7 +89,7 @@ pub struct Answer {
     pub battery: Battery,
 }
 
-// A battery's five totals, as in Battery.
+// A battery's five totals, as in Battery, where they lie one by one: C knows that struct.
 #[derive(Clone, Copy, Default)]
 pub struct Totals {
     pub total: f64,
@@ -130,6 +131,16 @@ impl Battery {
             electric: self.electric,
         }
     }
+
+    pub fn set_totals(&mut self, totals: Totals)
+        ensures { self.new ≡ renewed_battery (ledger_of self.old) totals self.old.zones }
+    {
+        self.total = totals.total;
+        self.pump = totals.pump;
+        self.direct = totals.direct;
+        self.charged = totals.charged;
+        self.electric = totals.electric;
+    }
 }
 
 pub fn fresh(card: Card) -> Battery
@@ -152,13 +163,13 @@ pub fn fresh(card: Card) -> Battery
     }
 }
 
-// Whether the first n zones are finite.
-pub fn zones_finite(zones: &[f64; 64], n: usize) -> bool
-    requires { n ≤ 64 }
-    ensures { result ≡ zones_finite zones.now n }
+// Whether all zones are finite.
+#[tactic(auto, unfolding(crate::specs::Battery::zones_finite))]
+pub fn zones_finite(zones: &[f64]) -> bool
+    ensures { result ≡ zones_finite zones.now (length zones.now) }
 {
     let mut ok = true;
-    for zone in &zones[..n] {
+    for zone in zones {
         ok = ok & floats::is_finite(*zone);
     }
     ok
@@ -175,7 +186,8 @@ pub fn totals_finite(totals: Totals) -> bool
         & floats::is_finite(totals.electric)
 }
 
-// The card field by field: the compiler then copies it in place and calls no copying routine.
+// A function and no `From`: contracts name the definition `ledger_of`. The card field by field: the compiler then copies it in place and calls no copying
+// routine.
 pub fn ledger_of(battery: Battery) -> Ledger
     ensures { result ≡ ledger_of battery }
 {
@@ -212,14 +224,14 @@ pub fn ledger_of(battery: Battery) -> Ledger
 }
 
 // Refusal 10's test of a battery: false where it is refused.
-#[tactic(auto, unfolding(crate::specs::Battery::battery_accepted))]
+#[tactic(auto, unfolding(crate::specs::Battery::battery_accepted), using(crate::proofs::Zones::finite_front, card::proofs::Accepted::accepted_layers))]
 pub fn is_accepted(version: u8, ledger: Ledger, zones: &[f64; 64]) -> bool
     ensures { result ≡ battery_accepted version (whole ledger zones.now) }
 {
     let c = ledger.card;
     if card::is_accepted(version, c) {
         if ledger.count == c.layers {
-            return zones_finite(zones, c.layers as usize) & totals_finite(ledger.totals);
+            return zones_finite(&zones[..c.layers as usize]) & totals_finite(ledger.totals);
         }
         return false;
     }

@@ -5,5 +5,8 @@ pub mod OneTest
 pub mod Versions
 pub mod Refusals
 pub mod Listed
+pub mod FullRefusal
+pub mod ServicesCase
+pub mod ServiceClass
 pub mod Figures
 pub mod RangeConstants

@@ -50,7 +50,7 @@ pub struct Card {
     pub power: f64,
 }
 
-// What HeatBatteryPcm::new derives from a card, besides its salt and the stored maximum.
+// What HeatBatteryPcm::new derives from a card, besides its salt and the stored maximum. It goes beside its card, as in the definitions.
 #[derive(Clone, Copy)]
 pub struct HeatBatteryPcm {
     // temperature difference of the rated losses
@@ -135,8 +135,8 @@ pub fn card_in_range(card: Card) -> bool
         & powers_in_range(card)
 }
 
-// Whether 1 to 4 accept the card, as one test, for calls on the caller's own record: it has that one caller and is compiled in place there, as
-// `verdict::check` is not.
+// Whether 1 to 4 accept the card, as one test, for calls on the caller's own record: its one caller is `battery::is_accepted`, in which it is compiled in
+// place, as `verdict::check` is not.
 #[tactic(auto, using(crate::proofs::OneTest::accepted_is))]
 pub fn is_accepted(version: u8, card: Card) -> bool
     ensures { result ≡ eqb (card_refusal version card) 0 }

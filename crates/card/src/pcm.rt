@@ -33,6 +33,7 @@ pub fn figures_of(card: Card) -> [f64; 5]
 }
 
 // Those figures as they are lent: one salt for all layers.
+#[tactic(auto, using(crate::proofs::Figures::figures_salts))]
 pub fn lent(card: Card, figures: &[f64; 5]) -> LentSalts<'_, 0>
     requires { (card.layers ≤ 64) × (figures.now ≡ figures_of card) }
     ensures layers { result.layers ≡ card.layers }
@@ -45,6 +46,7 @@ pub fn lent(card: Card, figures: &[f64; 5]) -> LentSalts<'_, 0>
 }
 
 // The energy above ref of the whole battery at one temperature.
+#[tactic(auto, unfolding(crate::specs::Derived::energy_at), using(zone::proofs::Salts::salts_one, zone::proofs::Salts::salts_each, zone::proofs::Sums::stored_front))]
 pub fn energy_at<const STEP: usize>(
     card: Card,
     salts: LentSalts<'_, STEP>,
@@ -60,8 +62,9 @@ pub fn energy_at<const STEP: usize>(
         return Kilojoules(layer.0 * layers);
     }
     let n = card.layers as usize;
+    // an array, as there is no heap
     let zones = [temperature; 64];
-    zone::layer::stored_energy(salts, card.reference, zones, n)
+    zone::layer::stored_energy(salts, card.reference, &zones[..n])
 }
 
 #[tactic(auto, unfolding(crate::specs::Derived::derived))]

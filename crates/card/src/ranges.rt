@@ -1,4 +1,4 @@
-// Document 01's ranges, both ends in, each under its field's name.
+// Document 01's ranges, both ends in, each under what it is of.
 // Nine functions, not nine values of a struct of two ends: contracts cite the nine names of the definitions, and each is one line over `within`.
 ghost use Rattle.std.specs.Prelude.{◌≡◌};
 ghost use Rattle.card.specs.Ranges.{within as within_of, is_substep, is_timestep, is_temperature, is_capacity, is_velocity, is_diameter, is_coefficient, is_flow, is_power};

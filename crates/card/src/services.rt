@@ -16,7 +16,8 @@ pub struct Service {
     pub class: u8,
 }
 
-// What lists services. One too long for a card may have fewer that can be read.
+// What lists services. One too long for a card may have fewer that can be read, so that functions that read one ask for its length: a type for a short
+// one would stand in their clauses in its place.
 pub trait Services {
     ghost use Rattle.card.specs.declared.services.Service.{Service};
 
@@ -46,12 +47,13 @@ pub fn service_ok(least: u32, service: Service) -> bool
 }
 
 // Whether the services rise from 4 and have known classes.
+#[tactic(auto, using(crate::proofs::Listed::rising_stops, crate::proofs::Listed::rising_further, crate::proofs::Listed::rising_done))]
 fn services_rise<S: Services>(services: &S) -> bool
     requires { length (S.list services.now) ≤ S.room services.now }
     ensures { result ≡ rising_from 4 (S.list services.now) }
 {
     let mut least: u32 = 4;
-    // by index: the services lie in bytes or in two arrays, and an iterator over either would need a type of its own, no plainer
+    // by index, as the trait's `service` takes it: a `map` over the range would only move it into a closure, no plainer
     for k in 0..services.count() {
         let service = services.service(k);
         if service_ok(least, service) {
@@ -64,6 +66,7 @@ fn services_rise<S: Services>(services: &S) -> bool
 }
 
 // Whether the services are accepted: refusal 61's test.
+#[tactic(auto, using(crate::proofs::Listed::ok_few, crate::proofs::Listed::ok_many))]
 pub fn services_ok<S: Services>(services: &S) -> bool
     ensures { result ≡ services_ok (S.list services.now) }
 {
@@ -73,7 +76,8 @@ pub fn services_ok<S: Services>(services: &S) -> bool
     false
 }
 
-// The class of a number among the services, 0 where it isn't there.
+// The class of a number among the services, 0 where it isn't there: of the first with that number, in order, as the definition has it of any list.
+#[tactic(auto, using(crate::proofs::Listed::class_here, crate::proofs::Listed::class_further, crate::proofs::Listed::class_none))]
 fn listed_class<S: Services>(services: &S, number: u16) -> u8
     requires { length (S.list services.now) ≤ S.room services.now }
     ensures { result ≡ listed_class (S.list services.now) number }
@@ -88,7 +92,8 @@ fn listed_class<S: Services>(services: &S, number: u16) -> u8
     0
 }
 
-// The class that the services give a number.
+// The class of a type: itself up to 3, else what the services give.
+#[tactic(auto, using(crate::proofs::ServiceClass::own_type, crate::proofs::ServiceClass::above_type))]
 pub fn class_of<S: Services>(services: &S, number: u16) -> u8
     requires { length (S.list services.now) ≤ S.room services.now }
     ensures { result ≡ class_of (S.list services.now) number }

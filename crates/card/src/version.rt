@@ -1,4 +1,4 @@
-// The versions of a sheet.
+// The versions of a sheet. A number and no enum: C and a sheet's first byte hand in any, and one that isn't known is 40.
 // A function for each rule and not one test with a constant: each rule is a definition of its own, which the contracts above cite.
 ghost use Rattle.std.specs.Prelude.{◌≡◌};
 ghost use Rattle.card.specs.Version.{known_version, shows_hydronic_time, lists_services};

@@ -7,7 +7,9 @@ use native.Mathlib.Omega.{arith}
 use lib.ListN.{length, set, length-append}
 use lib.Seq.{sets, set_comm}
 use lib.Dec.{T}
-use lib.Ieee.{Float, binary64, of_bits, to_bits, fits}
+use lib.Ieee.{Float, nan, inf, fin, binary64, of_bits, to_bits, fits, is_nan}
+use mathlib.Core.Bool.{true}
+use Rattle.logic.proofs.Tests.{no_both}
 use lib.Ieee.Bits.{of_bits-to_bits, to_bits-lt}
 use Rattle.codec.specs.Bytes.{be, be_from, be_bytes, f64_bytes, f64_of}
 
@@ -50,3 +52,10 @@ f64_back x h = ap (of_bits binary64) (be_be_bytes 8 (to_bits binary64 x) (to_bit
 pub length_f64_bytes : (x : Float) → length (f64_bytes x) ≡ 8
 unfolding f64_bytes
 length_f64_bytes x = length_be_bytes 8 (to_bits binary64 x)
+
+-- the one pattern of a NaN
+pub nan_pattern : (x : Float) → is_nan x ≡ true → 9221120237041090560 ≡ to_bits binary64 x
+unfolding is_nan to_bits
+nan_pattern nan h = refl
+nan_pattern (inf s) h = no_both (sym h)
+nan_pattern (fin s m e) h = no_both (sym h)

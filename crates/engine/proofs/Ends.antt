@@ -11,12 +11,13 @@ use Rattle.battery.proofs.Zones.{same_above, then_above}
 use Rattle.engine.specs.Budget.{whole_from, FractionDue, DemandOver, HydronicOver}
 use Rattle.run_demand.specs.declared.DemandTask.{DemandTask}
 use Rattle.run_demand.specs.declared.DemandState.{DemandState}
+use Rattle.runs.specs.Runs.{run_end}
 use Rattle.runs.specs.declared.HydronicTask.{HydronicTask}
 use Rattle.runs.specs.declared.HydronicState.{HydronicState}
 use Rattle.runs.specs.declared.End.{End}
 use Rattle.runs.specs.declared.End.TheVariants.{OverBudget}
 use Rattle.run_demand.specs.Demand.{demand_run}
-use Rattle.runs.specs.Hydronic.{hydronic_state, hydronic_end, hydronic_run, hydronic_step}
+use Rattle.runs.specs.Hydronic.{hydronic_state, hydronic_run, hydronic_step}
 use Rattle.runs.proofs.Runs.{on_counts}
 use Rattle.runs.specs.Zoned.{Zoned, on_part}
 use Rattle.engine.proofs.Inductions.{demand_induction, hydronic_induction}
@@ -66,7 +67,7 @@ module _ (x : HydronicTask) (salts : ℕ → Salt) where
 
   last_turn :
       (steps n : ℕ) (s : Zoned HydronicState) (e : End) → (hydronic_step x salts n s).part.next ≡ Some OverBudget → e ≡ OverBudget →
-      HydronicOver x salts steps (hydronic_end (on_part hydronic_state (hydronic_step x salts n s)) e (hydronic_step x salts n s).part.substeps)
+      HydronicOver x salts steps (run_end (on_part hydronic_state (hydronic_step x salts n s)) e (hydronic_step x salts n s).part.substeps)
   last_turn steps n s e p h =
       let k = hydronic_keeps x salts n s in
       record { ended = h; used = k.used p; due = inr (subst (λ (v : Zoned HydronicState). FractionDue x v.part (whole_from x salts v)) (sym (k.same p)) (k.due p)) }

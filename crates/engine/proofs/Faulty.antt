@@ -36,9 +36,9 @@ use Rattle.runs.specs.declared.HydronicState.{HydronicState}
 use Rattle.runs.specs.declared.HydronicTurn.{HydronicTurn}
 use Rattle.runs.specs.declared.End.{End}
 use Rattle.runs.specs.declared.End.TheVariants.{Done, Negative, Met, NoStep, Level, Limit, Time, OverBudget, NoLogarithm, NotFiniteRun}
-use Rattle.run_demand.specs.Demand.{turn_state, end_state, demand_input, demand_met, demand_delivered, demand_by, demand_substep, demand_run}
-use Rattle.runs.specs.Hydronic.{wet_input, clearly_below, limit_reached, replay_by, replayed, fraction_seconds, hydronic_whole, hydronic_by, hydronic_step, hydronic_run, hydronic_state, hydronic_end_state}
-use Rattle.runs.specs.Runs.{outcome, reynold_between}
+use Rattle.run_demand.specs.Demand.{turn_state, demand_input, demand_met, demand_delivered, demand_by, demand_substep, demand_run}
+use Rattle.runs.specs.Hydronic.{wet_input, clearly_below, limit_reached, replay_by, replayed, fraction_seconds, hydronic_whole, hydronic_by, hydronic_step, hydronic_run, hydronic_state}
+use Rattle.runs.specs.Runs.{outcome, reynold_between, end_state}
 use Rattle.runs.specs.Zoned.{Zoned, on_part}
 use Rattle.engine.specs.Budget.{whole_from, FractionDue}
 use Rattle.engine.specs.Faults.{ArgumentRefused, progress_of, ProgressNotFinite, FaultTest, SubstepFault, heat_of, absorbed_with, fraction_input, HydronicFault}
@@ -242,9 +242,9 @@ module _ (x : HydronicTask) (salts : ℕ → Salt) where
       let w : Ends s (end_fault e) = rw (ap next_fault h) at (k.fault r) in
       subst (λ (v : Zoned HydronicState). Ends v (end_fault e)) (sym (k.same r)) w
 
-  hydronic_ends : (k n : ℕ) (s : Zoned HydronicState) → (end_fault (hydronic_run x salts k n s).part.end ≡ None → ⊥) → Ends (on_part hydronic_end_state (hydronic_run x salts k n s)) (end_fault (hydronic_run x salts k n s).part.end)
+  hydronic_ends : (k n : ℕ) (s : Zoned HydronicState) → (end_fault (hydronic_run x salts k n s).part.end ≡ None → ⊥) → Ends (on_part end_state (hydronic_run x salts k n s)) (end_fault (hydronic_run x salts k n s).part.end)
   hydronic_ends =
-      hydronic_induction x salts (λ k n s d. (end_fault d.part.end ≡ None → ⊥) → Ends (on_part hydronic_end_state d) (end_fault d.part.end))
+      hydronic_induction x salts (λ k n s d. (end_fault d.part.end ≡ None → ⊥) → Ends (on_part end_state d) (end_fault d.part.end))
       (λ n s q. absurd (q refl))
       (λ k n s h q. absurd (q refl))
       (λ k n s e b h q. hydronic_stops n s e h q)
@@ -256,5 +256,5 @@ module _ (x : HydronicTask) (salts : ℕ → Salt) where
       inr (record { due = w.due; fault = substep_fault x.card x.pcm salts (fraction_input x s.part (whole_from x salts s)) s.zones f q w.fault })
 
   pub hydronic_run_faults :
-      (k n : ℕ) (s : Zoned HydronicState) → (end_fault (hydronic_run x salts k n s).part.end ≡ None → ⊥) → HydronicFault (end_fault (hydronic_run x salts k n s).part.end) x salts (on_part hydronic_end_state (hydronic_run x salts k n s))
-  hydronic_run_faults k n s q = at_test (on_part hydronic_end_state (hydronic_run x salts k n s)) (end_fault (hydronic_run x salts k n s).part.end) q (hydronic_ends k n s q)
+      (k n : ℕ) (s : Zoned HydronicState) → (end_fault (hydronic_run x salts k n s).part.end ≡ None → ⊥) → HydronicFault (end_fault (hydronic_run x salts k n s).part.end) x salts (on_part end_state (hydronic_run x salts k n s))
+  hydronic_run_faults k n s q = at_test (on_part end_state (hydronic_run x salts k n s)) (end_fault (hydronic_run x salts k n s).part.end) q (hydronic_ends k n s q)

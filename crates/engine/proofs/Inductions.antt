@@ -9,24 +9,24 @@ use Rattle.floats.specs.Constants as Constants
 use Rattle.logic.proofs.Branch.{by_test}
 use Rattle.zone.specs.declared.Salt.{Salt}
 use Rattle.run_demand.specs.declared.DemandTask.{DemandTask}
-use Rattle.run_demand.specs.declared.DemandEnd.{DemandEnd}
+use Rattle.runs.specs.Runs.{run_end}
+use Rattle.runs.specs.declared.Ended.{Ended}
 use Rattle.run_demand.specs.declared.DemandState.{DemandState}
 use Rattle.runs.specs.declared.HydronicTask.{HydronicTask}
 use Rattle.runs.specs.declared.HydronicState.{HydronicState}
-use Rattle.runs.specs.declared.HydronicEnd.{HydronicEnd}
 use Rattle.runs.specs.declared.End.{End}
 use Rattle.runs.specs.declared.End.TheVariants.{NoStep, OverBudget, Time}
-use Rattle.run_demand.specs.Demand.{turn_state, demand_end, demand_then, demand_run, demand_substep}
-use Rattle.runs.specs.Hydronic.{hydronic_state, hydronic_end, hydronic_then, hydronic_run, hydronic_step}
+use Rattle.run_demand.specs.Demand.{turn_state, demand_then, demand_run, demand_substep}
+use Rattle.runs.specs.Hydronic.{hydronic_state, hydronic_then, hydronic_run, hydronic_step}
 use Rattle.runs.specs.Zoned.{Zoned, on_part}
 
 -- of the substeps left, those done, the run and its end
 module _
-    (x : DemandTask) (salts : ℕ → Salt) (P : ℕ → ℕ → Zoned DemandState → Zoned DemandEnd → Type 0)
-    (no_step : (k n : ℕ) (s : Zoned DemandState) → P k n s (demand_end s NoStep n))
-    (over : (n : ℕ) (s : Zoned DemandState) → T (lt Constants.zero s.part.step) → P zero n s (demand_end s OverBudget n))
-    (stop : (k n : ℕ) (s : Zoned DemandState) (e : End) → (demand_substep x salts s).part.next ≡ Some e → P (suc k) n s (demand_end (on_part turn_state (demand_substep x salts s)) e (n + 1)))
-    (on : (k n : ℕ) (s : Zoned DemandState) (d : Zoned DemandEnd) → (demand_substep x salts s).part.next ≡ None → P k (n + 1) (on_part turn_state (demand_substep x salts s)) d → P (suc k) n s d) where
+    (x : DemandTask) (salts : ℕ → Salt) (P : ℕ → ℕ → Zoned DemandState → Zoned (Ended DemandState) → Type 0)
+    (no_step : (k n : ℕ) (s : Zoned DemandState) → P k n s (run_end s NoStep n))
+    (over : (n : ℕ) (s : Zoned DemandState) → T (lt Constants.zero s.part.step) → P zero n s (run_end s OverBudget n))
+    (stop : (k n : ℕ) (s : Zoned DemandState) (e : End) → (demand_substep x salts s).part.next ≡ Some e → P (suc k) n s (run_end (on_part turn_state (demand_substep x salts s)) e (n + 1)))
+    (on : (k n : ℕ) (s : Zoned DemandState) (d : Zoned (Ended DemandState)) → (demand_substep x salts s).part.next ≡ None → P k (n + 1) (on_part turn_state (demand_substep x salts s)) d → P (suc k) n s d) where
   demand_turned :
       (k n : ℕ) (s : Zoned DemandState) → P k (n + 1) (on_part turn_state (demand_substep x salts s)) (demand_run x salts k (n + 1) (on_part turn_state (demand_substep x salts s))) →
       (e : Option End) → (demand_substep x salts s).part.next ≡ e → P (suc k) n s (demand_then (demand_run x salts k (n + 1)) (n + 1) (on_part turn_state (demand_substep x salts s)) e)
@@ -43,12 +43,12 @@ module _
 
 -- of the whole substeps left, the substeps done, the run and its end
 module _
-    (x : HydronicTask) (salts : ℕ → Salt) (P : ℕ → ℕ → Zoned HydronicState → Zoned HydronicEnd → Type 0)
-    (time : (n : ℕ) (s : Zoned HydronicState) → P zero n s (hydronic_end s Time n))
-    (over : (k n : ℕ) (s : Zoned HydronicState) → n ≡ x.card.budget → P (suc k) n s (hydronic_end s OverBudget n))
+    (x : HydronicTask) (salts : ℕ → Salt) (P : ℕ → ℕ → Zoned HydronicState → Zoned (Ended HydronicState) → Type 0)
+    (time : (n : ℕ) (s : Zoned HydronicState) → P zero n s (run_end s Time n))
+    (over : (k n : ℕ) (s : Zoned HydronicState) → n ≡ x.card.budget → P (suc k) n s (run_end s OverBudget n))
     (stop : (k n : ℕ) (s : Zoned HydronicState) (e : End) → (n ≡ x.card.budget → ⊥) → (hydronic_step x salts n s).part.next ≡ Some e →
-    P (suc k) n s (hydronic_end (on_part hydronic_state (hydronic_step x salts n s)) e (hydronic_step x salts n s).part.substeps))
-    (on : (k n : ℕ) (s : Zoned HydronicState) (d : Zoned HydronicEnd) → (n ≡ x.card.budget → ⊥) → (hydronic_step x salts n s).part.next ≡ None →
+    P (suc k) n s (run_end (on_part hydronic_state (hydronic_step x salts n s)) e (hydronic_step x salts n s).part.substeps))
+    (on : (k n : ℕ) (s : Zoned HydronicState) (d : Zoned (Ended HydronicState)) → (n ≡ x.card.budget → ⊥) → (hydronic_step x salts n s).part.next ≡ None →
     P k (hydronic_step x salts n s).part.substeps (on_part hydronic_state (hydronic_step x salts n s)) d → P (suc k) n s d) where
   hydronic_turned :
       (k n : ℕ) (s : Zoned HydronicState) → (n ≡ x.card.budget → ⊥) →

@@ -20,8 +20,8 @@ use Rattle.battery.specs.declared.Call.TheVariants.{DemandEnergy, ChargeElectric
 use Rattle.substep.specs.Substep.{outcome_of}
 use Rattle.substep.specs.declared.Fault.{Fault}
 use Rattle.substep.specs.declared.Fault.TheVariants.{Logarithm, NotFinite}
-use Rattle.runs.specs.Runs.{fault_end, end_refusal}
-use Rattle.run_demand.specs.Demand.{end_state, demand_input, demand_ended}
+use Rattle.runs.specs.Runs.{fault_end, end_refusal, end_state}
+use Rattle.run_demand.specs.Demand.{demand_input, demand_ended}
 use Rattle.runs.specs.Hydronic.{hydronic_ended, whole_substeps}
 use Rattle.runs.specs.Charge.{electric_input, electric_ended, charge_electric, hydronic_start, charge_hydronic, charge_battery, loss_input, loss_ended, battery_heat_loss, wet_of}
 use Rattle.runs.specs.declared.End.{End}

@@ -14,18 +14,19 @@ use Rattle.battery.specs.declared.Call.{Call}
 use Rattle.battery.specs.declared.Call.TheVariants.{DemandEnergy, ChargeElectric, ChargeHydronic, HeatLoss, CloseTimestep, ReadStateOfCharge, ChargeEnergyDemand}
 use Rattle.substep.specs.Substep.{process_heat_battery_zones}
 use Rattle.substep.specs.declared.Substep.{Substep}
-use Rattle.run_demand.specs.declared.DemandEnd.{DemandEnd}
+use Rattle.runs.specs.Runs.{end_state}
+use Rattle.runs.specs.declared.Ended.{Ended}
+use Rattle.run_demand.specs.declared.DemandState.{DemandState}
 use Rattle.runs.specs.declared.HydronicTask.{HydronicTask}
 use Rattle.runs.specs.declared.HydronicState.{HydronicState}
-use Rattle.runs.specs.declared.HydronicEnd.{HydronicEnd}
 use Rattle.runs.specs.declared.End.TheVariants.{OverBudget}
-use Rattle.runs.specs.Hydronic.{wet_input, clearly_below, limit_reached, hydronic_run, hydronic_end_state, whole_substeps}
+use Rattle.runs.specs.Hydronic.{wet_input, clearly_below, limit_reached, hydronic_run, whole_substeps}
 use Rattle.runs.specs.Charge.{hydronic_task, hydronic_start, wet_of}
 use Rattle.runs.specs.Zoned.{Zoned, zoned, on_part}
 use Rattle.engine.specs.Steps.{demand_run_of}
 
 -- a run of a demand, with its budget: its next step is positive
-pub record DemandOver (budget : ℕ) (run : DemandEnd) : Type 0 where
+pub record DemandOver (budget : ℕ) (run : Ended DemandState) : Type 0 where
   pub ended : run.end ≡ OverBudget
   pub used : run.substeps ≡ budget
   pub due : T (lt zero run.state.step)
@@ -42,10 +43,10 @@ pub record FractionDue (task : HydronicTask) (state : HydronicState) (substep : 
   pub heat : T (lt zero (neg substep.delivered.0))
 
 -- a hydronic run of so many whole substeps: one of them is left, or the fractional one after the last
-pub record HydronicOver (task : HydronicTask) (salts : ℕ → Salt) (steps : ℕ) (run : Zoned HydronicEnd) : Type 0 where
+pub record HydronicOver (task : HydronicTask) (salts : ℕ → Salt) (steps : ℕ) (run : Zoned (Ended HydronicState)) : Type 0 where
   pub ended : run.part.end ≡ OverBudget
   pub used : run.part.substeps ≡ task.card.budget
-  pub due : (task.card.budget < steps) ⊎ FractionDue task run.part.state (whole_from task salts (on_part hydronic_end_state run))
+  pub due : (task.card.budget < steps) ⊎ FractionDue task run.part.state (whole_from task salts (on_part end_state run))
 
 -- the call's run
 pub record DemandUsed (battery : Battery) (demand : Demand) : Type 0 where
@@ -57,7 +58,7 @@ pub record DemandUsed (battery : Battery) (demand : Demand) : Type 0 where
 abbrev pub hydronic_task_of : Battery → Hydronic → HydronicTask
 hydronic_task_of battery call = hydronic_task battery.card (wet_of call) call.target
 
-abbrev pub hydronic_run_of : Battery → Hydronic → Zoned HydronicEnd
+abbrev pub hydronic_run_of : Battery → Hydronic → Zoned (Ended HydronicState)
 hydronic_run_of battery call = hydronic_run (hydronic_task_of battery call) (salt_at (salts_of battery.card)) (whole_substeps (hydronic_task_of battery call)) 0 (zoned (hydronic_start battery.card (wet_of call)) battery.zones)
 
 pub record HydronicUsed (battery : Battery) (hydronic : Hydronic) : Type 0 where

@@ -26,9 +26,9 @@ use Rattle.substep.specs.Progress.{Progress}
 use Rattle.substep.specs.declared.Substep.{Substep}
 use Rattle.substep.specs.declared.Fault.{Fault}
 use Rattle.substep.specs.declared.Fault.TheVariants.{Logarithm, NotFinite}
-use Rattle.runs.specs.Runs.{fault_end, end_refusal, reynold_between}
+use Rattle.runs.specs.Runs.{fault_end, end_refusal, reynold_between, end_state}
 use Rattle.run_demand.specs.Demand.{demand_input}
-use Rattle.runs.specs.Hydronic.{wet_input, fraction_seconds, hydronic_end_state}
+use Rattle.runs.specs.Hydronic.{wet_input, fraction_seconds}
 use Rattle.runs.specs.Charge.{electric_input, loss_input, charge_battery, battery_heat_loss, charge_energy_demand}
 use Rattle.runs.specs.declared.HydronicTask.{HydronicTask}
 use Rattle.runs.specs.declared.HydronicState.{HydronicState}
@@ -111,7 +111,7 @@ pub record DemandFaulted (which : Option Fault) (battery : Battery) (demand : De
 
 pub record HydronicFaulted (which : Option Fault) (battery : Battery) (hydronic : Hydronic) : Type 0 where
   pub ended : (hydronic_run_of battery hydronic).part.end ≡ fault_end which
-  pub fault : HydronicFault which (hydronic_task_of battery hydronic) (salt_at (salts_of battery.card)) (on_part hydronic_end_state (hydronic_run_of battery hydronic))
+  pub fault : HydronicFault which (hydronic_task_of battery hydronic) (salt_at (salts_of battery.card)) (on_part end_state (hydronic_run_of battery hydronic))
 
 abbrev pub NoLogarithmTaken : Battery → Call → Type 0
 NoLogarithmTaken battery (DemandEnergy d) = DemandFaulted (Some Logarithm) battery d

@@ -22,7 +22,8 @@ use Rattle.battery.specs.declared.Answer.{Answer}
 use Rattle.runs.specs.declared.Source.{Source}
 use Rattle.runs.specs.declared.Source.TheVariants.{Electric, Wet}
 use Rattle.run_demand.specs.declared.DemandTask.{DemandTask}
-use Rattle.run_demand.specs.declared.DemandEnd.{DemandEnd}
+use Rattle.runs.specs.declared.Ended.{Ended}
+use Rattle.run_demand.specs.declared.DemandState.{DemandState}
 use Rattle.runs.specs.declared.Stopped.{Stopped}
 use Rattle.runs.specs.Runs.{time_available}
 use Rattle.run_demand.specs.Demand.{demand_run, demand_ended}
@@ -47,7 +48,7 @@ demand_task ledger demand feed =
     }
 
 -- a demand's substeps, what they hand out, and the answer
-abbrev pub demand_run_of : Battery → Demand → Float → Zoned DemandEnd
+abbrev pub demand_run_of : Battery → Demand → Float → Zoned (Ended DemandState)
 demand_run_of battery demand feed = demand_run (demand_task (ledger_of battery) demand feed) (salt_at (salts_of battery.card)) battery.card.budget 0 (zoned (demand_start (ledger_of battery)) battery.zones)
 
 abbrev pub demand_ran : Battery → Demand → Float → Zoned Stopped

@@ -8,7 +8,7 @@ use Rattle.substep.specs.Substep.{process_heat_battery_zones}
 use Rattle.substep.specs.declared.Substep.{Substep}
 use Rattle.runs.specs.declared.HydronicTask.{HydronicTask}
 use Rattle.runs.specs.declared.HydronicState.{HydronicState}
-use Rattle.runs.specs.declared.HydronicEnd.{HydronicEnd}
+use Rattle.runs.specs.declared.Ended.{Ended}
 use Rattle.runs.specs.declared.End.TheVariants.{Limit}
 use Rattle.runs.specs.Hydronic.{fraction_seconds, hydronic_state, hydronic_step}
 use Rattle.runs.specs.Zoned.{Zoned, on_part}
@@ -37,13 +37,13 @@ fraction_after task salts start n =
     process_heat_battery_zones task.card task.pcm salts (fraction_input task (after_turns task salts start n).part (whole_after task salts start n)) (after_turns task salts start n).zones
 
 -- 'the f64 sum, in order, of the substeps run, one whose outlet ends the loop too'
-pub record AllWhole (task : HydronicTask) (salts : ℕ → Salt) (start : Zoned HydronicState) (run : HydronicEnd) : Type 0 where
+pub record AllWhole (task : HydronicTask) (salts : ℕ → Salt) (start : Zoned HydronicState) (run : Ended HydronicState) : Type 0 where
   pub time : run.state.time ≡ added_up task.card.substep run.substeps
   -- a run that the limit ends has replayed nothing
   pub limit : run.end ≡ Limit → (earlier : ℕ) × (run.substeps ≡ earlier + 1) × (DueAfter task salts start earlier → ⊥)
 
 -- 'where the limit ends the run with a replayed substep, substep × fraction replaces the last one'
-pub record LastReplaced (task : HydronicTask) (salts : ℕ → Salt) (start : Zoned HydronicState) (run : HydronicEnd) : Type 0 where
+pub record LastReplaced (task : HydronicTask) (salts : ℕ → Salt) (start : Zoned HydronicState) (run : Ended HydronicState) : Type 0 where
   pub ended : run.end ≡ Limit
   pub earlier : ℕ
   pub due : DueAfter task salts start earlier
@@ -54,7 +54,7 @@ pub record LastReplaced (task : HydronicTask) (salts : ℕ → Salt) (start : Zo
       run.state.time
       ≡ added_up task.card.substep earlier ⊕ fraction_seconds task (absorbed_with (after_turns task salts start earlier).part (whole_after task salts start earlier)) (heat_of (whole_after task salts start earlier))
 
-abbrev pub TimeRun : HydronicTask → (ℕ → Salt) → Zoned HydronicState → HydronicEnd → Type 0
+abbrev pub TimeRun : HydronicTask → (ℕ → Salt) → Zoned HydronicState → Ended HydronicState → Type 0
 TimeRun task salts start run = AllWhole task salts start run ⊎ LastReplaced task salts start run
 
 -- an answer with another time

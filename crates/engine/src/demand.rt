@@ -42,7 +42,7 @@ fn demand_task(ledger: Ledger, demand: Demand, feed: f64) -> DemandTask
     }
 }
 
-// The substeps of a demand.
+// The substeps of a demand. Here and below `feed` is the demand's return temperature, once it is there: the definitions take it beside the demand.
 fn demand_stopped<const STEP: usize>(
     lent: Lent<'_, STEP>,
     demand: Demand,
@@ -54,7 +54,8 @@ fn demand_stopped<const STEP: usize>(
     let ledger = lent.ledger;
     let task = demand_task(ledger, demand, feed);
     let start = engine_replies::demand_start(ledger);
-    let e = run_demand::demand_run(task, lent.salts, ledger.card.budget, start, zones);
+    let budget = ledger.card.budget as u32;
+    let e = run_demand::demand_run(task, lent.salts, budget, start, zones);
     run_demand::demand_ended(e)
 }
 
@@ -128,6 +129,7 @@ fn demand_given<const STEP: usize>(
     }
 }
 
+#[tactic(auto, unfolding(crate::specs::Steps::demand_energy), using(engine_replies::proofs::Settled::plain_with))]
 pub fn demand_energy<const STEP: usize>(
     lent: Lent<'_, STEP>,
     demand: Demand,

@@ -52,10 +52,10 @@ fn level<const STEP: usize>(lent: Lent<'_, STEP>, zones: &[f64; 64]) -> Option<f
     let card = lent.ledger.card;
     let stored = card::pcm::energy_at(card, lent.salts, card.max);
     let n = card.layers as usize;
-    zone::layer::calc_state_of_charge(lent.salts, card.reference, stored, *zones, n)
+    zone::layer::calc_state_of_charge(lent.salts, card.reference, stored, &zones[..n])
 }
 
-#[tactic(auto, unfolding(crate::specs::Steps::read_level, battery::specs::Answer::settled))]
+#[tactic(auto, unfolding(crate::specs::Steps::read_level, battery::specs::Answer::settled), using(engine_replies::proofs::Settled::plain_with))]
 fn read_level(ledger: Ledger, level: Option<f64>, zones: &[f64; 64]) -> Result<Reply, Refusal>
     requires { ledger.card.layers ≤ 64 }
     ensures { settled ledger zones.now result zones.now ≡ read_level (whole ledger zones.now) level }
@@ -69,7 +69,7 @@ fn read_level(ledger: Ledger, level: Option<f64>, zones: &[f64; 64]) -> Result<R
     }
 }
 
-#[tactic(auto, unfolding(crate::specs::Steps::demand_to_level, battery::specs::Answer::settled))]
+#[tactic(auto, unfolding(crate::specs::Steps::demand_to_level, battery::specs::Answer::settled), using(engine_replies::proofs::Settled::plain_with))]
 fn demand_to_level<const STEP: usize>(
     lent: Lent<'_, STEP>,
     most: Option<f64>,
@@ -120,7 +120,8 @@ fn charge_energy_demand<const STEP: usize>(
     demand_to_level(lent, most, target, soc, zones)
 }
 
-// The electric and the wet charge are one call of `charge`, so that one copy of it is compiled, in place.
+// A match and no table of closures, which could leave a kind out. The electric and the wet charge are one call of `charge`, so that one copy of it is
+// compiled, in place.
 #[tactic(auto, unfolding(crate::specs::Operations::operation_step))]
 fn operation_step<const STEP: usize>(
     version: u8,
@@ -144,6 +145,7 @@ fn operation_step<const STEP: usize>(
 }
 
 // A call on an accepted battery, its zones apart and its salts lent: 10 where a field of the call is out of its range, or the steps.
+#[tactic(auto, using(crate::proofs::Accepted::accepted_finite, crate::proofs::Accepted::accepted_losses, crate::proofs::AdvanceKeeps::advance_is_step, crate::proofs::AdvanceKeeps::out_of_range_ten, engine_replies::proofs::Settled::settled_refusal, crate::proofs::ByKind::stepped))]
 pub fn advance_accepted<const STEP: usize>(
     version: u8,
     lent: Lent<'_, STEP>,
@@ -160,6 +162,7 @@ pub fn advance_accepted<const STEP: usize>(
 }
 
 // A call on an accepted battery by value.
+#[tactic(auto, using(crate::proofs::Accepted::accepted_few, crate::proofs::ByValue::by_value_answer, crate::proofs::ByValue::by_value_refused))]
 pub fn advance(version: u8, battery: Battery, call: Call) -> Answer
     requires { battery_accepted version battery ≡ true }
     ensures { result ≡ advance_of version battery call }
@@ -171,15 +174,8 @@ pub fn advance(version: u8, battery: Battery, call: Call) -> Answer
     let mut zones = battery.zones;
     match advance_accepted(version, lent, call, &mut zones) {
         Ok(reply) => {
-            let renewed = Battery {
-                zones,
-                total: reply.totals.total,
-                pump: reply.totals.pump,
-                direct: reply.totals.direct,
-                charged: reply.totals.charged,
-                electric: reply.totals.electric,
-                ..battery
-            };
+            let mut renewed = Battery { zones, ..battery };
+            renewed.set_totals(reply.totals);
             reply.answer(renewed)
         }
         Err(refusal) => battery::answers::refused(refusal, battery),

@@ -17,7 +17,8 @@ use run_demand::DemandState;
 use runs::{End, Stopped};
 use zone::KilowattHours;
 
-// 23 where a reported number or total is not finite.
+// 23 where a zone, a reported number or a total is not finite.
+#[tactic(auto, unfolding(crate::specs::Replies::checked), using(crate::proofs::Settled::settled_answer, crate::proofs::Settled::settled_refusal))]
 pub fn checked(ledger: Ledger, reply: Reply, zones: &[f64; 64]) -> Result<Reply, Refusal>
     requires { ledger.card.layers ≤ 64 }
     ensures { (before : List Float) → settled ledger before result zones.now ≡ checked_of (whole ledger before) (answer_with ledger reply zones.now) }
@@ -31,6 +32,7 @@ pub fn checked(ledger: Ledger, reply: Reply, zones: &[f64; 64]) -> Result<Reply,
 
 // The answer of a run, unless it ended in 22, 23 or 24. The zones of a run that answers are finite by a law
 // (crates/engine/proofs/FiniteZones.antt), and are not tested again.
+#[tactic(auto, unfolding(crate::specs::Replies::checked, crate::specs::Replies::unless_refused), using(battery::proofs::AnswerLaws::numbers_decide, crate::proofs::Settled::settled_answer, crate::proofs::Settled::settled_refusal))]
 pub fn unless_refused(end: End, reply: Reply) -> Result<Reply, Refusal>
     ensures { (l : Ledger) (before zones : List Float) → (end_refusal end ≡ 0 → zones_finite zones l.card.layers ≡ true) → settled l before result zones ≡ unless_refused (whole l before) end (answer_with l reply zones) }
 {

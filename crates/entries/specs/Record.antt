@@ -1,12 +1,14 @@
 -- Document 01, module 9: 'One more entry takes the caller's own battery record and advances it by a call.' There is no sheet, so no 11.
-use Rattle.std.specs.Prelude.{ℕ, zero, suc, cond, List, [], get_or, set, Float, Option, Some, None}
+use Rattle.std.specs.Prelude.{ℕ, zero, suc, cond, List, [], get_or, set, Float, Option, Some, None, Result, Ok, Err}
 use Rattle.std.specs.Float.{nan}
 use Rattle.refusals.specs.Refusals.{answered, bad_call, no_version}
+use Rattle.refusals.specs.Number.{number}
+use Rattle.refusals.specs.declared.Refusal.{Refusal}
 use Rattle.card.specs.Version.{known_version, lists_services}
 use Rattle.card.specs.Services.{Service, listed, services_ok}
 use Rattle.floats.specs.Constants as Constants
 use Rattle.battery.specs.Answer.{outlet_mark, outlet_value, refused_with}
-use Rattle.battery.specs.Ledger.{renewed_battery}
+use Rattle.battery.specs.Ledger.{whole, renewed_battery}
 use Rattle.battery.specs.declared.Battery.{Battery}
 use Rattle.battery.specs.declared.Call.{Call}
 use Rattle.battery.specs.declared.Answer.{Answer}
@@ -15,7 +17,6 @@ use Rattle.battery.specs.declared.Ledger.{Ledger}
 use Rattle.engine.specs.Steps.{advance_of}
 use Rattle.sheet_calls.specs.Calls.{call_of}
 use Rattle.entries.specs.declared.own_record.Shown.{Shown}
-use Rattle.entries.specs.declared.own_record.Renewed.{Renewed}
 use Rattle.entries.specs.declared.own_record.OwnRecord.{OwnRecord}
 use Rattle.entries.specs.declared.own_record.OwnServices.{OwnServices}
 
@@ -43,10 +44,10 @@ reply_shown reply =
 abbrev pub refused_shown : ℕ → Shown
 refused_shown n = record { refusal = n; mark = 0; substeps = 0; energy = Constants.zero; outlet = Constants.zero; time = Constants.zero }
 
--- a battery whose zones lie apart, with its totals renewed and these zones: its card and count stay
-abbrev pub renewed_with : Ledger → Renewed → List Float → Advanced
-renewed_with ledger renewed zones =
-    record { battery = renewed_battery ledger renewed.totals zones; shown = renewed.shown }
+-- a battery whose zones lie apart after a call, with these zones, and what is shown: its totals are renewed where the call is answered
+abbrev pub answered_with : Ledger → Result Reply Refusal → List Float → Advanced
+answered_with ledger (Ok reply) zones = record { battery = renewed_battery ledger reply.totals zones; shown = reply_shown reply }
+answered_with ledger (Err refusal) zones = record { battery = whole ledger zones; shown = refused_shown (number refusal) }
 
 -- zones of which the first n are those of another list
 unfoldable pub renewed_zones : List Float → List Float → ℕ → List Float

@@ -14,6 +14,7 @@ ghost use Rattle.entries.specs.Entry.{WasAfter, shown_number, open_known, line_a
 use battery::{Answer, Battery};
 use card::Card;
 use refusals::Refusal;
+use sheet_records::cards::CardBytes;
 
 // Opens a sheet of a known version: its version and card line, and a fresh battery.
 pub fn open(version: u8, card: &[u8], record: &mut [u8], sheet: &mut [u8]) -> Result<(), Refusal>
@@ -22,8 +23,12 @@ pub fn open(version: u8, card: &[u8], record: &mut [u8], sheet: &mut [u8]) -> Re
     if card.len() != sheet_records::cards::card_length(version, card) {
         return Err(Refusal::CardOutOfRange);
     }
-    let c = sheet_records::cards::read_card(version, card);
-    sheet_records::services::check(version, c, card)?;
+    let line0 = CardBytes {
+        version,
+        bytes: card,
+    };
+    let c = line0.read_card();
+    line0.check(c)?;
     if record.len() != sheet_records::record_length(version, c, card) {
         return Err(Refusal::BadCall);
     }
@@ -44,8 +49,12 @@ pub fn record_card(version: u8, record: &[u8]) -> Option<Card>
     if record.len() < sheet_records::cards::card_length(version, record) {
         return None;
     }
-    let c = sheet_records::cards::read_card(version, record);
-    sheet_records::services::check(version, c, record).ok()?;
+    let line0 = CardBytes {
+        version,
+        bytes: record,
+    };
+    let c = line0.read_card();
+    line0.check(c).ok()?;
     if record.len() != sheet_records::record_length(version, c, record) {
         return None;
     }
@@ -53,15 +62,17 @@ pub fn record_card(version: u8, record: &[u8]) -> Option<Card>
 }
 
 // Whether a battery of an accepted card and its count is accepted: zones and totals decide.
+#[tactic(auto, using(crate::proofs::Checked::finite_decides, battery::proofs::Zones::finite_front, card::proofs::Accepted::accepted_layers))]
 pub fn record_accepted(version: u8, battery: Battery) -> bool
     requires { (card_refusal version battery.card ≡ 0) × (battery.count ≡ battery.card.layers) }
     ensures { result ≡ battery_accepted version battery }
 {
     let n = battery.card.layers as usize;
-    battery::zones_finite(&battery.zones, n) & battery::totals_finite(battery.totals())
+    battery::zones_finite(&battery.zones[..n]) & battery::totals_finite(battery.totals())
 }
 
 // The line of an answer, and the record renewed: the refusal that the line shows, 0 for none. 10 and 11 have no line and leave every byte.
+#[tactic(auto, using(crate::proofs::Entering::line_ten, crate::proofs::Entering::line_room, crate::proofs::Entering::line_refused, crate::proofs::Entering::line_answered))]
 pub fn enter(
     version: u8,
     record: &mut [u8],
@@ -80,7 +91,7 @@ pub fn enter(
         return Err(Refusal::NoRoom);
     }
     sheet_lines::lines::put_line(version, sheet, call, answer);
-    // Ok with a number, not `Refusal`: the answer's refusal is the sheet's byte, any of 256
+    // Ok with a number, not `Refusal`: an answer's refusal is a byte, any of 256 by its type
     if answer.refusal != 0 {
         return Ok(answer.refusal);
     }

@@ -1,12 +1,12 @@
-// A call on the caller's own battery: the first of its zones stored where they lie, what is left of the totals, and what is shown.
+// A call on the caller's own battery: the first of its zones stored where they lie, and what is shown.
 ghost use Rattle.std.specs.Prelude.{◌≡◌, ◌+◌, ◌≤◌, true, length};
 ghost use Rattle.refusals.specs.Number.{number};
 ghost use Rattle.battery.specs.Answer.{settled};
 ghost use Rattle.battery.specs.Ledger.{whole};
-ghost use Rattle.entries.specs.Record.{reply_shown, refused_shown, renewed_with, renewed_zones, lent_services, advance_listed, answer_own, advanced_of};
+ghost use Rattle.entries.specs.Record.{reply_shown, refused_shown, answered_with, renewed_zones, lent_services, advance_listed, answer_own, advanced_of};
 
 use battery::lent::Lent;
-use battery::{Battery, Ledger, Reply, Totals};
+use battery::{Battery, Ledger, Reply};
 use card::services::{Service, Services};
 use refusals::Refusal;
 
@@ -15,7 +15,7 @@ use refusals::Refusal;
 #[derive(Clone, Copy)]
 pub struct OwnRecord {
     pub battery: Battery,
-    // how many there are
+    // how many there are, in two arrays: C's layout
     pub services: u8,
     pub numbers: [u16; 32],
     pub classes: [u8; 32],
@@ -35,6 +35,7 @@ impl<'a> Services for OwnServices<'a> {
 
     ghost room = { λ services. 32 };
 
+    #[tactic(auto, using(crate::proofs::OwnServices::own_count, crate::proofs::OwnServices::own_none))]
     fn count(&self) -> usize {
         if card::version::lists_services(self.version) {
             return self.count as usize;
@@ -42,6 +43,7 @@ impl<'a> Services for OwnServices<'a> {
         0
     }
 
+    #[tactic(auto, unfolding(crate::specs::Record::own_service), using(crate::proofs::OwnServices::own_entry))]
     fn service(&self, k: usize) -> Service {
         Service {
             number: self.numbers[k],
@@ -66,13 +68,6 @@ pub struct Shown {
     pub outlet: f64,
     // seconds
     pub time: f64,
-}
-
-// What a call leaves of a battery besides its zones, and what it shows.
-#[derive(Clone, Copy)]
-pub struct Renewed {
-    pub totals: Totals,
-    pub shown: Shown,
 }
 
 // What an answer shows.
@@ -107,7 +102,9 @@ impl From<Refusal> for Shown {
     }
 }
 
-// Stores the first n zones of another list; the places above are not written.
+// Stores the first n zones of another list; the places above are not written. A function for its contract, which the answer's proof and two edits are
+// of; with two slices it would be `copy_from_slice` itself.
+#[tactic(auto, using(crate::proofs::Zones::renewed_front))]
 fn renew_zones(zones: &mut [f64; 64], own: &[f64; 64], n: usize)
     requires { n ≤ 64 }
     ensures { zones.new ≡ renewed_zones zones.old own.now n }
@@ -116,7 +113,9 @@ fn renew_zones(zones: &mut [f64; 64], own: &[f64; 64], n: usize)
 }
 
 // A call's bytes on any battery and services whatsoever, its zones apart: 10 where one of them is refused. They are judged before the call is read,
-// so that the call goes to the step from where it was read, without a copy.
+// so that the call goes to the step from where it was read, without a copy. Battery, services, call and zones are what C lends, four things that no struct
+// holds: its record has the zones inside.
+#[tactic(auto, unfolding(crate::specs::Record::advance_read), using(card::proofs::Listed::ok_length, engine::proofs::Accepted::accepted_few, engine_replies::proofs::Settled::settled_refusal, sheet_calls::proofs::ByKind::kind_fits, sheet_calls::proofs::ByKind::read_by_kind, sheet_calls::proofs::ByKind::none_by_kind, crate::proofs::Answered::not_accepted_listed, crate::proofs::Answered::accepted_listed))]
 fn advance_read(
     version: u8,
     ledger: Ledger,
@@ -143,6 +142,7 @@ fn advance_read(
 }
 
 // The same in any version: 40 where it isn't known.
+#[tactic(auto, unfolding(crate::specs::Record::answer_own), using(engine_replies::proofs::Settled::settled_refusal))]
 fn advance_version(
     version: u8,
     ledger: Ledger,
@@ -158,27 +158,19 @@ fn advance_version(
     Err(Refusal::NoVersion)
 }
 
-// A call's bytes on a battery whose zones lie apart. It runs on a copy of them: answered, the first `count` are stored, and refused, none.
+// A call's bytes on a battery whose zones lie apart. It runs on a copy of them: answered, the first `count` are stored, and refused, none. The totals
+// are the caller's to store.
+#[tactic(auto, unfolding(battery::specs::Answer::refused_with, crate::specs::Record::shown_of, crate::specs::Record::advanced_by, crate::specs::Record::advanced_of), using(engine_replies::proofs::Settled::settled_refusal, crate::proofs::Answered::answer_is, crate::proofs::Answered::answered_few, crate::proofs::Answered::answered_zones))]
 pub fn advance_apart(
     ledger: Ledger,
     services: OwnServices<'_>,
     call: &[u8],
     zones: &mut [f64; 64],
-) -> Renewed
-    ensures { renewed_with ledger result zones.new ≡ advanced_of services.entry.version (lent_services services.entry) (whole ledger zones.old) call.now }
+) -> Result<Reply, Refusal>
+    ensures { answered_with ledger result zones.new ≡ advanced_of services.entry.version (lent_services services.entry) (whole ledger zones.old) call.now }
 {
     let mut own = *zones;
-    match advance_version(services.version, ledger, services, call, &mut own) {
-        Ok(reply) => {
-            renew_zones(zones, &own, ledger.count as usize);
-            Renewed {
-                totals: reply.totals,
-                shown: Shown::from(reply),
-            }
-        }
-        Err(refusal) => Renewed {
-            totals: ledger.totals,
-            shown: Shown::from(refusal),
-        },
-    }
+    let reply = advance_version(services.version, ledger, services, call, &mut own)?;
+    renew_zones(zones, &own, ledger.count as usize);
+    Ok(reply)
 }

@@ -2,9 +2,9 @@
 use mathlib.Core.Path.{◌≡◌, refl}
 use mathlib.Core.Bool.{true, false, not}
 use lib.Dec.{T}
+use Rattle.std.specs.Float.{float_is_finite}
 use lib.Ieee.{Float, nan, inf, fin, Format, binary64, sub, eq, le, is_nan, of_bits}
 use lib.Ieee.Scale.{finite}
-use lib.Ieee.Bits.{is_true}
 use Rattle.floats.proofs.Parts.{number, zero}
 use Rattle.floats.proofs.Compare.{eq_numbers, le_numbers}
 use Rattle.floats.proofs.Order.{le_refl, le_antisym, eq_refl}
@@ -37,13 +37,12 @@ sub_self f (fin s m e) p =
     let n = sub_number f x x tt tt in
     le_antisym (sub f x x) zero (sub_nonpos f x x n (le_refl x tt)) (sub_nonneg f x x n (le_refl x tt))
 
--- x - x == 0.0 tests for a finite value
-pub sub_self_is : (f : Format) (x : Float) → eq (sub f x x) zero ≡ finite x
-unfolding sub eq
-sub_self_is f nan = refl
-sub_self_is f (inf true) = refl
-sub_self_is f (inf false) = refl
-sub_self_is f (fin s m e) = is_true (eq (sub f (fin s m e) (fin s m e)) zero) (sub_self f (fin s m e) tt)
+-- the library's test
+pub finite_is : (x : Float) → float_is_finite x ≡ finite x
+unfolding float_is_finite
+finite_is nan = refl
+finite_is (inf s) = refl
+finite_is (fin s m e) = refl
 
 -- what lies between two finite values is finite
 pub between_finite : (a x b : Float) → T (finite a) → T (finite b) → T (le a x) → T (le x b) → T (finite x)

@@ -8,10 +8,9 @@ use borrow.Author.Tests.{lt-leb, le-leb, ne_eqb}
 use mathlib.Core.Logic.{⊎_elim}
 use lib.Dec.{T, leb, eqb, lit≤}
 use lib.Pow.{pow-add, pow_pos, pow_mono, shl_lt, shl_exact, shr_le, le_ones}
-use lib.Ieee.{Float, nan, inf, fin, binary64, to_unsigned, is_nan, ne, eq, fits, to_bits, of_bits, of_fields, odd, up, down}
+use lib.Ieee.{Float, nan, inf, fin, binary64, to_unsigned, is_nan, fits, to_bits, of_bits, of_fields, odd, up, down}
 use lib.Ieee.Exact.{HasValue, odd_sign}
 use lib.Ieee.Bits.{of_bits-to_bits}
-use lib.Ieee.Compare.{differs_from_itself}
 use lib.Ieee.Nearest.{div_same}
 use lib.Ieee.Fits.{down_pos}
 
@@ -173,12 +172,11 @@ module _ (x : Float) (fit : fits binary64 x ≡ true) where
         at_fields (high _ _ digits q (omega arith) (rw e n))
 
 -- a NaN gives 0; what equals itself is no NaN
-pub trunc_nan : (x : Float) → ne x x ≡ true → 0 ≡ to_unsigned 64 x
-unfolding to_unsigned
-trunc_nan x h = let e : x ≡ nan = differs_from_itself x (rw h tt) in rw e
+pub trunc_nan : (x : Float) → is_nan x ≡ true → 0 ≡ to_unsigned 64 x
+unfolding is_nan to_unsigned
+trunc_nan nan h = refl
+trunc_nan (inf s) h = absurd (true≢false (sym h))
+trunc_nan (fin s m e) h = absurd (true≢false (sym h))
 
-pub same_not_nan : (x : Float) → ne x x ≡ false → T (not (is_nan x))
-unfolding ne eq is_nan
-same_not_nan nan h = absurd (true≢false h)
-same_not_nan (inf s) h = tt
-same_not_nan (fin s m e) h = tt
+pub not_nan : (x : Float) → is_nan x ≡ false → T (not (is_nan x))
+not_nan x h = rw h tt

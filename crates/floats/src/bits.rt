@@ -1,4 +1,5 @@
-// Document 01's stand-ins that take a float's bits apart: `ln`, and `as usize`. Their definitions are in floats.
+// Document 01's stand-ins that take a float's bits apart: `ln`, and `as usize`. Their definitions are in specs/Ln.antt and specs/Standins.antt.
+// `f64::to_bits` asks that a number is no NaN, and so do the functions that call it.
 ghost use Rattle.std.specs.Prelude.{◌≡◌, not, T};
 ghost use Rattle.std.specs.Float.Ieee.{is_nan};
 ghost use Rattle.floats.specs.Standins.{truncate as truncate_of};
@@ -82,11 +83,13 @@ pub fn ln(x: f64) -> Option<f64>
     None
 }
 
-// Rust's `as usize` on 64 bits: towards 0, to the nearest end of the range where it lies outside, 0 of a NaN.
+// Rust's `as usize` on 64 bits: towards 0, to the nearest end of the range where it lies outside, 0 of a NaN. By the bits and not the library's cast:
+// document 01 has it so, 'truncation from the bits'.
+#[tactic(auto, unfolding(crate::specs::Standins::truncate), using(crate::proofs::Truncation::trunc_nan, crate::proofs::Truncation::trunc_negative, crate::proofs::Truncation::trunc_small, crate::proofs::Truncation::trunc_right, crate::proofs::Truncation::trunc_left, crate::proofs::Truncation::trunc_top))]
 pub fn truncate(x: f64) -> u64
     ensures { result ≡ truncate_of x }
 {
-    if x != x {
+    if x.is_nan() {
         return 0;
     }
     let bits = f64::to_bits(x);

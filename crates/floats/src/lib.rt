@@ -3,7 +3,7 @@
 
 pub mod bits;
 
-ghost use Rattle.std.specs.Prelude.{◌≡◌, ◌&&◌, ◌≤◌};
+ghost use Rattle.std.specs.Prelude.{◌≡◌, ◌&&◌, ◌≤◌, length};
 ghost use Rattle.std.specs.Float.Ieee.{eq};
 ghost use Rattle.floats.specs.Constants.{zero};
 ghost use Rattle.floats.specs.Standins.{finite64, magnitude as magnitude_of, larger as larger_of, nearly_equal, max_zero, min as min_of, square as square_of};
@@ -34,11 +34,11 @@ pub const SECONDS_PER_HOUR: f64 = 3600.0;
 
 pub const KILOJOULES_PER_KILOWATT_HOUR: f64 = 3600.0;
 
-#[tactic(auto, using(crate::proofs::Finite::zero_literal, crate::proofs::Finite::sub_self_is), unfolding(crate::specs::Standins::finite64))]
+#[tactic(auto, using(crate::proofs::Finite::finite_is), unfolding(crate::specs::Standins::finite64))]
 pub fn is_finite(x: f64) -> bool
     ensures { result ≡ finite64 x }
 {
-    x - x == 0.0
+    x.is_finite()
 }
 
 // One number more in a running test: from 0.0 on, it equals 0 as long as each number is finite. Two operations, no branch.
@@ -126,14 +126,13 @@ pub fn sum2_step(sum: Sum2, p: f64) -> Sum2
     }
 }
 
-// The compensated sum of the first n of xs.
-#[tactic(auto, using(crate::proofs::Front::front_at, crate::proofs::Front::front_end, crate::proofs::Sum2Laws::sum2_more, crate::proofs::Sum2Laws::sum2_end), unfolding(crate::specs::Sum2::sum2_after))]
-pub fn sum_with_accumulator(xs: [f64; 64], n: usize) -> f64
-    requires { n ≤ 64 }
-    ensures { result ≡ sum2 xs n }
+// The compensated sum.
+#[tactic(auto, using(crate::proofs::Sum2Laws::sum2_more, crate::proofs::Sum2Laws::sum2_end), unfolding(crate::specs::Sum2::sum2_after))]
+pub fn sum_with_accumulator(xs: &[f64]) -> f64
+    ensures { result ≡ sum2 xs.now (length xs.now) }
 {
     let mut a = Sum2 { s: 0.0, c: 0.0 };
-    for x in &xs[..n] {
+    for x in xs {
         a = sum2_step(a, *x);
     }
     a.s + a.c

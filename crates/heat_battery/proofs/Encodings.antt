@@ -13,7 +13,7 @@ use lib.Seq.{take_at}
 use Rattle.codec.specs.Bytes.{over}
 use Rattle.card.specs.Card.{card_refusal}
 use Rattle.card.specs.Version.{known_version}
-use Rattle.card.proofs.Listed.{accepted_full}
+use Rattle.card.proofs.FullRefusal.{accepted_full}
 use Rattle.card.specs.Services.{Service}
 use Rattle.card.specs.declared.Card.{Card}
 use Rattle.battery.specs.declared.Battery.{Battery}

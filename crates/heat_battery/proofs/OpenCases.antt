@@ -11,7 +11,9 @@ use Rattle.logic.proofs.Tests.{no_both}
 use Rattle.card.specs.Card.{card_in_range, card_refusal, CardRefusal}
 use Rattle.card.specs.Services.{services_ok}
 use Rattle.card.proofs.Refusals.{card_refusal_own}
-use Rattle.card.proofs.Listed.{ok_none, full_few, full_61, full_refusal_lem, services_exactly}
+use Rattle.card.proofs.Listed.{ok_none}
+use Rattle.card.proofs.FullRefusal.{full_few, full_61, full_refusal_lem}
+use Rattle.card.proofs.ServicesCase.{services_exactly}
 use Rattle.card.specs.Version.{known_version, lists_services}
 use Rattle.card.specs.declared.Card.{Card}
 use Rattle.sheet_records.specs.Cards.{count_place, card_length, card_at, service_at, services_at, refusal_at}

@@ -9,7 +9,7 @@ use native.Mathlib.Omega.{arith}
 use Rattle.logic.proofs.Tests.{no_both, true_and}
 use Rattle.card.specs.Version.{known_version}
 use Rattle.card.specs.Services.{Service, services_ok}
-use Rattle.card.proofs.Listed.{full_accepted, accepted_full}
+use Rattle.card.proofs.FullRefusal.{full_accepted, accepted_full}
 use Rattle.battery.specs.declared.Battery.{Battery}
 use Rattle.battery.specs.declared.Call.{Call}
 use Rattle.battery.specs.declared.Answer.{Answer}

@@ -19,10 +19,12 @@ use battery::Battery;
 use card::Card;
 use entries::own_record::{OwnRecord, OwnServices, Shown};
 use refusals::Refusal;
-use sheet_records::services::CardBytes;
+use sheet_records::cards::CardBytes;
 
-// Opens a sheet: its version and card line, and a fresh battery; 40 before all where the version isn't known.
+// Opens a sheet: its version and card line, and a fresh battery; 40 before all where the version isn't known. A refusal leaves as its number here, and in
+// `heat_battery_call`: C reads it.
 #[unsafe(no_mangle)]
+#[tactic(auto, using(entries::proofs::Opening::open_known_lem, entries::proofs::Opening::open_unknown))]
 pub extern "C" fn heat_battery_open(
     version: u8,
     card: &[u8],
@@ -82,6 +84,7 @@ fn with_card(
 }
 
 // A call on a record of a known version: its card read and judged.
+#[tactic(auto, unfolding(crate::specs::Entries::entry_known), using(entries::proofs::Checked::good_card, entries::proofs::Checked::bad_card_lem))]
 fn with_version(
     version: u8,
     record: &mut [u8],
@@ -98,6 +101,7 @@ fn with_version(
 
 // One call on a battery record: its line at the front of the lent part of the sheet, and the record renewed; 40 before all.
 #[unsafe(no_mangle)]
+#[tactic(auto, using(crate::proofs::Calling::entry_known_lem, crate::proofs::Calling::entry_unknown))]
 pub extern "C" fn heat_battery_call(
     version: u8,
     record: &mut [u8],
@@ -133,6 +137,7 @@ pub extern "C" fn heat_battery_audit_whole(sheet: &[u8]) -> AuditVerdict
 
 // Advances the caller's own battery by a call: 40, 10, or the steps. Answered, its first `count` zones and five totals are stored; refused, nothing is.
 #[unsafe(no_mangle)]
+#[tactic(auto, using(crate::proofs::RecordAfter::shown_told, crate::proofs::RecordAfter::after_told))]
 pub extern "C" fn heat_battery_advance(version: u8, own: &mut OwnRecord, call: &[u8]) -> Shown
     ensures { (result ≡ (own_advanced version own.old call.now).shown) × (own.new ≡ (own_advanced version own.old call.now).own) }
 {
@@ -143,13 +148,11 @@ pub extern "C" fn heat_battery_advance(version: u8, own: &mut OwnRecord, call: &
         numbers: &own.numbers,
         classes: &own.classes,
     };
-    let out = entries::own_record::advance_apart(l, services, call, &mut own.battery.zones);
-    if out.shown.refusal == 0 {
-        own.battery.total = out.totals.total;
-        own.battery.pump = out.totals.pump;
-        own.battery.direct = out.totals.direct;
-        own.battery.charged = out.totals.charged;
-        own.battery.electric = out.totals.electric;
+    match entries::own_record::advance_apart(l, services, call, &mut own.battery.zones) {
+        Ok(reply) => {
+            own.battery.set_totals(reply.totals);
+            Shown::from(reply)
+        }
+        Err(refusal) => Shown::from(refusal),
     }
-    out.shown
 }

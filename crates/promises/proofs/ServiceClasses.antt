@@ -13,7 +13,8 @@ use Rattle.logic.proofs.Tests.{and_true}
 use Rattle.codec.specs.Bytes.{be_at}
 use Rattle.card.specs.Version.{lists_services}
 use Rattle.card.specs.Services.{Service, listed, most_services, service_ok, rising_from, services_ok, listed_class, class_of}
-use Rattle.card.proofs.Listed.{services_exactly, own_type, above_type, class_small}
+use Rattle.card.proofs.ServicesCase.{services_exactly}
+use Rattle.card.proofs.ServiceClass.{own_type, above_type, class_small}
 use Rattle.battery.specs.declared.Demand.{Demand}
 use Rattle.battery.specs.declared.Call.{Call}
 use Rattle.battery.specs.declared.Call.TheVariants.{DemandEnergy, ChargeElectric, ChargeHydronic, HeatLoss, CloseTimestep, ReadStateOfCharge, ChargeEnergyDemand}

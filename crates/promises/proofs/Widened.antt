@@ -12,7 +12,7 @@ use lib.ListN.{length, get_or}
 use Rattle.codec.specs.Bytes.{be, be_at}
 use Rattle.card.specs.Version.{lists_services}
 use Rattle.card.specs.Services.{Service, class_of}
-use Rattle.card.proofs.Listed.{own_type}
+use Rattle.card.proofs.ServiceClass.{own_type}
 use Rattle.sheet_calls.specs.Calls.{commit_place, call_length, mark_ok, given_at, demand_class, demand_at, demand_call, hydronic_at, charge_demand_call, bare_call, call_by, call_of}
 use Rattle.promises.specs.TwoAndThree.{widened}
 

@@ -34,6 +34,7 @@ pub enum Refusal {
 pub const ANSWERED: u8 = 0;
 
 impl Refusal {
+    // A method and no `From`: `number` is what definitions and contracts name.
     pub fn number(self) -> u8
         ensures { result ≡ number_of self }
     {

@@ -14,7 +14,7 @@ ghost use Rattle.runs.specs.Charge.{electric_input, electric_ended, charge_elect
 use battery::Ledger;
 use battery::lent::Lent;
 use card::Card;
-use runs::{Exchanger, HydronicState, HydronicTask, Source, Stopped};
+use runs::{End, Exchanger, HydronicState, HydronicTask, Source, Stopped};
 use substep::{Outcome, SubstepInput};
 use zone::lent::LentSalts;
 use zone::{Kilojoules, KilowattHours};
@@ -49,11 +49,12 @@ fn electric_ended(ledger: Ledger, outcome: Outcome) -> Stopped
         electric: KilowattHours(ledger.totals.electric + outcome.charged.0),
         outlet: 0.0,
         time: 0.0,
-        end: runs::fault_end(outcome.fault),
+        end: End::from(outcome.fault),
         substeps: 1,
     }
 }
 
+#[tactic(auto, unfolding(runs::specs::Charge::electric_input, runs::specs::Charge::charge_electric), using(zone::proofs::Salts::salts_at))]
 pub fn charge_battery_electric<const STEP: usize>(
     lent: Lent<'_, STEP>,
     power: f64,
@@ -156,12 +157,13 @@ fn loss_ended(ledger: Ledger, outcome: Outcome) -> Stopped
         electric: KilowattHours(ledger.totals.electric),
         outlet: 0.0,
         time: 0.0,
-        end: runs::fault_end(outcome.fault),
+        end: End::from(outcome.fault),
         substeps: 1,
     }
 }
 
 // No loss has heat of a charger.
+#[tactic(auto, unfolding(runs::specs::Charge::loss_input, runs::specs::Charge::battery_heat_loss), using(zone::proofs::Salts::salts_at))]
 pub fn battery_heat_loss<const STEP: usize>(lent: Lent<'_, STEP>, zones: &mut [f64; 64]) -> Stopped
     requires { lt (charger_heat (loss_input lent.ledger.card)).0 zero ≡ false }
     ensures { AsDefined (end_refusal result.end) result zones.new (battery_heat_loss (whole lent.entry.ledger zones.old)) }

@@ -19,7 +19,7 @@ use Rattle.runs.specs.Zoned.{Zoned, zoned, AsDefined, on_part}
 use Rattle.run_demand.specs.declared.DemandTask.{DemandTask}
 use Rattle.run_demand.specs.declared.DemandState.{DemandState}
 use Rattle.run_demand.specs.declared.DemandTurn.{DemandTurn}
-use Rattle.run_demand.specs.declared.DemandEnd.{DemandEnd}
+use Rattle.runs.specs.declared.Ended.{Ended}
 use Rattle.run_demand.specs.Demand.{demand_ended, demand_input, demand_turn, demand_by, demand_substep}
 
 pub demand_turn_lem :
@@ -40,6 +40,6 @@ demand_faulted x s u zones NotFinite e h = rw h (refl, λ z. absurd (finite_refu
 
 -- what the run hands out
 pub demand_ended_lem :
-    (e : DemandEnd) (zones : List Float) (d : Zoned DemandEnd) (r : Stopped) → AsDefined (end_refusal e.end) e zones d → r ≡ demand_ended e → AsDefined (end_refusal r.end) r zones (on_part demand_ended d)
+    (e : Ended DemandState) (zones : List Float) (d : Zoned (Ended DemandState)) (r : Stopped) → AsDefined (end_refusal e.end) e zones d → r ≡ demand_ended e → AsDefined (end_refusal r.end) r zones (on_part demand_ended d)
 unfolding demand_ended
 demand_ended_lem e zones d r l h = as_defined_on _ _ demand_ended e r zones d l h (λ z. sym (ap (λ (x : Stopped). end_refusal x.end) h) ∙ z)

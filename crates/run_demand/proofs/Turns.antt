@@ -13,23 +13,23 @@ use Rattle.zone.specs.declared.Salt.{Salt}
 use Rattle.run_demand.specs.declared.DemandTask.{DemandTask}
 use Rattle.run_demand.specs.declared.DemandState.{DemandState}
 use Rattle.run_demand.specs.declared.DemandTurn.{DemandTurn}
-use Rattle.run_demand.specs.declared.DemandEnd.{DemandEnd}
+use Rattle.runs.specs.declared.Ended.{Ended}
 use Rattle.runs.specs.declared.End.{End}
 use Rattle.runs.specs.declared.End.TheVariants.{NoStep, OverBudget}
-use Rattle.runs.specs.Runs.{end_refusal, next_refusal}
+use Rattle.runs.specs.Runs.{end_refusal, next_refusal, run_end}
 use Rattle.runs.specs.Zoned.{Zoned, zoned, AsDefined}
-use Rattle.run_demand.specs.Demand.{demand_end, demand_then, demand_run, demand_substep}
+use Rattle.run_demand.specs.Demand.{demand_then, demand_run, demand_substep}
 
-no_step_at : (x : DemandTask) (salts : ℕ → Salt) (k n : ℕ) (s : Zoned DemandState) → lt Constants.zero s.part.step ≡ false → demand_end s NoStep n ≡ demand_run x salts k n s
+no_step_at : (x : DemandTask) (salts : ℕ → Salt) (k n : ℕ) (s : Zoned DemandState) → lt Constants.zero s.part.step ≡ false → run_end s NoStep n ≡ demand_run x salts k n s
 unfolding demand_run
 no_step_at x salts zero n s h = via_false _ _ h refl
 no_step_at x salts (suc k) n s h = via_false _ _ h refl
 
 module _ (x : DemandTask) (salts : ℕ → Salt) (b n : ℕ) (s : Zoned DemandState) where
-  pub demand_no_step : not (lt Constants.zero s.part.step) ≡ true → demand_end s NoStep n ≡ demand_run x salts (b - n) n s
+  pub demand_no_step : not (lt Constants.zero s.part.step) ≡ true → run_end s NoStep n ≡ demand_run x salts (b - n) n s
   demand_no_step h = no_step_at x salts (b - n) n s (not-true (lt Constants.zero s.part.step) h)
 
-  pub demand_over_budget : n ≡ b → not (lt Constants.zero s.part.step) ≡ false → demand_end s OverBudget n ≡ demand_run x salts (b - n) n s
+  pub demand_over_budget : n ≡ b → not (lt Constants.zero s.part.step) ≡ false → run_end s OverBudget n ≡ demand_run x salts (b - n) n s
   unfolding demand_run
   demand_over_budget e h =
       let z : b - n ≡ 0 = omega arith in
@@ -48,7 +48,7 @@ module _ (x : DemandTask) (salts : ℕ → Salt) (b n : ℕ) (s : Zoned DemandSt
     run_on g = rw (l.1 (ap next_refusal g)) (sym (demand_unfolds ∙ rw g))
 
     pub run_stops :
-        (k : End) (e : Zoned DemandEnd) → t.next ≡ Some k → demand_run x salts (b - n) n s ≡ e → AsDefined (end_refusal k) (record { state = t.state; end = k; substeps = n + 1 }) after e
+        (k : End) (e : Zoned (Ended DemandState)) → t.next ≡ Some k → demand_run x salts (b - n) n s ≡ e → AsDefined (end_refusal k) (record { state = t.state; end = k; substeps = n + 1 }) after e
     run_stops k e g d =
-        let w : demand_end (zoned t.state (demand_substep x salts s).zones) k (n + 1) ≡ e = sym (demand_unfolds ∙ rw g) ∙ d in
-        (ap (λ (v : Zoned DemandEnd). v.part) w, λ r. l.1 (ap next_refusal g ∙ r) ∙ ap (λ (v : Zoned DemandEnd). v.zones) w)
+        let w : run_end (zoned t.state (demand_substep x salts s).zones) k (n + 1) ≡ e = sym (demand_unfolds ∙ rw g) ∙ d in
+        (ap (λ (v : Zoned (Ended DemandState)). v.part) w, λ r. l.1 (ap next_refusal g ∙ r) ∙ ap (λ (v : Zoned (Ended DemandState)). v.zones) w)

@@ -17,11 +17,11 @@ use Rattle.substep.specs.declared.Fault.TheVariants.{Logarithm, NotFinite}
 use Rattle.run_demand.specs.declared.DemandTask.{DemandTask}
 use Rattle.run_demand.specs.declared.DemandState.{DemandState}
 use Rattle.run_demand.specs.declared.DemandTurn.{DemandTurn}
-use Rattle.run_demand.specs.declared.DemandEnd.{DemandEnd}
+use Rattle.runs.specs.declared.Ended.{Ended}
 use Rattle.runs.specs.declared.Stopped.{Stopped}
 use Rattle.runs.specs.declared.End.{End}
 use Rattle.runs.specs.declared.End.TheVariants.{Negative, Met, NoStep, OverBudget, NoLogarithm, NotFiniteRun}
-use Rattle.runs.specs.Runs.{outcome, reynold_between}
+use Rattle.runs.specs.Runs.{outcome, reynold_between, run_end}
 use Rattle.runs.specs.Zoned.{Zoned, zoned, on_part}
 
 -- a substep of the step's length; a demand charges to level 0
@@ -89,27 +89,21 @@ demand_substep task salts run =
 abbrev pub turn_state : DemandTurn → DemandState
 turn_state turn = turn.state
 
-abbrev pub end_state : DemandEnd → DemandState
-end_state run = run.state
-
-abbrev pub demand_end : Zoned DemandState → End → ℕ → Zoned DemandEnd
-demand_end run end n = zoned (record { state = run.part; end = end; substeps = n }) run.zones
-
 -- what follows a substep: it ends the run, or the run goes on from it
-abbrev pub demand_then : (Zoned DemandState → Zoned DemandEnd) → ℕ → Zoned DemandState → Option End → Zoned DemandEnd
+abbrev pub demand_then : (Zoned DemandState → Zoned (Ended DemandState)) → ℕ → Zoned DemandState → Option End → Zoned (Ended DemandState)
 demand_then go n run None = go run
-demand_then go n run (Some e) = demand_end run e n
+demand_then go n run (Some e) = run_end run e n
 
 -- 'The substep loop ends at the first of: negative delivery, demand met, no positive step, a refusal; and the end hands out its count':
 -- the run from s with n substeps done and k left of the budget
-unfoldable pub demand_run : DemandTask → (ℕ → Salt) → ℕ → ℕ → Zoned DemandState → Zoned DemandEnd
-demand_run task salts zero n run = cond (lt Constants.zero run.part.step) (demand_end run OverBudget n) (demand_end run NoStep n)
+unfoldable pub demand_run : DemandTask → (ℕ → Salt) → ℕ → ℕ → Zoned DemandState → Zoned (Ended DemandState)
+demand_run task salts zero n run = cond (lt Constants.zero run.part.step) (run_end run OverBudget n) (run_end run NoStep n)
 demand_run task salts (suc k) n run =
     cond (lt Constants.zero run.part.step)
     (demand_then (demand_run task salts k (n + 1)) (n + 1) (on_part turn_state (demand_substep task salts run)) (demand_substep task salts run).part.next)
-    (demand_end run NoStep n)
+    (run_end run NoStep n)
 
 -- what the run hands out
-unfoldable pub demand_ended : DemandEnd → Stopped
+unfoldable pub demand_ended : Ended DemandState → Stopped
 demand_ended run =
     record { energy = run.state.delivered; electric = run.state.electric; outlet = run.state.outlet; time = run.state.running; end = run.end; substeps = run.substeps }

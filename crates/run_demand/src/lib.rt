@@ -8,7 +8,7 @@ ghost use Rattle.runs.specs.Zoned.{zoned, AsDefined};
 ghost use Rattle.run_demand.specs.Demand.{demand_input, capped as capped_of, next_step, demand_met, cut as cut_of, demand_state_after, demand_delivered, demand_substep, demand_run, demand_ended};
 
 use card::{Card, HeatBatteryPcm};
-use runs::{End, Stopped};
+use runs::{End, Ended, Stopped};
 use substep::{Outcome, SubstepInput};
 use zone::KilowattHours;
 use zone::lent::LentSalts;
@@ -46,13 +46,6 @@ pub struct DemandTurn {
     pub state: DemandState,
     // none to go on
     pub next: Option<End>,
-}
-
-#[derive(Clone, Copy)]
-pub struct DemandEnd {
-    pub state: DemandState,
-    pub end: End,
-    pub substeps: u16,
 }
 
 #[tactic(auto, unfolding(crate::specs::Demand::demand_input))]
@@ -191,7 +184,7 @@ fn demand_substep<const STEP: usize>(
         None => demand_delivered(task, state, u),
         Some(_) => DemandTurn {
             state,
-            next: Some(runs::fault_end(u.fault)),
+            next: Some(End::from(u.fault)),
         },
     }
 }
@@ -200,17 +193,17 @@ fn demand_substep<const STEP: usize>(
 pub fn demand_run<const STEP: usize>(
     task: DemandTask,
     salts: LentSalts<'_, STEP>,
-    budget: u16,
+    budget: u32,
     start: DemandState,
     zones: &mut [f64; 64],
-) -> DemandEnd
+) -> Ended<DemandState>
     requires { task.card.layers ≤ salts.layers }
     ensures as_defined { AsDefined (end_refusal result.end) result zones.new (demand_run task (lent_salt salts.entry) budget 0 (zoned start zones.old)) }
     ensures substeps_le_budget { result.substeps ≤ budget }
 {
     let mut state = start;
-    let mut substeps: u16 = 0;
-    // no `for`: the loop is left with the end of the run and its count
+    let mut substeps: u32 = 0;
+    // no `for`: the loop is left by `break` with the end of the run, and hands out its count (document 01, 'a loop bounded by the budget')
     let end = loop {
         if !(state.step > 0.0) {
             break End::NoStep;
@@ -225,7 +218,7 @@ pub fn demand_run<const STEP: usize>(
             break e;
         }
     };
-    DemandEnd {
+    Ended {
         state,
         end,
         substeps,
@@ -233,7 +226,7 @@ pub fn demand_run<const STEP: usize>(
 }
 
 #[tactic(auto, unfolding(crate::specs::Demand::demand_ended))]
-pub fn demand_ended(ended: DemandEnd) -> Stopped
+pub fn demand_ended(ended: Ended<DemandState>) -> Stopped
     ensures { result ≡ demand_ended ended }
 {
     Stopped {
@@ -242,6 +235,6 @@ pub fn demand_ended(ended: DemandEnd) -> Stopped
         outlet: ended.state.outlet,
         time: ended.state.running,
         end: ended.end,
-        substeps: ended.substeps as u32,
+        substeps: ended.substeps,
     }
 }

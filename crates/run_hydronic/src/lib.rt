@@ -7,7 +7,7 @@ ghost use Rattle.runs.specs.Runs.{end_refusal, next_refusal};
 ghost use Rattle.runs.specs.Zoned.{zoned, AsDefined};
 ghost use Rattle.runs.specs.Hydronic.{wet_input, clearly_below, limit_reached, replay_by, replayed as replayed_of, fraction_seconds, hydronic_whole, hydronic_step, hydronic_run, hydronic_ended, whole_substeps};
 
-use runs::{End, HydronicEnd, HydronicState, HydronicTask, HydronicTurn, Stopped};
+use runs::{End, Ended, HydronicState, HydronicTask, HydronicTurn, Stopped};
 use substep::{Fault, Outcome, SubstepInput};
 use zone::lent::LentSalts;
 use zone::{Kilojoules, KilowattHours};
@@ -50,7 +50,7 @@ fn limit_reached(absorbed: Kilojoules, limit: Kilojoules) -> bool
     floats::nearly_equal(absorbed.0, limit.0, floats::TOLERANCE, floats::MAX_RELATIVE)
 }
 
-// What the fractional substep u leaves. An arm for each fault: one arm with `fault_end` would need a lemma, which the check doesn't ask for here.
+// What the fractional substep leaves. An arm for each fault: one arm with `End::from` would need a lemma of its own beside these two.
 #[tactic(auto, unfolding(runs::specs::Hydronic::replay_by), using(runs::proofs::InPlace::log_refused, runs::proofs::InPlace::finite_refused))]
 fn replay_by(
     task: HydronicTask,
@@ -86,7 +86,8 @@ fn replay_by(
     }
 }
 
-// The fractional substep, from the zones before the whole one and with the Reynolds number after it.
+// The fractional substep, from the zones before the whole one and with the Reynolds number after it. Here and below n goes beside the state, as in the
+// definitions, whose state is what a substep reads.
 fn replayed<const STEP: usize>(
     task: HydronicTask,
     salts: LentSalts<'_, STEP>,
@@ -121,7 +122,7 @@ fn fraction_seconds(task: HydronicTask, absorbed: Kilojoules, this: Kilojoules) 
     task.card.substep * (allowed / this.0)
 }
 
-// What the whole substep u leads to. `before` are the zones that it began with.
+// What the whole substep leads to. `before` are the zones that it began with.
 fn hydronic_whole<const STEP: usize>(
     task: HydronicTask,
     salts: LentSalts<'_, STEP>,
@@ -192,7 +193,7 @@ fn hydronic_step<const STEP: usize>(
         None => hydronic_whole(task, salts, n + 1, state, u, before, zones),
         Some(_) => HydronicTurn {
             state,
-            next: Some(runs::fault_end(u.fault)),
+            next: Some(End::from(u.fault)),
             substeps: n + 1,
         },
     }
@@ -212,14 +213,14 @@ pub fn hydronic_run<const STEP: usize>(
     steps: u64,
     start: HydronicState,
     zones: &mut [f64; 64],
-) -> HydronicEnd
+) -> Ended<HydronicState>
     requires { task.card.layers ≤ salts.layers }
     ensures { AsDefined (end_refusal result.end) result zones.new (hydronic_run task (lent_salt salts.entry) steps 0 (zoned start zones.old)) }
 {
     let budget = task.card.budget as u32;
     let mut state = start;
     let mut substeps: u32 = 0;
-    // no `for`: the loop is left with the end of the run, and a turn takes one substep or two
+    // no `for`: the loop is left by `break` with the end of the run, and a turn takes one substep or two
     let end = loop {
         if substeps as u64 == steps {
             break End::Time;
@@ -234,7 +235,7 @@ pub fn hydronic_run<const STEP: usize>(
             break e;
         }
     };
-    HydronicEnd {
+    Ended {
         state,
         end,
         substeps,
@@ -242,7 +243,7 @@ pub fn hydronic_run<const STEP: usize>(
 }
 
 #[tactic(auto, unfolding(runs::specs::Hydronic::hydronic_ended))]
-pub fn hydronic_ended(electric: KilowattHours, ended: HydronicEnd) -> Stopped
+pub fn hydronic_ended(electric: KilowattHours, ended: Ended<HydronicState>) -> Stopped
     ensures { result ≡ hydronic_ended electric ended }
 {
     Stopped {

@@ -24,7 +24,7 @@ use Rattle.runs.specs.declared.End.TheVariants.{Limit, Level}
 use Rattle.runs.specs.declared.HydronicTask.{HydronicTask}
 use Rattle.runs.specs.declared.HydronicState.{HydronicState}
 use Rattle.runs.specs.declared.HydronicTurn.{HydronicTurn}
-use Rattle.runs.specs.declared.HydronicEnd.{HydronicEnd}
+use Rattle.runs.specs.declared.Ended.{Ended}
 use Rattle.runs.specs.declared.Stopped.{Stopped}
 use Rattle.runs.specs.Zoned.{Zoned, zoned, AsDefined, on_part}
 use Rattle.runs.specs.Hydronic.{wet_input, hydronic_turn, clearly_below, limit_reached, hydronic_ended, replay_by, replayed, fraction_seconds, hydronic_whole, hydronic_by, hydronic_step}
@@ -97,7 +97,7 @@ hydronic_faulted x salts n s u zones NotFinite e h = rw h (refl, λ z. absurd (f
 
 -- what the run hands out
 pub wet_ended :
-    (electric : KilowattHours) (e : HydronicEnd) (zones : List Float) (d : Zoned HydronicEnd) (r : Stopped) →
+    (electric : KilowattHours) (e : Ended HydronicState) (zones : List Float) (d : Zoned (Ended HydronicState)) (r : Stopped) →
     AsDefined (end_refusal e.end) e zones d → r ≡ hydronic_ended electric e → AsDefined (end_refusal r.end) r zones (on_part (hydronic_ended electric) d)
 unfolding hydronic_ended
 wet_ended electric e zones d r l h = as_defined_on _ _ (hydronic_ended electric) e r zones d l h (λ z. sym (ap (λ (x : Stopped). end_refusal x.end) h) ∙ z)

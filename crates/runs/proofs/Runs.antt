@@ -18,14 +18,14 @@ use Rattle.substep.specs.declared.Outcome.{Outcome}
 use Rattle.substep.specs.declared.Fault.{Fault}
 use Rattle.substep.specs.declared.Fault.TheVariants.{Logarithm, NotFinite}
 use Rattle.runs.specs.Zoned.{Zoned, zoned, AsDefined}
-use Rattle.runs.specs.Runs.{end_refusal, outcome, next_refusal, reynold_between}
+use Rattle.runs.specs.Runs.{end_refusal, outcome, next_refusal, reynold_between, run_end}
 use Rattle.runs.specs.declared.HydronicTask.{HydronicTask}
 use Rattle.runs.specs.declared.HydronicState.{HydronicState}
 use Rattle.runs.specs.declared.HydronicTurn.{HydronicTurn}
-use Rattle.runs.specs.declared.HydronicEnd.{HydronicEnd}
+use Rattle.runs.specs.declared.Ended.{Ended}
 use Rattle.runs.specs.declared.End.{End}
 use Rattle.runs.specs.declared.End.TheVariants.{OverBudget, Time, Limit, Level}
-use Rattle.runs.specs.Hydronic.{wet_input, clearly_below, limit_reached, hydronic_turn, replay_by, replayed, fraction_seconds, hydronic_whole, hydronic_by, hydronic_end, hydronic_then, hydronic_run, hydronic_step}
+use Rattle.runs.specs.Hydronic.{wet_input, clearly_below, limit_reached, hydronic_turn, replay_by, replayed, fraction_seconds, hydronic_whole, hydronic_by, hydronic_then, hydronic_run, hydronic_step}
 
 -- a turn that goes on took one substep
 
@@ -88,7 +88,7 @@ on_counts x salts n s h =
     by_counts x salts (n + 1) s u u.part.fault h
 
 module _ (x : HydronicTask) (salts : ℕ → Salt) (steps n : ℕ) (s : Zoned HydronicState) where
-  pub hydronic_time : n ≡ steps → hydronic_end s Time n ≡ hydronic_run x salts (steps - n) n s
+  pub hydronic_time : n ≡ steps → run_end s Time n ≡ hydronic_run x salts (steps - n) n s
   unfolding hydronic_run
   hydronic_time e = let z : steps - n ≡ 0 = omega arith in rw z
 
@@ -96,7 +96,7 @@ module _ (x : HydronicTask) (salts : ℕ → Salt) (steps n : ℕ) (s : Zoned Hy
     left : steps - n ≡ suc (steps - (n + 1))
     left = omega arith
 
-    pub hydronic_over_budget : n ≡ x.card.budget → hydronic_end s OverBudget n ≡ hydronic_run x salts (steps - n) n s
+    pub hydronic_over_budget : n ≡ x.card.budget → run_end s OverBudget n ≡ hydronic_run x salts (steps - n) n s
     unfolding hydronic_run
     hydronic_over_budget e = rw left (via_true _ _ (eq-eqb _ _ e) refl)
 
@@ -113,8 +113,8 @@ module _ (x : HydronicTask) (salts : ℕ → Salt) (steps n : ℕ) (s : Zoned Hy
       wet_on d = rw (l.1 (ap next_refusal d)) (sym (hydronic_unfolds ∙ rw d (ap (λ (k : ℕ). hydronic_run x salts (steps - k) t.substeps (zoned t.state (hydronic_step x salts n s).zones)) (sym (wet_took d)))))
 
       pub wet_stop :
-          (k : End) (e : Zoned HydronicEnd) → t.next ≡ Some k → hydronic_run x salts (steps - n) n s ≡ e →
+          (k : End) (e : Zoned (Ended HydronicState)) → t.next ≡ Some k → hydronic_run x salts (steps - n) n s ≡ e →
           AsDefined (end_refusal k) (record { state = t.state; end = k; substeps = t.substeps }) after e
       wet_stop k e d r =
-          let w : hydronic_end (zoned t.state (hydronic_step x salts n s).zones) k t.substeps ≡ e = sym (hydronic_unfolds ∙ rw d) ∙ r in
-          (ap (λ (v : Zoned HydronicEnd). v.part) w, λ q. l.1 (ap next_refusal d ∙ q) ∙ ap (λ (v : Zoned HydronicEnd). v.zones) w)
+          let w : run_end (zoned t.state (hydronic_step x salts n s).zones) k t.substeps ≡ e = sym (hydronic_unfolds ∙ rw d) ∙ r in
+          (ap (λ (v : Zoned (Ended HydronicState)). v.part) w, λ q. l.1 (ap next_refusal d ∙ q) ∙ ap (λ (v : Zoned (Ended HydronicState)). v.zones) w)

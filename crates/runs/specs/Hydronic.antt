@@ -18,11 +18,11 @@ use Rattle.substep.specs.declared.Fault.TheVariants.{Logarithm, NotFinite}
 use Rattle.runs.specs.declared.HydronicTask.{HydronicTask}
 use Rattle.runs.specs.declared.HydronicState.{HydronicState}
 use Rattle.runs.specs.declared.HydronicTurn.{HydronicTurn}
-use Rattle.runs.specs.declared.HydronicEnd.{HydronicEnd}
+use Rattle.runs.specs.declared.Ended.{Ended}
 use Rattle.runs.specs.declared.Stopped.{Stopped}
 use Rattle.runs.specs.declared.End.{End}
 use Rattle.runs.specs.declared.End.TheVariants.{Level, Limit, Time, OverBudget, NoLogarithm, NotFiniteRun}
-use Rattle.runs.specs.Runs.{outcome, reynold_between}
+use Rattle.runs.specs.Runs.{outcome, reynold_between, run_end}
 use Rattle.runs.specs.Zoned.{Zoned, zoned, on_part}
 
 -- a substep of the wet source
@@ -89,26 +89,20 @@ hydronic_step task salts n run =
 abbrev pub hydronic_state : HydronicTurn → HydronicState
 hydronic_state turn = turn.state
 
-abbrev pub hydronic_end_state : HydronicEnd → HydronicState
-hydronic_end_state run = run.state
-
-abbrev pub hydronic_end : Zoned HydronicState → End → ℕ → Zoned HydronicEnd
-hydronic_end run end n = zoned (record { state = run.part; end = end; substeps = n }) run.zones
-
-abbrev pub hydronic_then : (ℕ → Zoned HydronicState → Zoned HydronicEnd) → Zoned HydronicState → Option End → ℕ → Zoned HydronicEnd
+abbrev pub hydronic_then : (ℕ → Zoned HydronicState → Zoned (Ended HydronicState)) → Zoned HydronicState → Option End → ℕ → Zoned (Ended HydronicState)
 hydronic_then go run None n = go n run
-hydronic_then go run (Some e) n = hydronic_end run e n
+hydronic_then go run (Some e) n = run_end run e n
 
 -- the run from s with n substeps done and k whole ones left
-unfoldable pub hydronic_run : HydronicTask → (ℕ → Salt) → ℕ → ℕ → Zoned HydronicState → Zoned HydronicEnd
-hydronic_run task salts zero n run = hydronic_end run Time n
+unfoldable pub hydronic_run : HydronicTask → (ℕ → Salt) → ℕ → ℕ → Zoned HydronicState → Zoned (Ended HydronicState)
+hydronic_run task salts zero n run = run_end run Time n
 hydronic_run task salts (suc k) n run =
     cond (eqb n task.card.budget)
-    (hydronic_end run OverBudget n)
+    (run_end run OverBudget n)
     (hydronic_then (hydronic_run task salts k) (on_part hydronic_state (hydronic_step task salts n run)) (hydronic_step task salts n run).part.next (hydronic_step task salts n run).part.substeps)
 
 -- what the run hands out; the charged electric total stays
-unfoldable pub hydronic_ended : KilowattHours → HydronicEnd → Stopped
+unfoldable pub hydronic_ended : KilowattHours → Ended HydronicState → Stopped
 hydronic_ended electric run =
     record { energy = kilowatt_hours run.state.absorbed; electric = electric; outlet = Constants.zero; time = run.state.time; end = run.end; substeps = run.substeps }
 

@@ -12,6 +12,7 @@ use Rattle.substep.specs.declared.Fault.TheVariants.{Logarithm, NotFinite}
 use Rattle.battery.specs.declared.Ledger.{Ledger}
 use Rattle.runs.specs.Zoned.{Zoned, zoned}
 use Rattle.runs.specs.declared.End.{End}
+use Rattle.runs.specs.declared.Ended.{Ended}
 use Rattle.runs.specs.declared.End.TheVariants.{Done, Negative, Met, NoStep, Level, Limit, Time, OverBudget, NoLogarithm, NotFiniteRun}
 
 -- the end that a substep's fault makes
@@ -37,6 +38,13 @@ end_refusal NoLogarithm = no_logarithm
 abbrev pub next_refusal : Option End → ℕ
 next_refusal None = 0
 next_refusal (Some e) = end_refusal e
+
+-- what a run ends with: its state and zones, how it ended, and the count of its substeps
+abbrev pub run_end : {S : Type 0} → Zoned S → End → ℕ → Zoned (Ended S)
+run_end run end n = zoned (record { state = run.part; end = end; substeps = n }) run.zones
+
+abbrev pub end_state : {S : Type 0} → Ended S → S
+end_state run = run.state
 
 -- a substep without its energies
 abbrev pub outcome : Substep → Zoned Outcome

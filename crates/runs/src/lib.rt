@@ -9,6 +9,7 @@ ghost use Rattle.runs.specs.Runs.{fault_end, end_refusal, reynold_between, time_
 use battery::{Hydronic, Ledger};
 use card::{Card, HeatBatteryPcm};
 use refusals::Refusal;
+use substep::Fault;
 use zone::{Kilojoules, KilowattHours};
 
 // How a run of substeps ends. The last three are refusals 22, 24 and 23.
@@ -28,6 +29,14 @@ pub enum End {
     NotFiniteRun,
 }
 
+// What the substeps of a run leave of its state, how they ended, and how many there were.
+#[derive(Clone, Copy)]
+pub struct Ended<S> {
+    pub state: S,
+    pub end: End,
+    pub substeps: u32,
+}
+
 // What a run hands out; its zones stay where they lie.
 #[derive(Clone, Copy)]
 pub struct Stopped {
@@ -41,7 +50,8 @@ pub struct Stopped {
     pub substeps: u32,
 }
 
-// A wet source's figures.
+// A wet source's figures: a hydronic call's without its target, which stands beside every source. The call is a struct of its own, whose fields the
+// definitions and refusal 10 cite.
 #[derive(Clone, Copy)]
 pub struct Exchanger {
     pub inlet: f64,
@@ -99,6 +109,7 @@ pub struct HydronicState {
     pub time: f64,
 }
 
+// A turn takes one substep or two, so it counts them, as a demand's turn does not.
 #[derive(Clone, Copy)]
 pub struct HydronicTurn {
     pub state: HydronicState,
@@ -107,21 +118,16 @@ pub struct HydronicTurn {
     pub substeps: u32,
 }
 
-#[derive(Clone, Copy)]
-pub struct HydronicEnd {
-    pub state: HydronicState,
-    pub end: End,
-    pub substeps: u32,
-}
+impl From<Option<Fault>> for End {
+    ghost from_gives = { λ fault end. end ≡ fault_end fault };
 
-#[tactic(auto, unfolding(crate::specs::Runs::fault_end))]
-pub fn fault_end(fault: Option<substep::Fault>) -> End
-    ensures { result ≡ fault_end fault }
-{
-    match fault {
-        None => End::Done,
-        Some(substep::Fault::Logarithm) => End::NoLogarithm,
-        Some(substep::Fault::NotFinite) => End::NotFiniteRun,
+    #[tactic(auto, unfolding(crate::specs::Runs::fault_end))]
+    fn from(fault: Option<Fault>) -> End {
+        match fault {
+            None => End::Done,
+            Some(Fault::Logarithm) => End::NoLogarithm,
+            Some(Fault::NotFinite) => End::NotFiniteRun,
+        }
     }
 }
 

@@ -1,4 +1,5 @@
 // A call's bytes: its kind and its fields. Ranges are tested by battery::call_ranges::call_in_range.
+// That all of a call lies in its bytes is a clause of each reader and no type: the auditor reads from a line, whose kind is known first.
 #![tactic(auto)]
 
 pub mod kind;
@@ -22,6 +23,7 @@ const NUMBERS: usize = 2;
 const RETURN: usize = 18;
 
 // The place of a demand's first flag.
+#[tactic(auto, unfolding(crate::specs::Calls::commit_place))]
 fn commit_place(version: u8) -> usize
     ensures { result ≡ commit_place version }
 {
@@ -48,6 +50,7 @@ pub fn call_length(version: u8, kind: Kind) -> usize
 }
 
 // A mark is 0 over zero bytes, or 1.
+#[tactic(auto, unfolding(crate::specs::Calls::mark_ok))]
 pub fn mark_ok(bytes: &[u8], at: usize) -> bool
     requires { at + 9 ≤ length bytes.now }
     ensures { result ≡ mark_ok bytes.now at }
@@ -60,6 +63,7 @@ pub fn mark_ok(bytes: &[u8], at: usize) -> bool
 }
 
 // A mark and a value.
+#[tactic(auto, unfolding(crate::specs::Calls::given_at))]
 fn read_given(bytes: &[u8], at: usize) -> Option<f64>
     requires { at + 9 ≤ length bytes.now }
     ensures { result ≡ given_at bytes.now at }
@@ -71,6 +75,7 @@ fn read_given(bytes: &[u8], at: usize) -> Option<f64>
     }
 }
 
+#[tactic(auto, unfolding(crate::specs::Calls::demand_at), using(crate::proofs::Places::demand_fits))]
 fn read_demand(version: u8, class: u8, bytes: &[u8]) -> Demand
     requires { call_length version 1 ≤ length bytes.now }
     ensures { result ≡ demand_at version class bytes.now }
@@ -87,7 +92,7 @@ fn read_demand(version: u8, class: u8, bytes: &[u8]) -> Demand
     }
 }
 
-#[tactic(auto, unfolding(crate::specs::Calls::demand_call))]
+#[tactic(auto, unfolding(crate::specs::Calls::demand_call), using(crate::proofs::Places::demand_fits))]
 fn demand_call(version: u8, class: u8, bytes: &[u8]) -> Option<Call>
     requires { call_length version 1 ≤ length bytes.now }
     ensures { result ≡ demand_call version class bytes.now }
@@ -99,6 +104,7 @@ fn demand_call(version: u8, class: u8, bytes: &[u8]) -> Option<Call>
     None
 }
 
+#[tactic(auto, unfolding(crate::specs::Calls::hydronic_at), using(crate::proofs::Places::hydronic_length))]
 fn read_hydronic(version: u8, bytes: &[u8]) -> Hydronic
     requires { call_length version 3 ≤ length bytes.now }
     ensures { result ≡ hydronic_at version bytes.now }
@@ -116,6 +122,7 @@ fn read_hydronic(version: u8, bytes: &[u8]) -> Hydronic
     }
 }
 
+#[tactic(auto, unfolding(crate::specs::Calls::charge_demand_call), using(crate::proofs::Places::charge_demand_length))]
 fn charge_demand_call(version: u8, bytes: &[u8]) -> Option<Call>
     requires { call_length version 7 ≤ length bytes.now }
     ensures { result ≡ charge_demand_call version bytes.now }
@@ -130,6 +137,7 @@ fn charge_demand_call(version: u8, bytes: &[u8]) -> Option<Call>
 
 // The kind of a call's bytes; none where they are not as many as its calls have. `call_by` reads them then, none where refusal 10 applies to
 // them: two functions, so that a call's fields are written once and not copied.
+#[tactic(auto, unfolding(crate::specs::Calls::kind_of), using(crate::proofs::ByKind::kind_unknown))]
 pub fn kind_of(version: u8, bytes: &[u8]) -> Option<Kind>
     ensures { kind_number_or_0 result ≡ kind_of version bytes.now }
 {

@@ -1,16 +1,17 @@
 -- When two answers agree by a comparison: each of their parts does; and an answer whose numbers are finite agrees with itself.
-use mathlib.Core.Path.{◌≡◌, refl}
+use mathlib.Core.Path.{◌≡◌, refl, ◌∙◌}
 use mathlib.Core.List.{List}
-use mathlib.Core.Bool.{Bool, true}
-use Prim.Native.Nat.{ℕ, zero, suc, ◌<◌}
+use mathlib.Core.Bool.{Bool, true, ◌&&◌}
+use Prim.Native.Nat.{ℕ, zero, suc, ◌≤◌, ◌<◌}
 use native.Mathlib.Decide.{ℕ_discrete}
 use native.Mathlib.Omega.{arith}
 use borrow.Author.Tests.{eq-eqb, eqb-true}
-use lib.ListN.{get_or}
+use lib.ListN.{length, take, get_or}
 use lib.Dec.{eqb}
 use lib.Ieee.{Float, nan, eq}
 use lib.Ieee.Bits.{is_true}
 use Rattle.floats.specs.Standins.{finite64}
+use Rattle.floats.proofs.Front.{front_of, front_below}
 use Rattle.floats.proofs.Standins.{finite64_finite}
 use Rattle.floats.proofs.Order.{eq_refl, finite_number}
 use Rattle.logic.proofs.Tests.{and_true, true_and}
@@ -46,6 +47,14 @@ module _ (same : Float → Float → Bool) (same_self : AcceptsItself same) wher
       (true_and (same_self a.time g.time_finite)
       (true_and (eq-eqb a.substeps a.substeps refl)
       (true_and (zones_self b.zones b.card.layers (accepted_battery version b g.battery_good.accepted).zones) t))))))
+
+-- zones are compared at the front of both lists
+pub same_zones_front : (same : Float → Float → Bool) (xs ys : List Float) (n : ℕ) → n ≤ length xs → n ≤ length ys
+    → same_zones same (take n xs) (take n ys) (length (take n xs)) ≡ same_zones same xs ys n
+unfolding same_zones
+same_zones_front same xs ys n h k =
+    front_of (λ zs. same_zones same zs (take n ys)) (λ ok j x. ok && same x (get_or (take n ys) j nan)) (λ zs ws. refl) (λ zs j. refl) xs n h
+    ∙ front_below (λ zs. same_zones same xs zs) (λ ok j y. ok && same (get_or xs j nan) y) (λ zs ws. refl) (λ zs j. refl) ys n n (omega arith)
 
 -- ---- the parts of two answers that agree
 

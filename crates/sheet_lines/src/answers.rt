@@ -9,18 +9,21 @@ use card::Card;
 // Place of the outlet's mark.
 const MARK: usize = 9;
 
+#[tactic(auto, unfolding(crate::specs::Answers::head_length))]
 pub fn head_length(version: u8) -> usize
     ensures { result ≡ head_length version }
 {
     30
 }
 
+#[tactic(auto, unfolding(crate::specs::Answers::head_length, crate::specs::Answers::answer_length, sheet_records::specs::Records::state_length))]
 pub fn answer_length(version: u8, card: Card) -> usize
     ensures { result ≡ answer_length version card }
 {
     head_length(version) + sheet_records::state_length(version, card)
 }
 
+#[tactic(auto, unfolding(crate::specs::Answers::answer_length, crate::specs::Answers::answer_at, sheet_records::specs::Records::state_length))]
 pub fn read_answer(version: u8, card: Card, bytes: &[u8]) -> Answer
     requires { (card.layers ≤ 64) × (answer_length version card ≤ length bytes.now) }
     ensures { result ≡ answer_at version card bytes.now }
@@ -39,6 +42,7 @@ pub fn read_answer(version: u8, card: Card, bytes: &[u8]) -> Answer
 }
 
 // Refusal 42's test of the outlet's mark.
+#[tactic(auto, unfolding(crate::specs::Answers::head_length, crate::specs::Answers::marks_ok))]
 pub fn marks_ok(version: u8, bytes: &[u8]) -> bool
     requires { head_length version ≤ length bytes.now }
     ensures { result ≡ marks_ok version bytes.now }
@@ -46,6 +50,7 @@ pub fn marks_ok(version: u8, bytes: &[u8]) -> bool
     sheet_calls::mark_ok(bytes, MARK)
 }
 
+#[tactic(auto, unfolding(crate::specs::Answers::head_length))]
 fn put_head(version: u8, bytes: &mut [u8], at: usize, answer: Answer) -> usize
     requires { at + head_length version ≤ length bytes.old }
     ensures { (result ≡ at + head_length version) × (bytes.new ≡ sets bytes.old at (head_bytes answer)) }
@@ -59,6 +64,7 @@ fn put_head(version: u8, bytes: &mut [u8], at: usize, answer: Answer) -> usize
 }
 
 // Writes an answer from a place on, and returns the place after it.
+#[tactic(auto, unfolding(crate::specs::Answers::answer_length))]
 pub fn put_answer(version: u8, bytes: &mut [u8], at: usize, answer: Answer) -> usize
     requires { (answer.battery.card.layers ≤ 64) × (at + answer_length version answer.battery.card ≤ length bytes.old) }
     ensures { (result ≡ at + answer_length version answer.battery.card) × (bytes.new ≡ sets bytes.old at (answer_bytes version answer)) }
@@ -69,20 +75,21 @@ pub fn put_answer(version: u8, bytes: &mut [u8], at: usize, answer: Answer) -> u
 }
 
 // Document 01: 'Numbers agree when f64 equality holds'. Not a derived PartialEq: `agrees` takes the comparison of numbers as an argument, to which a derive can't be tied.
+#[tactic(auto, unfolding(crate::specs::Answers::same_number))]
 fn same_number(x: f64, y: f64) -> bool
     ensures { result ≡ same_number x y }
 {
     x == y
 }
 
-fn same_zones(x: [f64; 64], y: [f64; 64], n: usize) -> bool
-    requires { n ≤ 64 }
-    ensures { result ≡ same_zones same_number x y n }
+#[tactic(auto, unfolding(crate::specs::Answers::same_zones))]
+fn same_zones(x: &[f64], y: &[f64]) -> bool
+    requires { length x.now ≡ length y.now }
+    ensures { result ≡ same_zones same_number x.now y.now (length x.now) }
 {
     let mut ok = true;
-    // By the place, which names both lists' zones.
-    for k in 0..n {
-        ok = ok & same_number(x[k], y[k]);
+    for (a, b) in x.iter().zip(y) {
+        ok = ok & same_number(*a, *b);
     }
     ok
 }
@@ -99,7 +106,7 @@ fn same_totals(x: Battery, y: Battery) -> bool
 }
 
 // Whether two answers agree; the zones compared are those of the first one's layers.
-#[tactic(auto, unfolding(crate::specs::Answers::agrees))]
+#[tactic(auto, unfolding(crate::specs::Answers::agrees), using(crate::proofs::Agreement::same_zones_front))]
 pub fn answers_agree(x: Answer, y: Answer) -> bool
     requires { x.battery.card.layers ≤ 64 }
     ensures { result ≡ agrees same_number x y }
@@ -107,11 +114,9 @@ pub fn answers_agree(x: Answer, y: Answer) -> bool
     let b = x.battery;
     let c = y.battery;
     let n = b.card.layers as usize;
-    let own = b.zones;
-    let other = c.zones;
     let run = same_number(x.time, y.time)
         & (x.substeps == y.substeps)
-        & same_zones(own, other, n)
+        & same_zones(&b.zones[..n], &c.zones[..n])
         & same_totals(b, c);
     (x.refusal == y.refusal)
         & same_number(x.energy, y.energy)

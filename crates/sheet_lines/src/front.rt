@@ -1,12 +1,12 @@
 // The call line at the front of a slice.
 ghost use Rattle.std.specs.Prelude.{◌≡◌, ◌≤◌, length, Some};
-ghost use Rattle.sheet_records.specs.Cards.{card_length, services_at};
+ghost use Rattle.sheet_records.specs.Cards.{services_at};
 ghost use Rattle.sheet_lines.specs.Front.{head_numbers, line_head, line_call, line_answer};
 
 use battery::{Answer, Call};
 use card::Card;
 use sheet_calls::kind::Kind;
-use sheet_records::services::CardBytes;
+use sheet_records::cards::CardBytes;
 
 // What a line's first bytes tell: its kind, the length of its call, and its own, which counts the two bytes that say it.
 #[derive(Clone, Copy)]
@@ -17,6 +17,7 @@ pub struct LineHead {
 }
 
 // The head of a front line whose kind is known, that is whole, and that says the length that its kind gives.
+#[tactic(auto, unfolding(sheet_records::specs::Records::state_length, crate::specs::Answers::head_length, crate::specs::Answers::answer_length, crate::specs::Lines::line_length, crate::specs::Lines::line_size, crate::specs::Front::head_ok, crate::specs::Front::line_head), using(sheet_calls::proofs::Places::call_short, sheet_calls::proofs::Places::call_long))]
 pub fn line_head(version: u8, card: Card, bytes: &[u8]) -> Option<LineHead>
     ensures { head_numbers result ≡ line_head version card bytes.now }
 {
@@ -36,27 +37,23 @@ pub fn line_head(version: u8, card: Card, bytes: &[u8]) -> Option<LineHead>
     None
 }
 
-// The front line's call, by the services of the card in line 0, ranges aside.
+// The front line's call, by the services of the card in line 0, ranges aside. The head may be none: the definition answers then too.
 pub fn line_call(
-    version: u8,
     card: Card,
-    line0: &[u8],
+    line0: CardBytes<'_>,
     head: Option<LineHead>,
     bytes: &[u8],
 ) -> Option<Call>
-    requires { (head_numbers head ≡ line_head version card bytes.now) × (card_length version line0.now ≤ length line0.now) }
-    ensures { result ≡ line_call version (services_at version line0.now) card bytes.now }
+    requires { head_numbers head ≡ line_head line0.version card bytes.now }
+    ensures { result ≡ line_call line0.entry.version (services_at line0.entry.version line0.entry.bytes.now) card bytes.now }
 {
+    let version = line0.version;
     let Some(head) = head else {
         return None;
     };
     let answer = 2 + head.call;
     if crate::answers::marks_ok(version, &bytes[answer..head.size]) {
-        let listed = CardBytes {
-            version,
-            bytes: line0,
-        };
-        let class = sheet_calls::demand_class(version, &listed, head.kind, &bytes[2..answer]);
+        let class = sheet_calls::demand_class(version, &line0, head.kind, &bytes[2..answer]);
         return sheet_calls::call_by(version, head.kind, class, &bytes[2..answer]);
     }
     None

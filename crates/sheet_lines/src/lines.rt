@@ -8,6 +8,7 @@ use battery::Answer;
 use card::Card;
 
 // What follows the length of a line whose call has n bytes.
+#[tactic(auto, unfolding(crate::specs::Lines::line_length, crate::specs::Answers::answer_length, crate::specs::Answers::head_length, sheet_records::specs::Records::state_length))]
 pub fn line_length(version: u8, card: Card, n: usize) -> usize
     requires { n < 65536 }
     ensures { result ≡ line_length version card n }
@@ -16,6 +17,7 @@ pub fn line_length(version: u8, card: Card, n: usize) -> usize
 }
 
 // The bytes that such a line takes, its length included.
+#[tactic(auto, unfolding(crate::specs::Lines::line_size, crate::specs::Lines::line_length, crate::specs::Answers::answer_length, crate::specs::Answers::head_length, sheet_records::specs::Records::state_length))]
 pub fn line_size(version: u8, card: Card, n: usize) -> usize
     requires { n < 65536 }
     ensures { result ≡ line_size version card n }
@@ -24,6 +26,7 @@ pub fn line_size(version: u8, card: Card, n: usize) -> usize
 }
 
 // A call line, with the call's own bytes, at the front of a memory that has room for it.
+#[tactic(auto, unfolding(crate::specs::Lines::line_size, crate::specs::Lines::line_length))]
 pub fn put_line(version: u8, sheet: &mut [u8], call: &[u8], answer: Answer)
     requires { (answer.battery.card.layers ≤ 64) × (length call.now < 65536) × (line_size version answer.battery.card (length call.now) ≤ length sheet.old) }
     ensures { sheet.new ≡ over (line_bytes version call.now answer) sheet.old }
@@ -36,6 +39,7 @@ pub fn put_line(version: u8, sheet: &mut [u8], call: &[u8], answer: Answer)
 }
 
 // The bytes of the version and line 0, with the card at the front of the bytes.
+#[tactic(auto, unfolding(crate::specs::Lines::opening_length))]
 pub fn opening_length(version: u8, bytes: &[u8]) -> usize
     ensures { result ≡ opening_length version bytes.now }
 {
@@ -43,6 +47,7 @@ pub fn opening_length(version: u8, bytes: &[u8]) -> usize
 }
 
 // The version and line 0, with the caller's own card bytes, at the front of a memory that has room for them.
+#[tactic(auto, unfolding(crate::specs::Lines::opening_length))]
 pub fn put_opening(version: u8, sheet: &mut [u8], card: &[u8])
     requires { (length card.now ≡ card_length version card.now) × (opening_length version card.now ≤ length sheet.old) }
     ensures { sheet.new ≡ over (opening_bytes version card.now) sheet.old }

@@ -15,7 +15,8 @@ use Rattle.codec.proofs.Places.{in_front}
 use Rattle.card.specs.Version.{lists_services}
 use Rattle.card.specs.Card.{card_refusal}
 use Rattle.card.specs.Services.{Service, listed, most_services, rising_from, services_ok}
-use Rattle.card.proofs.Listed.{listed_length, entry_if, listed_same, full_accepted}
+use Rattle.card.proofs.Listed.{listed_length, entry_if, listed_same}
+use Rattle.card.proofs.FullRefusal.{full_accepted}
 use Rattle.sheet_records.specs.Cards.{count_place, service_place, card_length, card_at, service_at, services_at, refusal_at}
 
 -- with services or without
@@ -32,7 +33,7 @@ pub card_fits : (version : ℕ) (bs : List ℕ) → card_length version bs ≤ l
 card_fits version bs h = let l = card_least version bs in omega arith
 
 -- where services are listed, all of them are there
-pub services_fit : (version : ℕ) (bs : List ℕ) → lists_services version ≡ true → card_length version bs ≤ length bs → service_place (get_or bs count_place 0) ≤ length bs
+services_fit : (version : ℕ) (bs : List ℕ) → lists_services version ≡ true → card_length version bs ≤ length bs → service_place (get_or bs count_place 0) ≤ length bs
 unfolding card_length
 services_fit version bs t h = rw t at h
 

@@ -1,18 +1,15 @@
 -- A pass over the zones, zone by zone; the places from n on are never written.
 use Rattle.std.specs.Prelude.{None, Option, Some}
 use mathlib.Core.Path.{◌≡◌, refl, ◌∙◌, ap}
-use Prim.Native.Nat.{ℕ, zero, suc, ◌≤◌, ◌<◌, ◌+◌}
+use Prim.Native.Nat.{ℕ, zero, suc, ◌≤◌, ◌<◌}
 use native.Mathlib.Omega.{arith}
-use native.Mathlib.Numerals.{add-one}
 use mathlib.Core.Bool.{Bool, true, false}
 use mathlib.Core.List.{List}
-use lib.ListN.{get_or, set, replicate}
+use lib.ListN.{get_or}
 use lib.Seq.{get_or-set_other}
 use lib.Ieee.{Float, nan, of_bits, lt, le}
 use lib.Ieee.Bits.{is_true}
-use Rattle.floats.specs.F64.{◌⊕◌}
 use Rattle.floats.specs.Constants as Constants
-use Rattle.zone.specs.Heat.{kwh}
 use Rattle.zone.specs.Layer.{soc_to_temp}
 use Rattle.zone.specs.declared.Kilojoules.{Kilojoules}
 use Rattle.zone.specs.declared.KilowattHours.{KilowattHours}
@@ -24,40 +21,12 @@ use Rattle.zone_water.specs.declared.Transfer.{Transfer}
 use Rattle.zone_water.specs.declared.Mode.{Mode}
 use Rattle.zone_water.specs.declared.Mode.TheVariants.{OnlyCharging, Losses, Normal}
 use Rattle.zone.specs.declared.Salt.{Salt}
-use Rattle.substep.specs.Substep.{zone_index, target_at, target_of, zone_charge, zone_step, zone_at, zones_after, charger_heat, substep_with, outcome_of, zone_transfer, logarithms_of, shared_transfer, common_of, progress_from, without_logarithm, with_transfer, process_heat_battery_zones, substep_from}
+use Rattle.substep.specs.Substep.{zone_index, target_at, target_of, zone_charge, zone_step, zone_at, zones_after, substep_with, outcome_of, zone_transfer, logarithms_of, shared_transfer, common_of, progress_from, without_logarithm, with_transfer, process_heat_battery_zones, substep_from}
 use Rattle.substep.specs.declared.SubstepInput.{SubstepInput}
 use Rattle.substep.specs.declared.Substep.{Substep}
 use Rattle.substep.specs.declared.Outcome.{Outcome}
 use Rattle.substep.specs.declared.Common.{Common}
 use Rattle.substep.specs.Progress.{Progress}
-use Rattle.substep.specs.declared.ZoneStep.{ZoneStep}
-
-module _ (x : Common) (s : ℕ → Salt) (n k : ℕ) (p q : Progress) where
-  -- one zone more
-  pub zones_more :
-      (j : ℕ) (own : Salt) (z : ZoneStep) →
-      p ≡ zones_after x s n k q →
-      j ≡ zone_index x.mode n k →
-      own ≡ s j →
-      z ≡ zone_step x own (get_or p.zones j nan) p.outlet p.left p.charged →
-      ◌≡◌ {A = Progress}
-      (record { zones = set p.zones j z.temperature; energies = set p.energies j (get_or p.energies j nan ⊕ z.energy.0); outlet = z.outlet; left = z.left; charged = z.charged })
-      (zones_after x s n (k + 1) q)
-  unfolding zones_after zone_at
-  zones_more j own z e d r h = rw (add-one, ← e, h, r, d)
-
-  pub zones_end : k ≤ n → n ≤ k → p ≡ zones_after x s n k q → p ≡ zones_after x s n n q
-  zones_end a b e = let d : k ≡ n = omega arith in e ∙ ap (λ (i : ℕ). zones_after x s n i q) d
-
-pub energies_end :
-    (n : ℕ) (x : Common) (s : ℕ → Salt) (k : ℕ) (d : SubstepInput) (zones : List Float) (p : Progress) (heat : Kilojoules) →
-    heat ≡ charger_heat d →
-    k ≤ n →
-    n ≤ k →
-    p ≡ zones_after x s n k (record { zones = zones; energies = replicate 64 Constants.zero; outlet = d.inlet; left = heat; charged = kwh Constants.zero }) →
-    p.energies ≡ (zones_after x s n n (progress_from d zones)).energies
-unfolding progress_from
-energies_end n x s k d zones p heat h a b e = rw (← h) (ap (λ (q : Progress). q.energies) (zones_end x s n k p _ a b e))
 
 -- what a pass over the zones of a card leaves
 pub passed :

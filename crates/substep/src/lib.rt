@@ -76,6 +76,7 @@ pub enum Fault {
     NotFinite,
 }
 
+// What a substep hands out, by value, as the definitions give it. `Outcome`'s fields one by one: the definitions cite them.
 #[derive(Clone, Copy)]
 pub struct Substep {
     pub zones: [f64; 64],
@@ -102,6 +103,7 @@ pub fn zone_index(mode: Mode, n: usize, k: usize) -> usize
     }
 }
 
+// Here and below `target` goes beside `common`: it is of the zone's salt, which no field of the struct knows.
 #[tactic(auto, unfolding(crate::specs::Substep::zone_charge))]
 fn zone_charge(
     common: Common,
@@ -143,6 +145,7 @@ pub fn zone_target(common: Common, salt: Salt, target: Option<f64>) -> f64
     }
 }
 
+// What one zone hands to the next, water, heat and charged energy, goes as three numbers, as in the definitions.
 #[tactic(auto, unfolding(crate::specs::Substep::zone_step))]
 pub fn zone_step(
     common: Common,
@@ -201,7 +204,7 @@ fn per_layer(card: Card, whole: Option<f64>) -> Option<f64>
     Some(whole? / (card.layers as f64))
 }
 
-// The temperature of a charge level by the first zone's salt: once for a run, whose substeps all have it.
+// The temperature of a charge level by the first zone's salt: worked out once for the zones of one salt.
 pub fn target_of<const STEP: usize>(card: Card, salts: LentSalts<'_, STEP>, level: f64) -> f64
     ensures { result ≡ target_of card (lent_salt salts.entry 0) level }
 {

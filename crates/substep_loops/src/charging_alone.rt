@@ -11,7 +11,8 @@ use zone::lent::LentSalts;
 use zone::{Kilojoules, KilowattHours, Salt};
 use zone_water::Mode;
 
-// A zone's part of charging alone: nothing, where the charger's heat is used up. Without a `target` for every zone each zone's is worked out.
+// A zone's part of charging alone: nothing, where the charger's heat is used up. Without a `target` for every zone each zone's is worked out. The fields
+// of `WithWater`, and another step with another law.
 #[derive(Clone, Copy)]
 struct ChargingAlone {
     common: Common,
@@ -27,6 +28,7 @@ impl ZoneStepping for ChargingAlone {
         self.common
     }
 
+    #[tactic(auto, using(crate::proofs::Steppings::charging_on, crate::proofs::Steppings::charging_off))]
     fn zone_step(
         self,
         salt: Salt,

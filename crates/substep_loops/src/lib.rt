@@ -115,6 +115,7 @@ fn over_zones<S: ZoneStepping, E: Energies, const STEP: usize>(
 }
 
 // The salt of zone j. `first` is zone 0's, read before the loop: where one salt serves all, the compiler keeps what it works out of it.
+#[tactic(auto, using(zone::proofs::Salts::one_salt))]
 fn own_salt<const STEP: usize>(first: Salt, salts: LentSalts<'_, STEP>, j: usize) -> Salt
     requires { (j * STEP + 5 ≤ length salts.figures.now) × (first ≡ lent_salt salts 0) }
     ensures { result ≡ lent_salt salts.entry j }

@@ -31,6 +31,7 @@ impl ZoneStepping for Losing {
         self.common
     }
 
+    #[tactic(auto, using(crate::proofs::Steppings::loss_of))]
     fn zone_step(
         self,
         salt: Salt,
@@ -53,7 +54,9 @@ impl ZoneStepping for Losing {
     }
 }
 
-// A substep of losses, in place; no loss has heat of a charger.
+// A substep of losses, in place; no loss has heat of a charger. That is a clause here, of a run of losses and of the step: an input of losses as a
+// type of its own would be copied for this one fact.
+#[tactic(auto, using(substep::proofs::SubstepLaws::passed, substep::proofs::SubstepLaws::without_logarithm_loss, substep::proofs::SubstepLaws::none_in_a_loss, substep::proofs::SubstepLaws::common_mode, crate::proofs::Steppings::heat_stays))]
 pub fn lose_in_place<const STEP: usize>(
     card: Card,
     pcm: HeatBatteryPcm,

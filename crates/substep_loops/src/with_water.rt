@@ -43,6 +43,7 @@ impl ZoneStepping for WithWater {
 // All zones in the mode's order, where they lie, in any mode. Places above the zones are neither read nor written.
 // `taken` are the logarithms of the heat transfer; each zone's own are added.
 // `target` is every zone's where the charger has heat; without one each zone's is worked out where it is asked.
+#[tactic(auto, unfolding(substep::specs::Substep::progress_from), using(substep::proofs::SubstepLaws::left_at_first, substep::proofs::SubstepLaws::index_below))]
 pub fn zones_in_place<E: Energies, const STEP: usize>(
     card: Card,
     common: Common,

@@ -38,6 +38,7 @@ fn records<'a, R: Read, W: Write>(
 ) -> io::Result<Run<'a>> {
     let mut run = Run::new(file);
     let mut held = Held::default();
+    // an array, as there is no heap: the longest record
     let mut space = [0u8; 4096];
     for _ in 0..u64::MAX {
         match vectors_files::next_record(reader, &mut space) {

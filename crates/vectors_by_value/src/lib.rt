@@ -12,7 +12,7 @@ use substep_loops::Energies;
 use zone::Kilojoules;
 use zone::lent::LentSalts;
 
-// Each zone's energy.
+// Each zone's energy: arrays here and below, as the definitions' lists have 64 places.
 #[derive(Clone, Copy)]
 struct Kept {
     energies: [f64; 64],

@@ -17,6 +17,7 @@ const MOST_WORDS: u64 = 512;
 // A record's id and the bytes of its words.
 #[derive(Clone, Copy)]
 pub struct Record<'a> {
+    // the file's number: one that is no id is told of after its words were read
     pub id: u64,
     pub words: &'a [u8],
 }
@@ -24,6 +25,7 @@ pub struct Record<'a> {
 // A record's id and how many bytes its words have.
 #[derive(Clone, Copy)]
 pub struct Head {
+    // as in Record
     pub id: u64,
     pub size: usize,
 }
@@ -45,6 +47,7 @@ pub fn read_head<R: Read>(reader: &mut R) -> Result<Option<Head>, Unread>
     ensures front { IfOk result (λ next. IfSome next (λ head. ReadsFront (R.remaining reader.old) (R.remaining reader.new) head.id head.size)) }
     ensures end { IfOk result (λ next. next ≡ None → IsAtEnd (R.remaining reader.old)) }
 {
+    // an array, as there is no heap
     let mut head = [0u8; 4];
     let got = reading::read_full(reader, &mut head)?;
     if got == 0 {

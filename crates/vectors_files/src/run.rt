@@ -70,7 +70,7 @@ impl<'a> Run<'a> {
         }
     }
 
-    // What cannot be read counts as a record that disagrees.
+    // What is cut or too long counts as a record that disagrees; a failed read is returned.
     pub fn spoilt<W: Write>(self, out: &mut W, unread: Unread) -> io::Result<Run<'a>> {
         if let Unread::Failed(error) = unread {
             return Err(error);

@@ -1,4 +1,5 @@
-// Calls of a record's words, and where the answer stands after them.
+// Calls of a record's words, and where the answer stands after them. Not the sheet's readers over a trait: flags and kinds are words of their own, and these
+// readers promise only where the answer stands.
 ghost use Rattle.std.specs.Prelude.{◌≤◌, IfSome};
 
 use battery::{Call, Demand, Hydronic};

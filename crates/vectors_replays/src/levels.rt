@@ -7,6 +7,7 @@ use card::Card;
 use vectors_words::Words;
 
 // From a state of charge to the level asked after n zones.
+#[tactic(auto, using(card::proofs::Figures::lent_own))]
 fn energy(words: Words<'_>, card: Card, n: usize, soc: f64) -> f64
     requires { (n ≤ 64) × (card.layers ≤ 64) }
 {

@@ -21,7 +21,7 @@ fn mode_of(word: u64) -> Mode {
     }
 }
 
-// Whether a record of these words agrees; none of a list does.
+// Whether a record of these words agrees; none of a list does. A match and no table of closures, which could leave an id out.
 pub fn replay(id: Id, words: Words<'_>) -> bool {
     match id {
         Id::Finite => standins::finite(words),

@@ -32,7 +32,7 @@ pub fn sum2(words: Words<'_>) -> bool {
     let Some(k) = words.count(0) else {
         return false;
     };
-    let r = floats::sum_with_accumulator(words.numbers(1, k), k);
+    let r = floats::sum_with_accumulator(&words.numbers(1, k)[..k]);
     words.ends_with(k + 1, r)
 }
 

@@ -57,6 +57,7 @@ fn answer_is(words: Words<'_>, at: usize, n: usize, substep: Substep) -> bool
 fn refusal_is(words: Words<'_>, at: usize, n: usize, refusal: Refusal) -> bool
     requires { (at ≤ 256) × (n ≤ 64) }
 {
+    // an array, as there is no heap
     let zeros = [0.0; 64];
     words.word_is(at, refusal.number() as u64)
         & words.numbers_are(at + 1, &[0.0; 3])

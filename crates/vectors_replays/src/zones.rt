@@ -41,7 +41,7 @@ pub fn level(words: Words<'_>, card: Card) -> Option<f64>
     let salts = card::pcm::lent(card, &figures);
     let stored = card::pcm::energy_at(card, salts, card.max);
     let zones = words.numbers(24, n);
-    zone::layer::calc_state_of_charge(salts, card.reference, stored, zones, n)
+    zone::layer::calc_state_of_charge(salts, card.reference, stored, &zones[..n])
 }
 
 pub fn state_of_charge(words: Words<'_>) -> bool {

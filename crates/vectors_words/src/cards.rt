@@ -1,4 +1,4 @@
-// Cards of 23 words.
+// Cards of 23 words. Not the sheet's reader over a trait: a word holds each count as a number of its own, and this reader has no contract.
 use card::Card;
 
 // The version of a card without a list of calls.

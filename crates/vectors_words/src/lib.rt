@@ -1,4 +1,5 @@
 // The words of a record: 8 bytes each, the highest byte first. A word after the last one reads as 0.
+// Places are asked to be at most 512 or 256, and counts 64, so that no sum overflows: a type for each would be taken apart at every sum.
 #![tactic(auto)]
 
 pub mod cards;

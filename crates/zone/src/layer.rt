@@ -1,5 +1,5 @@
 // Document 01, module 1.
-ghost use Rattle.std.specs.Prelude.{◌≡◌, ◌≤◌};
+ghost use Rattle.std.specs.Prelude.{◌≡◌, ◌≤◌, length};
 ghost use Rattle.zone.specs.Layer.{layer_energy_stored, temp_at, soc_to_temp, stored_energy, level_of, state_of_charge, zone_energy_required};
 ghost use Rattle.zone.specs.LentSalts.{lent_salt};
 
@@ -76,21 +76,19 @@ pub fn soc_to_temp(salt: Salt, reference: f64, max: f64, soc: f64) -> f64
     temp_at(salt, reference, Kilojoules(soc * most.0), lower, upper)
 }
 
-// The energy of the first n zones above `reference`.
+// The energy of zones above `reference`.
 #[tactic(auto, using(crate::proofs::Sums::stored_more, crate::proofs::Sums::stored_end), unfolding(crate::specs::Layer::stored_energy))]
 pub fn stored_energy<const STEP: usize>(
     salts: LentSalts<'_, STEP>,
     reference: f64,
-    zones: [f64; 64],
-    n: usize,
+    zones: &[f64],
 ) -> Kilojoules
-    requires { n ≤ salts.layers }
-    ensures { result ≡ stored_energy (lent_salt salts.entry) reference zones n }
+    requires { length zones.now ≤ salts.layers }
+    ensures { result ≡ stored_energy (lent_salt salts.entry) reference zones.now (length zones.now) }
 {
     let mut sum = Kilojoules(0.0);
-    // By its place, which names the zone's salt too.
-    for k in 0..n {
-        let layer = calculate_layer_energy_stored(zones[k], reference, salts.zone(k));
+    for (k, zone) in zones.iter().enumerate() {
+        let layer = calculate_layer_energy_stored(*zone, reference, salts.zone(k));
         sum = Kilojoules(sum.0 + layer.0);
     }
     sum
@@ -114,13 +112,12 @@ pub fn calc_state_of_charge<const STEP: usize>(
     salts: LentSalts<'_, STEP>,
     reference: f64,
     stored: Kilojoules,
-    zones: [f64; 64],
-    n: usize,
+    zones: &[f64],
 ) -> Option<f64>
-    requires { n ≤ salts.layers }
-    ensures { result ≡ state_of_charge (lent_salt salts.entry) reference stored zones n }
+    requires { length zones.now ≤ salts.layers }
+    ensures { result ≡ state_of_charge (lent_salt salts.entry) reference stored zones.now (length zones.now) }
 {
-    let sum = stored_energy(salts, reference, zones, n);
+    let sum = stored_energy(salts, reference, zones);
     level_of(sum.0 / stored.0)
 }
 

@@ -1,11 +1,13 @@
-// The salts of a battery's zones, as the code is lent them.
+// The salts of a battery's zones, as the code is lent them. That a card's layers are at most theirs is a clause of those who have both: battery::lent says
+// why no struct.
 ghost use Rattle.std.specs.Prelude.{◌≡◌, ◌+◌, ◌*◌, ◌≤◌, length};
 ghost use Rattle.zone.specs.Lent.{Salted};
 
 use crate::Salt;
 
 // Five figures for each salt, those of zone j from j × STEP on: one salt serves all zones where the step is 0, each has its own where it is 5. A const
-// parameter, so that what zones of one salt share is worked out once.
+// parameter, so that what zones of one salt share is worked out once. Numbers and no `Salt`s:
+// document 02, Ten, has five for each zone.
 #[derive(Clone, Copy)]
 pub struct LentSalts<'a, const STEP: usize> {
     pub figures: &'a [f64],

@@ -1,4 +1,4 @@
-// One zone: heat, salts and document 01's module 1, under the Rust's names. Modules 2 to 4 are the crates update, charging and water.
+// One zone: heat, salts and document 01's module 1, under the Rust's names. Modules 2 to 4 are the crates `zone_update`, `zone_charging` and `zone_water`.
 #![tactic(auto)]
 
 pub mod layer;

@@ -145,7 +145,8 @@ pub fn process_zone_simultaneous_charging(
 }
 
 // The same in charging alone, where no water runs: short enough to be compiled in place in a loop of its own.
-// As a call of the one above, which then is nowhere compiled in place, a demand while charging took a quarter more instructions.
+// As a call of the one above, which then is nowhere compiled in place, an electric charge on 64 layers takes 21 % more instructions, a demand while
+// charging there 15 %.
 #[tactic(auto, unfolding(crate::specs::Charging::zone_simultaneous_charging))]
 pub fn charge_zone_alone(
     salt: Salt,

@@ -154,6 +154,7 @@ fn zone_falls(salt: Salt, zone: f64, energy: Kilojoules) -> Deltas
 }
 
 // A zone is lowered in one place, by falls of 0 where it stays: so short, it is compiled in place in the loop of every mode.
+#[tactic(auto, using(crate::proofs::Lowering::lowered_by_falls))]
 pub fn calculate_new_zone_temperature(salt: Salt, zone: f64, energy: Kilojoules) -> ZoneUpdate
     ensures { result ≡ new_zone_temperature salt zone energy }
 {

@@ -17,4 +17,4 @@ returns c =
     let w1 = then w.result _ accepted_text (nothing_written a.out.now 0) w.ensures.0 w.ensures.1 in
     let w2 = then d.result _ (decimal a.n) w1 d.ensures.0 d.ensures.1 in
     let w3 = then c.put_bytes.result _ newline w2 c.put_bytes.ensures.0 c.put_bytes.ensures.1 in
-    at_front w3 (simp length-append (omega (arith, short 20 a.n, c.requires)))
+    at_front w3 (simp length-append (omega (arith, short 20 a.n, c.well_formed)))

@@ -26,4 +26,4 @@ returns c =
     let w3 = then c.put_bytes-s.result _ line_text w2 c.put_bytes-s.ensures.0 c.put_bytes-s.ensures.1 in
     let w4 = then e.result _ (decimal a.index) w3 e.ensures.0 e.ensures.1 in
     let w5 = then c.put_bytes.result _ newline w4 c.put_bytes.ensures.0 c.put_bytes.ensures.1 in
-    at_front w5 (simp length-append (omega (arith, short 20 a.refusal, short 20 a.index, c.requires)))
+    at_front w5 (simp length-append (omega (arith, short 20 a.refusal, short 20 a.index, c.well_formed)))

@@ -22,19 +22,12 @@ returns-then-sheet-lt3 c = let a = c.args in sym (no_card_line a.version a.sheet
 pub overflow_add-end : goal.overflow_add-end
 overflow_add-end c = omega (arith, c.card_length-n.ensures.1)
 
-pub read_card-card-requires : goal.read_card-card-requires
-read_card-card-requires c =
+pub invariant_of-line0 : goal.invariant_of-line0
+invariant_of-line0 c =
     let a = c.args in
     let n = c.card_length-n in
     let end = opening_end a.version a.sheet.now n.result n.ensures.0 in
-    card_whole a.version a.sheet.now (3 + n.result) end c.if-sheet-end.false
-
-pub check-requires : goal.check-requires
-check-requires c =
-    let a = c.args in
-    let n = c.card_length-n in
-    let end = opening_end a.version a.sheet.now n.result n.ensures.0 in
-    (c.read_card-card.ensures, card_whole a.version a.sheet.now (3 + n.result) end c.if-sheet-end.false)
+    record { fits = card_whole a.version a.sheet.now (3 + n.result) end c.if-sheet-end.false }
 
 pub returns-then-sheet-end : goal.returns-then-sheet-end
 unfolding card_line card_line_ok
@@ -50,7 +43,7 @@ returns-then-says-n c =
     let a = c.args in
     let n = c.card_length-n in
     let end = opening_end a.version a.sheet.now n.result n.ensures.0 in
-    rw (← end, ← (n.ensures.0 ∙ ap (card_length a.version) (from_three a.sheet.now)), ← c.read_be-says.ensures)
+    rw (← end, ← (n.ensures.0 ∙ ap (card_length a.version) (from_three a.sheet.now)), ← c.read_be-says.ensures.number)
     (via_false _ _ (sym (via_true _ _ (le-leb _ _ c.if-sheet-end.false) (via_false _ _ (ne_eqb _ _ c.if-says-n.true) refl))) refl)
 
 abbrev is_some : Option Unit → Bool
@@ -70,7 +63,7 @@ returns-in_err-ok c =
     let end = opening_end a.version a.sheet.now n.result n.ensures.0 in
     let e : c.from_residual.result ≡ None = search rules in
     let k : eqb (refused_number c.check.result) 0 ≡ false = number_by_ok c.check.result ∙ ap is_some (sym c.in_err-ok.ensures.value) in
-    rw (e, ← end, ← card_slice a.version a.sheet.now (3 + n.result) end, ← (n.ensures.0 ∙ ap (card_length a.version) (from_three a.sheet.now)), ← c.read_be-says.ensures, ← c.read_card-card.ensures, ← c.check.ensures)
+    rw (e, ← end, ← card_slice a.version a.sheet.now (3 + n.result) end, ← (n.ensures.0 ∙ ap (card_length a.version) (from_three a.sheet.now)), ← c.read_be-says.ensures.number, ← c.read_card-card.ensures, ← c.check.ensures)
     (via_false _ _ (sym (via_true _ _ (le-leb _ _ c.if-sheet-end.false) (via_true _ _ (eq-eqb _ _ c.if-says-n.false) (sym k)))) refl)
 
 pub returns : goal.returns
@@ -80,5 +73,5 @@ returns c =
     let n = c.card_length-n in
     let end = opening_end a.version a.sheet.now n.result n.ensures.0 in
     let k : eqb (refused_number c.check.result) 0 ≡ true = number_by_ok c.check.result ∙ ap is_some (sym c.in_ok-ok.ensures.value) in
-    rw (← end, ← card_slice a.version a.sheet.now (3 + n.result) end, ← (n.ensures.0 ∙ ap (card_length a.version) (from_three a.sheet.now)), ← c.read_be-says.ensures, ← c.read_card-card.ensures, ← c.check.ensures)
+    rw (← end, ← card_slice a.version a.sheet.now (3 + n.result) end, ← (n.ensures.0 ∙ ap (card_length a.version) (from_three a.sheet.now)), ← c.read_be-says.ensures.number, ← c.read_card-card.ensures, ← c.check.ensures)
     (via_true _ _ (sym (via_true _ _ (le-leb _ _ c.if-sheet-end.false) (via_true _ _ (eq-eqb _ _ c.if-says-n.false) (sym k)))) refl)

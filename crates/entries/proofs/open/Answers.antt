@@ -18,8 +18,8 @@ returns-then-card-card_length c =
     rw (open_length s.version s.card.now s.«record».now s.sheet.now (λ e. c.if-card-card_length.true (e ∙ sym c.card_length.ensures.0)))
     (record { code_is = refl; record_is = refl; sheet_is = refl })
 
-pub check-requires : goal.check-requires
-check-requires c = (c.read_card-c.ensures, omega (arith, c.if-card-card_length.false, c.card_length.ensures.0))
+pub invariant_of-line0 : goal.invariant_of-line0
+invariant_of-line0 c = record { fits = omega (arith, c.if-card-card_length.false, c.card_length.ensures.0) }
 
 pub returns-in_err-check : goal.returns-in_err-check
 returns-in_err-check c =

@@ -3,4 +3,4 @@ use Rattle.floats.specs.Sum2.{sum2_after}
 use Rattle.floats.proofs.sum_with_accumulator.Given as goal
 
 abbrev pub invariant-loop-x : goal.invariant-loop-x
-invariant-loop-x l = l.a ≡ sum2_after l.fn.xs l.x-index
+invariant-loop-x l = l.a ≡ sum2_after l.xs l.x-index

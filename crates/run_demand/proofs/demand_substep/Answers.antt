@@ -21,4 +21,4 @@ returns-in-None g c = demand_turn_lem _ _ _ _ _ _ _ _ _ c.demand_input-input.ens
 pub returns-in-Some : goal.returns-in-Some
 returns-in-Some g c =
     demand_turn_lem _ _ _ _ _ _ _ _ _ c.demand_input-input.ensures c.process_in_place-u.ensures c.in-Some.is
-    (demand_faulted c.args.task _ _ _ _ _ (c.fault_end.ensures ∙ ap fault_end c.in-Some.is))
+    (demand_faulted c.args.task _ _ _ _ _ (c.from.ensures ∙ ap fault_end c.in-Some.is))

@@ -24,4 +24,4 @@ returns-in-None g c = hydronic_turn_lem c.args.task _ _ _ _ _ _ _ _ _ c.process_
 pub returns-in-Some : goal.returns-in-Some
 returns-in-Some g c =
     hydronic_turn_lem c.args.task _ _ _ _ _ _ _ _ _ c.process_in_place-u.ensures c.in-Some.is _ c.wet_input-input.ensures
-    (hydronic_faulted c.args.task _ _ _ _ _ _ _ (c.fault_end.ensures ∙ ap fault_end c.in-Some.is))
+    (hydronic_faulted c.args.task _ _ _ _ _ _ _ (c.from.ensures ∙ ap fault_end c.in-Some.is))

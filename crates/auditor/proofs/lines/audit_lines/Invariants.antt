@@ -8,7 +8,7 @@ use Rattle.auditor.proofs.lines.audit_lines.Given as goal
 
 abbrev pub invariant-loop-rest : goal.invariant-loop-rest
 invariant-loop-rest l =
-    Walked same_number l.version (services_at l.version l.line0) l.card l.bytes (audit_lines same_number l.version (services_at l.version l.line0) l.card l.bytes) l.b l.k l.rest
+    Walked same_number l.version (services_at l.version l.line0.bytes.now) l.card l.bytes (audit_lines same_number l.version (services_at l.version l.line0.bytes.now) l.card l.bytes) l.b l.k l.rest
     × Own l.version l.card l.b
 
 abbrev pub decreases-loop-rest : goal.decreases-loop-rest

@@ -1,18 +1,9 @@
 use Rattle.codec.proofs.Puts.{nothing_written, then_sized, written}
-use Rattle.sheet_lines.specs.Answers.{head_bytes, answer_length, answer_bytes}
+use Rattle.sheet_lines.specs.Answers.{head_bytes, answer_bytes}
 use Rattle.sheet_records.specs.Records.{state_bytes}
 use Rattle.sheet_records.proofs.Lengths.{length_state_bytes}
 use Rattle.sheet_lines.proofs.Lengths.{length_head_bytes, length_answer_bytes}
-use borrow.Author.Rules.{rules}
 use Rattle.sheet_lines.proofs.answers.put_answer.Goals as goal
-
-pub put_head-p-requires : goal.put_head-p-requires
-unfolding answer_length
-put_head-p-requires c = search rules
-
-pub put_state-requires : goal.put_state-requires
-unfolding answer_length
-put_state-requires c = search rules
 
 pub returns : goal.returns
 unfolding answer_bytes

@@ -1,32 +1,7 @@
 use Rattle.codec.proofs.Puts.{nothing_written, then_f64, then_number, written}
 use Rattle.sheet_lines.proofs.Lengths.{length_head_bytes}
-use Rattle.sheet_lines.specs.Answers.{head_length, head_bytes}
-use borrow.Author.Rules.{rules}
+use Rattle.sheet_lines.specs.Answers.{head_bytes}
 use Rattle.sheet_lines.proofs.answers.put_head.Goals as goal
-
-pub put_u8-p1-requires : goal.put_u8-p1-requires
-unfolding head_length
-put_u8-p1-requires c = search rules
-
-pub put_f64-p2-requires : goal.put_f64-p2-requires
-unfolding head_length
-put_f64-p2-requires c = search rules
-
-pub put_u8-p3-requires : goal.put_u8-p3-requires
-unfolding head_length
-put_u8-p3-requires c = search rules
-
-pub put_f64-p4-requires : goal.put_f64-p4-requires
-unfolding head_length
-put_f64-p4-requires c = search rules
-
-pub put_f64-p5-requires : goal.put_f64-p5-requires
-unfolding head_length
-put_f64-p5-requires c = search rules
-
-pub put_u32-requires : goal.put_u32-requires
-unfolding head_length
-put_u32-requires c = search rules
 
 pub returns : goal.returns
 unfolding head_bytes

@@ -1,10 +1,7 @@
-use Rattle.sheet_lines.specs.Answers.{same_number, same_zones}
 use mathlib.Core.Path.{◌≡◌}
-use Prim.Native.Nat.{◌≤◌, ◌-◌}
+use lib.ListN.{length}
+use Rattle.sheet_lines.specs.Answers.{same_number, same_zones}
 use Rattle.sheet_lines.proofs.answers.same_zones.Given as goal
 
-abbrev pub invariant-loop-k : goal.invariant-loop-k
-invariant-loop-k l = (l.k ≤ l.n) × (l.ok ≡ same_zones same_number l.x l.y l.k)
-
-abbrev pub decreases-loop-k : goal.decreases-loop-k
-decreases-loop-k l = l.n - l.k
+abbrev pub invariant-loop-a : goal.invariant-loop-a
+invariant-loop-a l = l.ok ≡ same_zones same_number l.x l.y (length l.yielded)

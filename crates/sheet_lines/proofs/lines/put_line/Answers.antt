@@ -1,24 +1,11 @@
 use Rattle.codec.proofs.Puts.{then_equal, nothing_written, then_sized, written_front}
-use Rattle.sheet_lines.specs.Lines.{line_length, line_size, line_bytes}
+use Rattle.sheet_lines.specs.Lines.{line_length, line_bytes}
 use Rattle.sheet_lines.specs.Answers.{answer_bytes}
 use Rattle.sheet_lines.proofs.Lengths.{length_answer_bytes, length_line_bytes}
 use lib.ListN.{length}
 use native.Mathlib.Omega.{arith}
 use mathlib.Core.Path.{refl}
-use borrow.Author.Rules.{rules}
 use Rattle.sheet_lines.proofs.lines.put_line.Goals as goal
-
-pub put_be-p1-requires : goal.put_be-p1-requires
-unfolding line_size line_length
-put_be-p1-requires c = search rules
-
-pub put_bytes-p2-requires : goal.put_bytes-p2-requires
-unfolding line_size line_length
-put_bytes-p2-requires c = search rules
-
-pub put_answer-requires : goal.put_answer-requires
-unfolding line_size line_length
-put_answer-requires c = search rules
 
 pub returns : goal.returns
 unfolding line_bytes
