@@ -26,12 +26,6 @@ use Rattle.auditor.specs.Bound.{IndexAtMost}
 use Rattle.auditor.proofs.Turns.{following_short}
 use Rattle.battery.specs.declared.Call.{Call}
 
-pub below_accepted : (v : Verdict) (m n : ℕ) → v ≡ Accepted n → IndexAtMost m v → n ≤ m
-below_accepted v m n e h = rw e at h
-
-pub below_refused : (v : Verdict) (m r k : ℕ) → v ≡ Refused r k → IndexAtMost m v → k ≤ m
-below_refused v m r k e h = rw e at h
-
 most_more : (m p : ℕ) (v : Verdict) → m ≤ p → IndexAtMost m v → IndexAtMost p v
 most_more m p (Accepted n) h s = omega arith
 most_more m p (Refused r k) h s = omega arith

@@ -1,7 +1,7 @@
 -- A verdict in numbers tells the verdict: no two refusals have one number.
 use mathlib.Core.Path.{◌≡◌, refl, sym, ap, ◌∙◌}
 use mathlib.Core.Bool.{cond}
-use Prim.Native.Nat.{ℕ, ◌<◌, ◌≤◌}
+use Prim.Native.Nat.{ℕ}
 use native.Mathlib.Omega.{arith}
 use lib.Dec.{eqb}
 use Rattle.std.specs.Prelude.{Result, Ok, Err}
@@ -56,26 +56,6 @@ named_number TooLong = refl
 
 pub one_number : (r s : Refusal) → number r ≡ number s → r ≡ s
 one_number r s e = sym (named_number r) ∙ ap named e ∙ named_number s
-
-pub number_byte : (r : Refusal) → (1 ≤ number r) × (number r < 256)
-number_byte CardOutOfRange = (omega arith, omega arith)
-number_byte LowerAboveUpper = (omega arith, omega arith)
-number_byte MaxTooLow = (omega arith, omega arith)
-number_byte NothingToStore = (omega arith, omega arith)
-number_byte BadServices = (omega arith, omega arith)
-number_byte BadCall = (omega arith, omega arith)
-number_byte NoRoom = (omega arith, omega arith)
-number_byte NoReturn = (omega arith, omega arith)
-number_byte NoService = (omega arith, omega arith)
-number_byte OverBudget = (omega arith, omega arith)
-number_byte NotFinite = (omega arith, omega arith)
-number_byte NoLogarithm = (omega arith, omega arith)
-number_byte OverFull = (omega arith, omega arith)
-number_byte NoVersion = (omega arith, omega arith)
-number_byte BadCard = (omega arith, omega arith)
-number_byte BadLine = (omega arith, omega arith)
-number_byte Disagrees = (omega arith, omega arith)
-number_byte TooLong = (omega arith, omega arith)
 
 -- so what `numbered` says of a function's result leaves one result only
 pub one_verdict : (v w : Result ℕ RefusedLine) → numbered v ≡ numbered w → v ≡ w

@@ -7,7 +7,7 @@ use mathlib.Core.List.{List}
 use native.Mathlib.Omega.{arith}
 use lib.Ieee.{Float}
 use Rattle.logic.proofs.Branch.{by_test}
-use Rattle.logic.proofs.Tests.{and_true, no_both}
+use Rattle.logic.proofs.Tests.{no_both}
 use Rattle.card.specs.Version.{known_version}
 use Rattle.card.specs.Services.{Service, services_ok}
 use Rattle.card.proofs.Accepted.{accepted_layers}
@@ -28,10 +28,6 @@ use Rattle.sheet_calls.specs.Calls.{call_of}
 use Rattle.entries.specs.Record.{renewed_zones, advance_read, advance_listed, answer_own}
 use Rattle.entries.proofs.Zones.{renewed_whole}
 use Rattle.battery.specs.declared.Call.{Call}
-
--- what two tests that hold together say of what they test
-pub both_hold : {o a p q : Bool} → o ≡ p → a ≡ q → (o && a) ≡ true → (p ≡ true) × (q ≡ true)
-both_hold {o} {a} {p} {q} f g h = let t = and_true o a h in (sym f ∙ t.0, sym g ∙ t.1)
 
 -- a call that is answered has been read, and its battery accepted
 answered_accepted : (version : ℕ) (b : Battery) (read : Option Call) → (advance_read version b read).refusal ≡ 0 → battery_accepted version b ≡ true

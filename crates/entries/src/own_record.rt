@@ -102,8 +102,8 @@ impl From<Refusal> for Shown {
     }
 }
 
-// Stores the first n zones of another list; the places above are not written. A function for its contract, which the answer's proof and two edits are
-// of; with two slices it would be `copy_from_slice` itself.
+// Stores the first n zones of another list; the places above are not written. A function for its contract, which `advance_apart` is proved by; with two
+// slices it would be `copy_from_slice` itself.
 #[tactic(auto, using(crate::proofs::Zones::renewed_front))]
 fn renew_zones(zones: &mut [f64; 64], own: &[f64; 64], n: usize)
     requires { n ≤ 64 }
@@ -113,8 +113,8 @@ fn renew_zones(zones: &mut [f64; 64], own: &[f64; 64], n: usize)
 }
 
 // A call's bytes on any battery and services whatsoever, its zones apart: 10 where one of them is refused. They are judged before the call is read,
-// so that the call goes to the step from where it was read, without a copy. Battery, services, call and zones are what C lends, four things that no struct
-// holds: its record has the zones inside.
+// so that the call goes to the step from where it was read, without a copy. Ledger, services, call and zones go side by side: C's record has the zones
+// inside its battery, and here they are lent apart.
 #[tactic(auto, unfolding(crate::specs::Record::advance_read), using(card::proofs::Listed::ok_length, engine::proofs::Accepted::accepted_few, engine_replies::proofs::Settled::settled_refusal, sheet_calls::proofs::ByKind::kind_fits, sheet_calls::proofs::ByKind::read_by_kind, sheet_calls::proofs::ByKind::none_by_kind, crate::proofs::Answered::not_accepted_listed, crate::proofs::Answered::accepted_listed))]
 fn advance_read(
     version: u8,

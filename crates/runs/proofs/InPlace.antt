@@ -5,16 +5,10 @@ use mathlib.Core.List.{List}
 use Prim.Native.Nat.{ℕ}
 use native.Mathlib.Omega.{arith}
 use lib.Ieee.{Float}
-use Rattle.zone.specs.declared.Salt.{Salt}
-use Rattle.card.specs.declared.Card.{Card}
-use Rattle.card.specs.declared.HeatBatteryPcm.{HeatBatteryPcm}
 use Rattle.substep.specs.Substep.{InPlace}
-use Rattle.substep.specs.Substep.{process_heat_battery_zones}
-use Rattle.substep.specs.declared.SubstepInput.{SubstepInput}
 use Rattle.substep.specs.declared.Fault.{Fault}
 use Rattle.substep.specs.declared.Outcome.{Outcome}
 use Rattle.substep.specs.declared.Substep.{Substep}
-use Rattle.runs.specs.declared.Stopped.{Stopped}
 use Rattle.runs.specs.declared.End.TheVariants.{NoLogarithm, NotFiniteRun}
 use Rattle.runs.specs.Zoned.{Zoned, zoned, AsDefined, on_part}
 use Rattle.runs.specs.Runs.{outcome, end_refusal}
@@ -39,12 +33,6 @@ pub holds_as_defined :
     (P : Zoned Outcome → Option Fault → Type 0) (u : Substep) (o : Outcome) (zones : List Float) (f : Option Fault) →
     InPlace u o zones → o.fault ≡ f → P (zoned o zones) f → P (outcome u) (outcome u).part.fault
 holds_as_defined P u o zones f g e h = subst (λ (v : Zoned Outcome). P v v.part.fault) (put_together u o zones g) (subst (P (zoned o zones)) (sym e) h)
-
--- a run of one substep
-pub one_substep :
-    (f : Outcome → Stopped) (c : Card) (pcm : HeatBatteryPcm) (salts : ℕ → Salt) (d : SubstepInput) (before : List Float) (o : Outcome) (zones : List Float) (r : Stopped) →
-    InPlace (process_heat_battery_zones c pcm salts d before) o zones → r ≡ f o → AsDefined (end_refusal r.end) r zones (on_part f (outcome (process_heat_battery_zones c pcm salts d before)))
-one_substep f c pcm salts d before o zones r g e = (e ∙ ap f g.1, λ h. g.0)
 
 pub log_refused : end_refusal NoLogarithm ≡ 0 → ⊥
 unfolding end_refusal
