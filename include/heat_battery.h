@@ -38,13 +38,16 @@ extern "C" {
    2 it shows how long the pump of the charging loop ran, in seconds
    3 as 2; a card lists services with numbers of their own, and the type of a
      demand has two bytes
+   4 as 3; a card ends with a flag, which sets a floor of 16 degrees C for
+     standing losses
 
    Versions 1 and 2 share all lengths and records, so no entry can tell a call
-   that is given the wrong one of the two. Their cards and records never have
-   the length that version 3 asks of them, nor the other way round: opening
-   refuses such a card with 1, and a call such a record with 10. */
+   that is given the wrong one of the two. No card or record of another version
+   has the length that version 3 asks of it, nor that version 4 asks, nor the
+   other way round: opening refuses such a card with 1, and a call such a record
+   with 10. */
 #define HEAT_BATTERY_OLDEST_VERSION 1
-#define HEAT_BATTERY_NEWEST_VERSION 3
+#define HEAT_BATTERY_NEWEST_VERSION 4
 
 /* A card: layers (u8, 1..64), units (u16), simultaneous (u8), budget (u16),
    then 19 f64: substep s, timestep h, initial inlet, estimated outlet, max,
@@ -52,27 +55,34 @@ extern "C" {
    flow, losses, start temperature, power. In versions 1 and 2 that is all. */
 #define HEAT_BATTERY_CARD_LENGTH 158
 
-/* In version 3 the card's services follow: a count (u8), then for each a number
-   (u16) and its class (u8: 1 regular, 2 space, 3 direct). At most 32 are
+/* From version 3 on the card's services follow: a count (u8), then for each a
+   number (u16) and its class (u8: 1 regular, 2 space, 3 direct). At most 32 are
    accepted, with numbers from 4 up, each above the last. The length is by the
    count, whatever that is. By this much a card, a record and an opening of
    version 3 are longer than HEAT_BATTERY_CARD_LENGTH, RECORD_LENGTH and
    OPENING_LENGTH, which are those of versions 1 and 2. */
 #define HEAT_BATTERY_SERVICES_LENGTH(count) (1 + 3 * (size_t)(count))
 
+/* In version 4 one byte more, the flag, the card's last: 1 sets a floor of 16
+   degrees C for standing losses, 0 sets none. So a card, a record and an opening
+   are longer by HEAT_BATTERY_SERVICES_LENGTH(count) and by this. With the floor
+   no standing loss takes a zone under 16, one at or under it stays, and the loss
+   counts what the zones gave. No other kind reads the flag. */
+#define HEAT_BATTERY_FLOOR_LENGTH 1
+
 #define HEAT_BATTERY_MOST_LAYERS 64
 #define HEAT_BATTERY_MOST_SERVICES 32
 
 /* A battery record: the bytes of its card, then an f64 for each zone, then five
    f64: total, pump and direct running hours, charged total, charged electric.
-   The layers are the card's first byte. In version 3 the services are part of
-   the card. */
+   The layers are the card's first byte. Services and flag are part of the card,
+   in the versions that have them. */
 #define HEAT_BATTERY_RECORD_LENGTH(layers) (198 + 8 * (size_t)(layers))
 
 /* A call: its kind (u8), then its fields. Kinds and their lengths, the kind's
    byte included; the fields in order:
-   1 demand             type (u8, in version 3 u16), commit, control on (u8
-                        each), required kWh, start h, return mark (u8) and
+   1 demand             type (u8, from version 3 on u16), commit, control on
+                        (u8 each), required kWh, start h, return mark (u8) and
                         temperature
    2 electric charge    power kW, target 0..1
    3 hydronic charge    inlet, hours, flow, target, limit kWh, hex a, hex b,
@@ -84,9 +94,9 @@ extern "C" {
      demand
    A mark is 0 with eight zero bytes after it, or 1 with an f64.
 
-   Types: 0 combi, 1 regular, 2 space, 3 direct. In version 3 every number is in
-   range: above 3 it has the class that the card lists for it, and where it is
-   not listed it is taken as type 0. */
+   Types: 0 combi, 1 regular, 2 space, 3 direct. From version 3 on every number
+   is in range: above 3 it has the class that the card lists for it, and where it
+   is not listed it is taken as type 0. */
 #define HEAT_BATTERY_DEMAND_LENGTH 29
 #define HEAT_BATTERY_DEMAND_LENGTH_FROM_3 30 /* from version 3 on */
 #define HEAT_BATTERY_ELECTRIC_LENGTH 17
@@ -108,13 +118,14 @@ extern "C" {
 /* Refusals. An entry returns the first that applies, in the order of its list;
    0 is none. */
 #define HEAT_BATTERY_ANSWERED 0
-#define HEAT_BATTERY_CARD_OUT_OF_RANGE 1   /* or a card of another length */
+#define HEAT_BATTERY_CARD_OUT_OF_RANGE 1   /* in version 4 also a flag other than 0 or 1; or a card of
+                                              another length */
 #define HEAT_BATTERY_LOWER_ABOVE_UPPER 2
 #define HEAT_BATTERY_MAX_TOO_LOW 3         /* max at most 20 */
 #define HEAT_BATTERY_NOTHING_TO_STORE 4    /* max below ref, or nearly equal */
-#define HEAT_BATTERY_BAD_SERVICES 61       /* of a card of version 3, after 4: more than 32 listed,
-                                              numbers under 4 or not rising, a class other than 1 to 3 */
-#define HEAT_BATTERY_BAD_CALL 10           /* or a bad record */
+#define HEAT_BATTERY_BAD_SERVICES 61       /* from version 3 on, after 4: more than 32 listed, numbers
+                                              under 4 or not rising, a class other than 1 to 3 */
+#define HEAT_BATTERY_BAD_CALL 10           /* or a bad record, its card's flag among its fields */
 #define HEAT_BATTERY_NO_ROOM 11
 #define HEAT_BATTERY_NO_RETURN 20          /* required above 1e-10, no return temperature */
 #define HEAT_BATTERY_NO_SERVICE 21         /* committed, required above 1e-10, of type 0, or of a number
@@ -206,6 +217,9 @@ struct heat_battery {
     /* of the first `services`; the places above may hold anything */
     uint16_t numbers[HEAT_BATTERY_MOST_SERVICES];
     uint8_t classes[HEAT_BATTERY_MOST_SERVICES];
+    /* the card's flag: 1 sets the floor, 0 sets none, another value is 10. Read
+       from version 4 on, before it may hold anything; never written */
+    uint8_t floor;
 };
 
 /* What a call answers, as its line would show it. */

@@ -1,7 +1,7 @@
 #!/bin/sh
 # Compares the C entries, called from C and from Rust, with the oracle's independent ones: results, lines, records, verdicts and
-# every byte that must stay. The entry on the caller's own record is compared with the one on bytes: answer, zones, totals, and that the
-# services stay, which before version 3 hold anything; from C, a refused call gets a record that can't be written.
+# every byte that must stay. The entry on the caller's own record is compared with the one on bytes: answer, zones, totals, and that
+# services and floor stay, which before versions 3 and 4 hold anything; from C, a refused call gets a record that can't be written.
 # The audit of any length is compared with the one that has a limit, on the stored sheets and on one of megabytes.
 #
 #   tools/entries.sh [COUNT [SEED]]     100,000 inputs of the entries and a tenth as many sheets, seed 1

@@ -11,7 +11,7 @@ count=${1:-100000} seed=${2:-2}
 [ $# -ge 1 ] && shift
 [ $# -ge 1 ] || set -- finite nearly_equal max_zero min square sum2 ln truncate \
     layer_energy soc_to_temp state_of_charge energy_required new_temperature simultaneous \
-    viscosity reynolds heat_transfer outlet zone_properties card substep charge_energy_demand lists
+    viscosity reynolds heat_transfer outlet zone_properties card substep charge_energy_demand lowest lists
 
 SRC=$(tools/published.sh "the replay")
 export SRC

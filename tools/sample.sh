@@ -39,7 +39,7 @@ sample 2000 sum2
 sample 4000 ln truncate
 sample 1000 layer_energy
 sample 500 soc_to_temp state_of_charge
-sample 1000 energy_required new_temperature simultaneous viscosity reynolds heat_transfer outlet
+sample 1000 energy_required new_temperature lowest simultaneous viscosity reynolds heat_transfer outlet
 sample 500 zone_properties
 sample 2000 card # each end of each range on both sides
 sample 700 substep

@@ -1,5 +1,6 @@
 #!/bin/sh
-# Instructions per round of a row, by callgrind: instructions.sh ROW CONTENDER..
+# Instructions per round of a row, by callgrind: instructions.sh ROW CONTENDER.. A row is known by how its name starts; those with the
+# floor ("standing loss with", "standing loss at") have no published Rust.
 set -eu
 here=$(cd "$(dirname "$0")" && pwd)
 program=${CARGO_TARGET_DIR:-$here/../target}/measured/bench

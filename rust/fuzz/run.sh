@@ -72,12 +72,15 @@ broken() {
 if [ "$1" = --broken ]; then
     missed=0
     services="services-33 equal-numbers number-under-4 any-class services-length type-exchanged unlisted-served unlisted-trial"
+    floor="flag-2 flag-first floor-early floor-always floor-never floor-in-demand floor-raises floor-whole floor-rest floor-held floor-ref \
+        floor-plain-sum"
     # shellcheck disable=SC2086
     broken entries room room-first line-before-room flag absent-bytes refused-record behind-line version-late time-always time-product \
-        services-early $services own-services-early own-services-33 own-services-stored reads-behind reads-before referee
+        services-early $services $floor own-services-early own-services-33 own-services-stored own-floor-early own-floor-taken \
+        own-floor-2 own-floor-stored reads-behind reads-before referee
     # shellcheck disable=SC2086
     broken audit passes-all passes-none index last-line order no-limit whole-limited time-always time-product \
-        $services reads-behind reads-before referee
+        $services $floor reads-behind reads-before referee
     echo "$missed faults were not found"
     [ "$missed" -eq 0 ]
     exit

@@ -18,6 +18,7 @@ static int at_start; /* the side of that page: 0 the end of what is lent, 1 its 
 static uint8_t *rooms[3]; /* for the slices of a case */
 static unsigned long own_calls; /* on the caller's own record */
 static unsigned long listing_calls; /* of these, with a version from 3 on, in which it lists services */
+static unsigned long floored_calls; /* of these, with a version from 4 on and the floor */
 static uint8_t *page; /* for that record */
 
 static void read_bytes(void *to, size_t length) {
@@ -82,10 +83,11 @@ static size_t card_length(uint8_t version, const uint8_t *record, size_t length)
         return length < HEAT_BATTERY_CARD_LENGTH ? 0 : HEAT_BATTERY_CARD_LENGTH;
     if (length <= HEAT_BATTERY_CARD_LENGTH)
         return 0;
-    return HEAT_BATTERY_CARD_LENGTH + HEAT_BATTERY_SERVICES_LENGTH(record[HEAT_BATTERY_CARD_LENGTH]);
+    size_t listed = HEAT_BATTERY_CARD_LENGTH + HEAT_BATTERY_SERVICES_LENGTH(record[HEAT_BATTERY_CARD_LENGTH]);
+    return version < 4 ? listed : listed + HEAT_BATTERY_FLOOR_LENGTH;
 }
 
-/* The list of a card of version 3, as far as there are places for it; what isn't read holds anything. */
+/* The list of a card from version 3 on, as far as there are places for it; what isn't read holds anything. */
 static void services_from(struct heat_battery *b, uint8_t version, const uint8_t *record) {
     const uint8_t *entry = record + HEAT_BATTERY_CARD_LENGTH + 1;
     b->services = 0xe7;
@@ -100,11 +102,17 @@ static void services_from(struct heat_battery *b, uint8_t version, const uint8_t
     }
 }
 
+/* The flag of a card of version 4, its last byte; before, 1 or what none may be, by the card. */
+static uint8_t floor_from(uint8_t version, const uint8_t *record, const uint8_t *state) {
+    return version < 4 ? (uint8_t)(record[5] % 2 ? 1 : 0xe7) : state[-1];
+}
+
 static void battery_from(struct heat_battery *b, uint8_t version, const uint8_t *record, size_t length) {
     double *card = &b->card.substep, *totals = &b->total;
     const uint8_t *state = record + card_length(version, record, length);
     memset(b, 0, sizeof *b);
     services_from(b, version, record);
+    b->floor = floor_from(version, record, state);
     b->card.layers = record[0];
     b->card.units = (uint16_t)(record[1] << 8 | record[2]);
     b->card.simultaneous = record[3];
@@ -141,7 +149,8 @@ static int same_battery(const struct heat_battery *x, const struct heat_battery 
         && x->card.simultaneous == y->card.simultaneous && x->card.budget == y->card.budget
         && x->count == y->count && memcmp(x->zones, y->zones, sizeof x->zones) == 0
         && memcmp(&x->total, &y->total, 5 * sizeof(double)) == 0 && x->services == y->services
-        && memcmp(x->numbers, y->numbers, sizeof x->numbers) == 0 && memcmp(x->classes, y->classes, sizeof x->classes) == 0;
+        && memcmp(x->numbers, y->numbers, sizeof x->numbers) == 0 && memcmp(x->classes, y->classes, sizeof x->classes) == 0
+        && x->floor == y->floor;
 }
 
 /* Whether an answer is the one on a line, whose refusal is at `line`; with 10 and 40 there is no line. */
@@ -168,6 +177,7 @@ static int own_record_agrees(uint8_t version, const uint8_t *before, size_t leng
     fill_above(&expected);
     own_calls++;
     listing_calls += version >= 3;
+    floored_calls += version >= 4 && b.floor == 1;
     struct heat_battery *own = (struct heat_battery *)(at_start ? page : page + PAGE - sizeof b);
     *own = b;
     allow(result == 0 ? PROT_READ | PROT_WRITE : PROT_READ); /* a refused call that stores anything ends the program */
@@ -233,7 +243,7 @@ static int replay(int entry) {
 
 static unsigned long replay_file(void) {
     unsigned long cases = 0, wrong = 0;
-    own_calls = listing_calls = 0;
+    own_calls = listing_calls = floored_calls = 0;
     rewind(file);
     for (int entry = getc(file); entry != EOF; entry = getc(file)) {
         int same = replay(entry);
@@ -241,8 +251,8 @@ static unsigned long replay_file(void) {
         if (!same && wrong++ < 20)
             printf("case %lu disagrees (entry %d)\n", cases, entry);
     }
-    printf("unreadable %s: %lu cases, %lu calls on the own record too (%lu with services), %lu disagree\n",
-           at_start ? "before" : "behind", cases, own_calls, listing_calls, wrong);
+    printf("unreadable %s: %lu cases, %lu calls on the own record too (%lu with services, %lu with the floor), %lu disagree\n",
+           at_start ? "before" : "behind", cases, own_calls, listing_calls, floored_calls, wrong);
     return wrong;
 }
 

@@ -75,16 +75,18 @@ static void stored(const char *name, struct room room) {
 /* A sheet of a version: a loss, a closing and a state of charge in turn, LINES in all. A call is lent what lies behind the
  * last line, or where its start is to lie against a page, room for its own line. */
 static void long_sheet(uint8_t version, const uint8_t *own_card) {
-    static const uint8_t services[HEAT_BATTERY_SERVICES_LENGTH(2)] = {2, 0, 4, 1, 1, 0, 3}; /* 4 regular, 256 direct */
-    size_t listed = version < 3 ? 0 : sizeof services, card_size = HEAT_BATTERY_CARD_LENGTH + listed;
-    size_t size = HEAT_BATTERY_RECORD_LENGTH(own_card[0]) + listed, opening = HEAT_BATTERY_OPENING_LENGTH + listed;
+    /* 4 regular, 256 direct; then the flag of version 4 */
+    static const uint8_t rest[HEAT_BATTERY_SERVICES_LENGTH(2) + HEAT_BATTERY_FLOOR_LENGTH] = {2, 0, 4, 1, 1, 0, 3, 1};
+    size_t more = version < 3 ? 0 : version < 4 ? HEAT_BATTERY_SERVICES_LENGTH(2) : sizeof rest;
+    size_t card_size = HEAT_BATTERY_CARD_LENGTH + more;
+    size_t size = HEAT_BATTERY_RECORD_LENGTH(own_card[0]) + more, opening = HEAT_BATTERY_OPENING_LENGTH + more;
     size_t line = HEAT_BATTERY_LINE_LENGTH(own_card[0], HEAT_BATTERY_BARE_LENGTH), length = opening + LINES * line;
     struct room room = room_for(length), front = room_for(line);
     uint8_t *sheet = lent(room, length), *end = sheet + length, *at = sheet + opening;
     uint8_t *card = lent(room_for(card_size), card_size), *record = lent(room_for(size), size);
     uint8_t *kind = lent(room_for(1), 1);
     memcpy(card, own_card, HEAT_BATTERY_CARD_LENGTH);
-    memcpy(card + HEAT_BATTERY_CARD_LENGTH, services, listed);
+    memcpy(card + HEAT_BATTERY_CARD_LENGTH, rest, more);
     if (heat_battery_open(version, card, card_size, record, size, sheet, length) != HEAT_BATTERY_ANSWERED)
         ended("the card is refused");
     for (int i = 0; i < LINES; i++, at += line) {

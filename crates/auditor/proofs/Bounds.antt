@@ -10,13 +10,13 @@ use lib.ListN.{length, get_or, length-drop}
 use lib.Ieee.{Float}
 use Rattle.card.specs.Version.{known_version}
 use borrow.Author.Tests.{ltb-false}
-use Rattle.card.specs.Services.{Service}
+use Rattle.card.specs.Extension.{Extension}
 use Rattle.card.specs.declared.Card.{Card}
 use Rattle.battery.specs.Battery.{fresh}
 use Rattle.battery.specs.declared.Battery.{Battery}
 use Rattle.battery.specs.declared.Answer.{Answer}
 use Rattle.engine.specs.Steps.{advance_of}
-use Rattle.sheet_records.specs.Cards.{card_at, services_at}
+use Rattle.sheet_records.specs.Cards.{card_at, extension_at}
 use Rattle.sheet_lines.specs.Answers.{agrees}
 use Rattle.auditor.specs.Verdicts.{Verdict, Accepted, Refused}
 use Rattle.sheet_lines.specs.Front.{following, line_call, line_answer}
@@ -44,18 +44,18 @@ most_line same version b k m seen (Some call) go h s = on (eqb own.refusal 10) (
     on false true = s own.battery
     on false false = h
 
-most_from : (same : Float → Float → Bool) (version : ℕ) (services : List Service) (c : Card) (most : ℕ) (b : Battery) (k : ℕ) (bs : List ℕ) → IndexAtMost (k + length bs) (audit_from same version services c most b k bs)
+most_from : (same : Float → Float → Bool) (version : ℕ) (extension : Extension) (c : Card) (most : ℕ) (b : Battery) (k : ℕ) (bs : List ℕ) → IndexAtMost (k + length bs) (audit_from same version extension c most b k bs)
 unfolding audit_from
-most_from same version services c zero b k bs = omega arith
-most_from same version services c (suc most) b k bs = on bs (λ next t. most_from same version services c most next (k + 1) t)
+most_from same version extension c zero b k bs = omega arith
+most_from same version extension c (suc most) b k bs = on bs (λ next t. most_from same version extension c most next (k + 1) t)
   where
-    on : (t : List ℕ) → ((next : Battery) (u : List ℕ) → IndexAtMost (k + 1 + length u) (audit_from same version services c most next (k + 1) u))
-        → IndexAtMost (k + length t) (audit_from same version services c (suc most) b k t)
+    on : (t : List ℕ) → ((next : Battery) (u : List ℕ) → IndexAtMost (k + 1 + length u) (audit_from same version extension c most next (k + 1) u))
+        → IndexAtMost (k + length t) (audit_from same version extension c (suc most) b k t)
     on [] ih = omega arith
     on (x ∷ t) ih =
         let r = following version c (x ∷ t) in
-        most_line same version b k (k + suc (length t)) (line_answer version c (x ∷ t)) (line_call version services c (x ∷ t)) (λ next. audit_from same version services c most next (k + 1) r) (omega arith)
-        (λ next. most_more (k + 1 + length r) (k + suc (length t)) (audit_from same version services c most next (k + 1) r) (omega (arith, following_short version c (x ∷ t))) (ih next r))
+        most_line same version b k (k + suc (length t)) (line_answer version c (x ∷ t)) (line_call version extension c (x ∷ t)) (λ next. audit_from same version extension c most next (k + 1) r) (omega arith)
+        (λ next. most_more (k + 1 + length r) (k + suc (length t)) (audit_from same version extension c most next (k + 1) r) (omega (arith, following_short version c (x ∷ t))) (ih next r))
 
 pub most_audit : (rules : Rules) (bs : List ℕ) → IndexAtMost (length bs) (audit_of rules bs)
 unfolding audit_of audit_card audit_lines
@@ -64,8 +64,8 @@ most_audit rules bs = on (known_version version) (card_line_ok version bs) (rule
     version : ℕ
     version = get_or bs 0 0
 
-    services : List Service
-    services = services_at version (card_part version bs)
+    extension : Extension
+    extension = extension_at version (card_part version bs)
 
     c : Card
     c = card_at version (card_part version bs)
@@ -74,13 +74,13 @@ most_audit rules bs = on (known_version version) (card_line_ok version bs) (rule
     t = lines_part version bs
 
     v : Verdict
-    v = audit_from rules.same version services c (length t) (fresh c) 0 t
+    v = audit_from rules.same version extension c (length t) (fresh c) 0 t
 
     on : (p q r : Bool) → IndexAtMost (length bs) (cond p (cond q (cond r v (Refused 70 0)) (Refused 41 0)) (Refused 40 0))
     on false q r = omega arith
     on true false r = omega arith
     on true true false = omega arith
-    on true true true = most_more (0 + length t) (length bs) v (simp length-drop (omega arith)) (most_from rules.same version services c (length t) (fresh c) 0 t)
+    on true true true = most_more (0 + length t) (length bs) v (simp length-drop (omega arith)) (most_from rules.same version extension c (length t) (fresh c) 0 t)
 
 pub most_limited : (rules : Rules) (bs : List ℕ) → IndexAtMost limit (limited_audit_of rules bs)
 unfolding limited_audit_of

@@ -8,11 +8,11 @@ use Prim.Native.Nat.{ℕ, ◌+◌}
 use native.Mathlib.Omega.{arith}
 use lib.ListN.{length}
 use lib.Ieee.{Float}
-use Rattle.card.specs.Services.{Service}
+use Rattle.card.specs.Extension.{Extension}
 use Rattle.card.specs.declared.Card.{Card}
 use Rattle.battery.specs.Battery.{fresh}
 use Rattle.battery.specs.declared.Call.{Call}
-use Rattle.sheet_records.specs.Cards.{card_at, services_at}
+use Rattle.sheet_records.specs.Cards.{card_at, extension_at}
 use Rattle.sheet_lines.specs.Answers.{answer_at, same_number}
 use Rattle.sheet_lines.proofs.Agreement.{agrees_more}
 use Rattle.auditor.specs.Verdicts.{Verdict, Accepted, Refused}
@@ -47,9 +47,9 @@ counted : (m n : ℕ) → m ≡ n → 0 + m ≡ n
 counted m n e = omega arith
 
 module _ (rules : Rules) (bs : List ℕ) (n : ℕ) (s : Sheet rules bs n) where
-  -- its card, and the services that it lists
-  abbrev sheet_services : List Service
-  sheet_services = services_at s.version s.card
+  -- its card, and the extension that it lists
+  abbrev sheet_extension : Extension
+  sheet_extension = extension_at s.version s.card
 
   abbrev sheet_card : Card
   sheet_card = card_at s.version s.card
@@ -70,23 +70,23 @@ module _ (rules : Rules) (bs : List ℕ) (n : ℕ) (s : Sheet rules bs n) where
         accepted = s.accepted;
       }
 
-  pub sheet_stepped : Stepped rules.same s.version sheet_services sheet_card (fresh sheet_card) s.lines s.calls
+  pub sheet_stepped : Stepped rules.same s.version sheet_extension sheet_card (fresh sheet_card) s.lines s.calls
   unfolding steps_from
-  sheet_stepped = stepped rules.same s.version sheet_services sheet_card [] s.lines s.calls s.layout.laid s.agreed
+  sheet_stepped = stepped rules.same s.version sheet_extension sheet_card [] s.lines s.calls s.layout.laid s.agreed
 
   -- the auditor comes to what follows a sheet
-  pub sheet_walk : (r : List ℕ) → From rules.same s.version sheet_services sheet_card (steps_from s.version (fresh sheet_card) s.calls) n r (audit_of rules (bs ++ r))
+  pub sheet_walk : (r : List ℕ) → From rules.same s.version sheet_extension sheet_card (steps_from s.version (fresh sheet_card) s.calls) n r (audit_of rules (bs ++ r))
   unfolding then_opened
   sheet_walk r =
       let t = lines_bytes s.lines ++ r in
       let w =
-      walk rules.same s.version sheet_services sheet_card s.lines s.calls (length t) (fresh sheet_card) 0 r (fresh_own s.version s.card s.accepted) sheet_stepped (omega arith) in
+      walk rules.same s.version sheet_extension sheet_card s.lines s.calls (length t) (fresh sheet_card) 0 r (fresh_own s.version s.card s.accepted) sheet_stepped (omega arith) in
       record {
         most = w.most;
         enough = w.enough;
         gives =
-            audit_opened rules (bs ++ r) (then_opened r) ∙ card_taken rules s.version sheet_services sheet_card t s.passes ∙ w.gives
-            ∙ ap (λ (k : ℕ). audit_from rules.same s.version sheet_services sheet_card w.most (steps_from s.version (fresh sheet_card) s.calls) k r)
+            audit_opened rules (bs ++ r) (then_opened r) ∙ card_taken rules s.version sheet_extension sheet_card t s.passes ∙ w.gives
+            ∙ ap (λ (k : ℕ). audit_from rules.same s.version sheet_extension sheet_card w.most (steps_from s.version (fresh sheet_card) s.calls) k r)
             (counted (length s.lines) n s.count);
       }
 
@@ -94,7 +94,7 @@ module _ (rules : Rules) (bs : List ℕ) (n : ℕ) (s : Sheet rules bs n) where
   accepted =
       let w = sheet_walk [] in
       ap (audit_of rules) (sym (append-nil bs)) ∙ w.gives
-      ∙ audit_none rules.same s.version sheet_services sheet_card w.most (steps_from s.version (fresh sheet_card) s.calls) n
+      ∙ audit_none rules.same s.version sheet_extension sheet_card w.most (steps_from s.version (fresh sheet_card) s.calls) n
 
 pub exact : (rules : Rules) (bs : List ℕ) (n : ℕ) → (audit_of rules bs ≡ Accepted n) ↔ Sheet rules bs n
 exact rules bs n = (sheet_of_lem rules bs n (outcome rules bs), accepted rules bs n)

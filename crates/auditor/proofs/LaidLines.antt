@@ -9,7 +9,7 @@ use borrow.Author.Tests.{eq-eqb, le-leb}
 use lib.ListN.{length, take, drop, get_or, length-append, take-append-drop, get_or-append}
 use lib.Seq.{take_at, drop_at, get_or-append-add, drop-drop, length-take-le}
 use Rattle.codec.specs.Bytes.{be, be_at}
-use Rattle.card.specs.Services.{Service}
+use Rattle.card.specs.Extension.{Extension}
 use Rattle.card.specs.declared.Card.{Card}
 use Rattle.battery.specs.Call.{call_in_range}
 use Rattle.battery.specs.declared.Call.{Call}
@@ -23,9 +23,9 @@ use Rattle.auditor.specs.Sheet.{Line, bytes_of, Laid}
 use Rattle.sheet_lines.proofs.Fronts.{size_is, Front, front, call_long, answer_long}
 
 -- a read call has a kind, so it is not empty
-call_some : (version : ℕ) (services : List Service) (bs : List ℕ) (call : Call) → call_of version services bs ≡ Some call → 1 ≤ length bs
-call_some version services [] call h = absurd (omega (arith, (call_laid version services [] call h).from_one))
-call_some version services (x ∷ bs) call h = omega arith
+call_some : (version : ℕ) (extension : Extension) (bs : List ℕ) (call : Call) → call_of version extension bs ≡ Some call → 1 ≤ length bs
+call_some version extension [] call h = absurd (omega (arith, (call_laid version extension [] call h).from_one))
+call_some version extension (x ∷ bs) call h = omega arith
 
 get_d_after : (p q : List ℕ) (k : ℕ) → length p ≡ k → get_or (p ++ q) k 0 ≡ get_or q 0 0
 get_d_after p q k e =
@@ -33,7 +33,7 @@ get_d_after p q k e =
     ap (λ (m : ℕ). get_or (p ++ q) m 0) z ∙ get_or-append-add p q 0 0
 
 -- ---- a laid line with r after it
-module _ (version : ℕ) (services : List Service) (c : Card) (l : Line) (call : Call) (h : Laid version services c l call) (r : List ℕ) where
+module _ (version : ℕ) (extension : Extension) (c : Card) (l : Line) (call : Call) (h : Laid version extension c l call) (r : List ℕ) where
   abbrev bs : List ℕ
   bs = bytes_of l ++ r
 
@@ -49,8 +49,8 @@ module _ (version : ℕ) (services : List Service) (c : Card) (l : Line) (call :
   kind : line_call_length version bs ≡ length l.call
   kind =
       let e : get_or bs 2 0 ≡ get_or l.call 0 0 =
-      ap (λ (x : List ℕ). get_or x 2 0) split ∙ get_d_after l.head rest 2 h.two ∙ get_or-append l.call (l.answer ++ r) 0 0 (call_some version services l.call call h.reads) in
-      ap (call_length version) e ∙ sym (call_length_lem version services l.call call h.reads)
+      ap (λ (x : List ℕ). get_or x 2 0) split ∙ get_d_after l.head rest 2 h.two ∙ get_or-append l.call (l.answer ++ r) 0 0 (call_some version extension l.call call h.reads) in
+      ap (call_length version) e ∙ sym (call_length_lem version extension l.call call h.reads)
 
   at_call : drop 2 bs ≡ rest
   at_call = ap (drop 2) split ∙ drop_at l.head rest 2 h.two
@@ -82,9 +82,9 @@ module _ (version : ℕ) (services : List Service) (c : Card) (l : Line) (call :
   head_ok_lem =
       let n = length l.call in
       let w : line_size version c n ≤ length bs = omega (arith, size_is version c n, line_long) in
-      rw (kind, le-leb 1 n (call_some version services l.call call h.reads), le-leb (line_size version c n) (length bs) w) (eq-eqb (be_at bs 0 2) (n + answer_length version c) head_says)
+      rw (kind, le-leb 1 n (call_some version extension l.call call h.reads), le-leb (line_size version c n) (length bs) w) (eq-eqb (be_at bs 0 2) (n + answer_length version c) head_says)
 
-  pub line_call_lem : line_call version services c bs ≡ Some call
+  pub line_call_lem : line_call version extension c bs ≡ Some call
   unfolding line_call
   line_call_lem = rw (head_ok_lem, answer_part_lem, h.marks, call_part_lem) h.reads
 
@@ -92,13 +92,13 @@ module _ (version : ℕ) (services : List Service) (c : Card) (l : Line) (call :
 abbrev pub front_line : ℕ → Card → List ℕ → Line
 front_line version c bs = record { head = take 2 bs; call = call_part version bs; answer = answer_part version c bs }
 
-module _ (version : ℕ) (services : List Service) (c : Card) (bs : List ℕ) (call : Call) (h : line_call version services c bs ≡ Some call) where
-  tests : (head_ok version c bs ≡ true) × (marks_ok version (answer_part version c bs) ≡ true) × (call_of version services (call_part version bs) ≡ Some call)
+module _ (version : ℕ) (extension : Extension) (c : Card) (bs : List ℕ) (call : Call) (h : line_call version extension c bs ≡ Some call) where
+  tests : (head_ok version c bs ≡ true) × (marks_ok version (answer_part version c bs) ≡ true) × (call_of version extension (call_part version bs) ≡ Some call)
   unfolding line_call
   tests =
       let m = marks_ok version (answer_part version c bs) in
-      let a = test_good (head_ok version c bs) (cond m (call_of version services (call_part version bs)) None) call h in
-      let b = test_good m (call_of version services (call_part version bs)) call a.1 in
+      let a = test_good (head_ok version c bs) (cond m (call_of version extension (call_part version bs)) None) call h in
+      let b = test_good m (call_of version extension (call_part version bs)) call a.1 in
       (a.0, b.0, b.1)
 
   at_front : Front version c bs
@@ -118,7 +118,7 @@ module _ (version : ℕ) (services : List Service) (c : Card) (bs : List ℕ) (c
       ∙ ap (λ (x : List ℕ). take 2 bs ++ x) (e ∙ ap (λ (x : List ℕ). take n (drop 2 bs) ++ x) d)
       ∙ simp append_assoc
 
-  pub front_laid : call_in_range version c call ≡ true → Laid version services c (front_line version c bs) call
+  pub front_laid : call_in_range version c call ≡ true → Laid version extension c (front_line version c bs) call
   front_laid k =
       let says : be (take 2 bs) ≡ length (call_part version bs) + length (answer_part version c bs) =
       at_front.says ∙ rw (call_long version c bs at_front, answer_long version c bs at_front) in

@@ -11,7 +11,7 @@ use Rattle.codec.specs.Bytes.{be}
 use Rattle.card.specs.Version.{known_version}
 use Rattle.card.proofs.Versions.{zero_unknown}
 use Rattle.battery.specs.Battery.{fresh}
-use Rattle.sheet_records.specs.Cards.{card_length, card_at, services_at, refusal_at}
+use Rattle.sheet_records.specs.Cards.{card_length, card_at, extension_at, refusal_at}
 use Rattle.sheet_records.proofs.CardLaws.{card_length_front, card_length_take, fields_accepted}
 use Rattle.sheet_lines.specs.Lines.{opening_length}
 use Rattle.auditor.specs.Audit.{card_part, lines_part, card_line_ok, audit_card, audit_of}
@@ -61,11 +61,11 @@ module _ (version : ℕ) (known : known_version version ≡ true) (head card res
       rw (le-leb (opening_length version (drop 3 bs)) (length bs) sheet_long, head_part, eq-eqb (be head) (card_length version (drop 3 bs)) (counts ∙ sym card_size), card_part_lem)
       (eq-eqb (refusal_at version card) 0 a)
 
-  verdict : (rules : Rules) → be head ≡ card_length version card → CardAccepted version card → audit_of rules bs ≡ audit_card rules version (services_at version card) (card_at version card) rest
+  verdict : (rules : Rules) → be head ≡ card_length version card → CardAccepted version card → audit_of rules bs ≡ audit_card rules version (extension_at version card) (card_at version card) rest
   unfolding audit_of
   verdict rules counts a = rw (known, ok counts a, card_part_lem, rest_part)
 
-pub audit_opened : (rules : Rules) (bs : List ℕ) (o : Opened bs) → audit_of rules bs ≡ audit_card rules o.version (services_at o.version o.card) (card_at o.version o.card) o.rest
+pub audit_opened : (rules : Rules) (bs : List ℕ) (o : Opened bs) → audit_of rules bs ≡ audit_card rules o.version (extension_at o.version o.card) (card_at o.version o.card) o.rest
 audit_opened rules bs o =
     ap (audit_of rules) o.bytes ∙ verdict o.version o.known o.head o.card o.rest o.two o.long rules o.counts o.accepted
 

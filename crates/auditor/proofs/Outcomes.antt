@@ -7,11 +7,11 @@ use native.Mathlib.Omega.{arith}
 use lib.ListN.{length, get_or}
 use Rattle.logic.proofs.Tests.{no_both}
 use Rattle.card.specs.Version.{known_version}
-use Rattle.card.specs.Services.{Service}
+use Rattle.card.specs.Extension.{Extension}
 use Rattle.card.specs.declared.Card.{Card}
 use Rattle.battery.specs.Battery.{fresh}
 use Rattle.battery.specs.declared.Call.{Call}
-use Rattle.sheet_records.specs.Cards.{card_at, services_at}
+use Rattle.sheet_records.specs.Cards.{card_at, extension_at}
 use Rattle.auditor.specs.Verdicts.{Verdict, Accepted, Refused}
 use Rattle.auditor.specs.Rules.{Rules}
 use Rattle.auditor.specs.Audit.{card_line_ok, audit_from, audit_lines, audit_card, audit_of}
@@ -29,16 +29,16 @@ pub data Outcome (rules : Rules) (bs : List ℕ) (v : Verdict) : Type 0 where
   bad_line_lem : (k : ℕ) → BadLine rules bs k → v ≡ Refused 42 (k + 1) → Outcome rules bs v
   disagrees : (k : ℕ) → Disagrees rules bs k → v ≡ Refused 43 (k + 1) → Outcome rules bs v
 
--- the card of an opening, and its services
-abbrev services_of : (bs : List ℕ) → Opened bs → List Service
-services_of bs o = services_at o.version o.card
+-- the card of an opening, and its extension
+abbrev extension_of : (bs : List ℕ) → Opened bs → Extension
+extension_of bs o = extension_at o.version o.card
 
 abbrev card_of : (bs : List ℕ) → Opened bs → Card
 card_of bs o = card_at o.version o.card
 
 -- lines after line 0 that are laid and agree make a sheet
 module _ (rules : Rules) (bs : List ℕ) (o : Opened bs) (taken : rules.test o.version (card_of bs o) ≡ true) (ls : List Line) (calls : List Call)
-    (s : Stepped rules.same o.version (services_of bs o) (card_of bs o) (fresh (card_of bs o)) ls calls) where
+    (s : Stepped rules.same o.version (extension_of bs o) (card_of bs o) (fresh (card_of bs o)) ls calls) where
   abbrev up_to : List ℕ
   up_to = o.version ∷ (o.head ++ (o.card ++ lines_bytes ls))
 
@@ -58,11 +58,11 @@ module _ (rules : Rules) (bs : List ℕ) (o : Opened bs) (taken : rules.test o.v
               two = o.two;
               counts = o.counts;
               long = o.long;
-              laid = all_laid rules.same o.version (services_of bs o) (card_of bs o) (fresh (card_of bs o)) ls calls s;
+              laid = all_laid rules.same o.version (extension_of bs o) (card_of bs o) (fresh (card_of bs o)) ls calls s;
             };
         accepted = o.accepted;
         passes = taken;
-        agreed = all_agree rules.same o.version (services_of bs o) (card_of bs o) [] (fresh (card_of bs o)) ls calls refl s;
+        agreed = all_agree rules.same o.version (extension_of bs o) (card_of bs o) [] (fresh (card_of bs o)) ls calls refl s;
         count = refl;
       }
 
@@ -74,7 +74,7 @@ from_none n = omega arith
 
 -- the verdict on the lines after line 0
 by_lines : (rules : Rules) (bs : List ℕ) (o : Opened bs) → rules.test o.version (card_of bs o) ≡ true → (v : Verdict)
-    → Told rules.same o.version (services_of bs o) (card_of bs o) (fresh (card_of bs o)) 0 o.rest v → Outcome rules bs v
+    → Told rules.same o.version (extension_of bs o) (card_of bs o) (fresh (card_of bs o)) 0 o.rest v → Outcome rules bs v
 unfolding expected made steps_from
 by_lines rules bs o t v (whole ls calls e s w) =
     let j : bs ≡ up_to rules bs o t ls calls s = o.bytes ∙ ap (λ (x : List ℕ). o.version ∷ (o.head ++ (o.card ++ x))) e in
@@ -97,10 +97,10 @@ by_lines rules bs o t v (differing ls calls l call r e s laid d w) =
     })
     (w ∙ ap (λ (n : ℕ). Refused 43 (n + 1)) (from_none (length ls)))
 
-pub card_taken : (rules : Rules) (version : ℕ) (services : List Service) (c : Card) (t : List ℕ) → rules.test version c ≡ true
-    → audit_card rules version services c t ≡ audit_from rules.same version services c (length t) (fresh c) 0 t
+pub card_taken : (rules : Rules) (version : ℕ) (extension : Extension) (c : Card) (t : List ℕ) → rules.test version c ≡ true
+    → audit_card rules version extension c t ≡ audit_from rules.same version extension c (length t) (fresh c) 0 t
 unfolding audit_card audit_lines
-card_taken rules version services c t h = rw h
+card_taken rules version extension c t h = rw h
 
 pub refused_version : (rules : Rules) (bs : List ℕ) → known_version (get_or bs 0 0) ≡ false → audit_of rules bs ≡ Refused 40 0
 unfolding audit_of
@@ -119,11 +119,11 @@ outcome rules bs = by_version (known_version (get_or bs 0 0)) refl
   where
     by_test : (o : Opened bs) (t : Bool) → rules.test o.version (card_of bs o) ≡ t → Outcome rules bs (audit_of rules bs)
     by_test o true t =
-        let services = services_of bs o in
+        let extension = extension_of bs o in
         let c = card_of bs o in
         by_lines rules bs o t (audit_of rules bs)
-        (rw (audit_opened rules bs o, card_taken rules o.version services c o.rest t)
-        (told rules.same o.version services c (length o.rest) (fresh c) 0 o.rest (fresh_own o.version o.card o.accepted) (omega arith)))
+        (rw (audit_opened rules bs o, card_taken rules o.version extension c o.rest t)
+        (told rules.same o.version extension c (length o.rest) (fresh c) 0 o.rest (fresh_own o.version o.card o.accepted) (omega arith)))
     by_test o false t = let h : CardNotTaken rules bs = record { opened = o; fails = t } in not_taken h (refused_taking rules bs h)
 
     by_card : known_version (get_or bs 0 0) ≡ true → (t : Bool) → card_line_ok (get_or bs 0 0) bs ≡ t → Outcome rules bs (audit_of rules bs)

@@ -11,12 +11,12 @@ use lib.ListN.{length, get_or}
 use lib.Ieee.{Float}
 use Rattle.card.specs.Version.{known_version}
 use Rattle.card.proofs.Versions.{zero_unknown}
-use Rattle.card.specs.Services.{Service}
+use Rattle.card.specs.Extension.{Extension}
 use Rattle.card.specs.declared.Card.{Card}
 use Rattle.battery.specs.Battery.{fresh}
 use Rattle.battery.specs.declared.Battery.{Battery}
 use Rattle.engine.specs.Steps.{step_of}
-use Rattle.sheet_records.specs.Cards.{card_at, services_at}
+use Rattle.sheet_records.specs.Cards.{card_at, extension_at}
 use Rattle.auditor.specs.Verdicts.{Verdict, Refused}
 use Rattle.auditor.specs.Rules.{Rules, plain}
 use Rattle.auditor.specs.Audit.{card_line_ok, judge, audit_from, audit_of, limit, limited_audit_of}
@@ -109,9 +109,9 @@ in_42 rules bs k (bad_line_lem m h e) a =
     rw s at h
 in_42 rules bs k (disagrees m h e) a = other_number (audit_of rules bs) 43 (m + 1) 42 (k + 1) (λ z. omega arith) e a
 
-module _ (same : Float → Float → Bool) (version : ℕ) (services : List Service) (c : Card) (b : Battery) (k : ℕ) (r : List ℕ) (v : Verdict) (some : 1 ≤ length r) (none : NoLine version services c r) where
+module _ (same : Float → Float → Bool) (version : ℕ) (extension : Extension) (c : Card) (b : Battery) (k : ℕ) (r : List ℕ) (v : Verdict) (some : 1 ≤ length r) (none : NoLine version extension c r) where
   -- where no line stands, the verdict is 42
-  none_told : Told same version services c b k r v → v ≡ Refused 42 (k + 1)
+  none_told : Told same version extension c b k r v → v ≡ Refused 42 (k + 1)
   none_told (whole [] calls e s w) = absurd (omega (arith, some, ap length e))
   none_told (whole (l ∷ ls) [] e s w) = absurd s
   none_told (whole (l ∷ ls) (call ∷ calls) e s w) = absurd (none l call (lines_bytes ls) e s.0)
@@ -129,13 +129,13 @@ no_line_lem : (rules : Rules) (bs : List ℕ) (k : ℕ) → BadLine rules bs k �
 no_line_lem rules bs k h =
     let s = h.sheet in
     let v = s.version in
-    let services = services_at v s.card in
+    let extension = extension_at v s.card in
     let c = card_at v s.card in
     let b = steps_from v (fresh c) s.calls in
     let w = sheet_walk rules h.front k s h.rest in
     ap (audit_of rules) h.bytes ∙ w.gives
-    ∙ none_told rules.same v services c b k h.rest (audit_from rules.same v services c w.most b k h.rest) h.some h.none
-    (told rules.same v services c w.most b k h.rest (own_after v c s.calls (fresh c) (fresh_own v s.card s.accepted)) w.enough)
+    ∙ none_told rules.same v extension c b k h.rest (audit_from rules.same v extension c w.most b k h.rest) h.some h.none
+    (told rules.same v extension c w.most b k h.rest (own_after v c s.calls (fresh c) (fresh_own v s.card s.accepted)) w.enough)
 
 pub refused_42 : (rules : Rules) (bs : List ℕ) (k : ℕ) → (audit_of rules bs ≡ Refused 42 (k + 1)) ↔ BadLine rules bs k
 refused_42 rules bs k = (in_42 rules bs k (outcome rules bs), no_line_lem rules bs k)
@@ -158,15 +158,15 @@ unfolding judge expected
 differs rules bs k h =
     let s = h.sheet in
     let v = s.version in
-    let services = services_at v s.card in
+    let extension = extension_at v s.card in
     let c = card_at v s.card in
     let b = steps_from v (fresh c) s.calls in
     let o = own_after v c s.calls (fresh c) (fresh_own v s.card s.accepted) in
     let t = bytes_of h.line ++ h.rest in
     let w = sheet_walk rules h.front k s t in
-    let m : w.most ≡ suc (w.most - 1) = omega (arith, w.enough, line_long v services c h.line h.call h.laid h.rest) in
-    ap (audit_of rules) h.bytes ∙ w.gives ∙ ap (λ (n : ℕ). audit_from rules.same v services c n b k t) m
-    ∙ one_line rules.same v services c (w.most - 1) b k h.line h.call h.rest o h.laid
+    let m : w.most ≡ suc (w.most - 1) = omega (arith, w.enough, line_long v extension c h.line h.call h.laid h.rest) in
+    ap (audit_of rules) h.bytes ∙ w.gives ∙ ap (λ (n : ℕ). audit_from rules.same v extension c n b k t) m
+    ∙ one_line rules.same v extension c (w.most - 1) b k h.line h.call h.rest o h.laid
     ∙ rw (ne_eqb (step_of v b h.call).refusal 10 (not_ten v c b o h.call), h.differs)
 
 pub refused_43 : (rules : Rules) (bs : List ℕ) (k : ℕ) → (audit_of rules bs ≡ Refused 43 (k + 1)) ↔ Disagrees rules bs k

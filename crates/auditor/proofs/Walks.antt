@@ -11,7 +11,7 @@ use lib.Dec.{T}
 use lib.Ieee.{Float, fits, binary64}
 use lib.ListN.{length}
 use Rattle.card.specs.Card.{card_refusal}
-use Rattle.card.specs.Services.{Service}
+use Rattle.card.specs.Extension.{Extension}
 use Rattle.card.specs.declared.Card.{Card}
 use Rattle.battery.specs.Battery.{fresh, GoodBattery}
 use Rattle.battery.proofs.FreshGood.{fresh_good}
@@ -63,40 +63,40 @@ module _ (version : ℕ) (c : Card) (b : Battery) (o : Own version c b) (call : 
 
 -- ---- the walk over lines that are laid and agree, to what lies after them
 
-pub one_line : (same : Float → Float → Bool) (version : ℕ) (services : List Service) (c : Card) (most : ℕ) (b : Battery) (k : ℕ) (l : Line) (call : Call) (r : List ℕ) → Own version c b → Laid version services c l call
-    → audit_from same version services c (suc most) b k (bytes_of l ++ r)
-    ≡ judge same k (answer_at version c l.answer) (step_of version b call) (λ next. audit_from same version services c most next (k + 1) r)
+pub one_line : (same : Float → Float → Bool) (version : ℕ) (extension : Extension) (c : Card) (most : ℕ) (b : Battery) (k : ℕ) (l : Line) (call : Call) (r : List ℕ) → Own version c b → Laid version extension c l call
+    → audit_from same version extension c (suc most) b k (bytes_of l ++ r)
+    ≡ judge same k (answer_at version c l.answer) (step_of version b call) (λ next. audit_from same version extension c most next (k + 1) r)
 unfolding audit_line
-one_line same version services c most b k l call r o h =
-    let some : 1 ≤ length (bytes_of l ++ r) = omega (arith, line_long version services c l call h r) in
-    audit_some same version services c most b k (bytes_of l ++ r) some
-    ∙ rw (line_call_lem version services c l call h r, answer_part_lem version services c l call h r, following_part version services c l call h r, own_step version c b o call h.in_range)
+one_line same version extension c most b k l call r o h =
+    let some : 1 ≤ length (bytes_of l ++ r) = omega (arith, line_long version extension c l call h r) in
+    audit_some same version extension c most b k (bytes_of l ++ r) some
+    ∙ rw (line_call_lem version extension c l call h r, answer_part_lem version extension c l call h r, following_part version extension c l call h r, own_step version c b o call h.in_range)
 
 pub own_after : (version : ℕ) (c : Card) (calls : List Call) (b : Battery) → Own version c b → Own version c (steps_from version b calls)
 unfolding steps_from
 own_after version c [] b o = o
 own_after version c (call ∷ calls) b o = own_after version c calls (step_of version b call).battery (next_own version c b o call)
 
-pub walk : (same : Float → Float → Bool) (version : ℕ) (services : List Service) (c : Card) (ls : List Line) (calls : List Call) (most : ℕ) (b : Battery) (k : ℕ) (r : List ℕ) → Own version c b → Stepped same version services c b ls calls
-    → length (lines_bytes ls ++ r) ≤ most → From same version services c (steps_from version b calls) (k + length ls) r (audit_from same version services c most b k (lines_bytes ls ++ r))
+pub walk : (same : Float → Float → Bool) (version : ℕ) (extension : Extension) (c : Card) (ls : List Line) (calls : List Call) (most : ℕ) (b : Battery) (k : ℕ) (r : List ℕ) → Own version c b → Stepped same version extension c b ls calls
+    → length (lines_bytes ls ++ r) ≤ most → From same version extension c (steps_from version b calls) (k + length ls) r (audit_from same version extension c most b k (lines_bytes ls ++ r))
 unfolding steps_from judge
-walk same version services c [] [] most b k r o s h = record { most = most; enough = h; gives = ap (λ (m : ℕ). audit_from same version services c most b m r) (sym (add-zero k)) }
-walk same version services c [] (call ∷ calls) most b k r o s h = absurd s
-walk same version services c (l ∷ ls) [] most b k r o s h = absurd s
-walk same version services c (l ∷ ls) (call ∷ calls) zero b k r o s h =
+walk same version extension c [] [] most b k r o s h = record { most = most; enough = h; gives = ap (λ (m : ℕ). audit_from same version extension c most b m r) (sym (add-zero k)) }
+walk same version extension c [] (call ∷ calls) most b k r o s h = absurd s
+walk same version extension c (l ∷ ls) [] most b k r o s h = absurd s
+walk same version extension c (l ∷ ls) (call ∷ calls) zero b k r o s h =
     let e : (bytes_of l ++ lines_bytes ls) ++ r ≡ bytes_of l ++ (lines_bytes ls ++ r) = append_assoc (bytes_of l) (lines_bytes ls) r in
-    absurd (omega (arith, ap length e, line_long version services c l call s.0 (lines_bytes ls ++ r)))
-walk same version services c (l ∷ ls) (call ∷ calls) (suc most) b k r o s h =
+    absurd (omega (arith, ap length e, line_long version extension c l call s.0 (lines_bytes ls ++ r)))
+walk same version extension c (l ∷ ls) (call ∷ calls) (suc most) b k r o s h =
     let t = lines_bytes ls ++ r in
     let e : (bytes_of l ++ lines_bytes ls) ++ r ≡ bytes_of l ++ t = append_assoc (bytes_of l) (lines_bytes ls) r in
-    let less : length t ≤ most = omega (arith, ap length e, line_long version services c l call s.0 t) in
-    let w = walk same version services c ls calls most (step_of version b call).battery (k + 1) r (next_own version c b o call) s.2 less in
+    let less : length t ≤ most = omega (arith, ap length e, line_long version extension c l call s.0 t) in
+    let w = walk same version extension c ls calls most (step_of version b call).battery (k + 1) r (next_own version c b o call) s.2 less in
     let m : k + 1 + length ls ≡ k + suc (length ls) = omega arith in
     record {
       most = w.most;
       enough = w.enough;
       gives =
-          ap (audit_from same version services c (suc most) b k) e ∙ one_line same version services c most b k l call t o s.0
+          ap (audit_from same version extension c (suc most) b k) e ∙ one_line same version extension c most b k l call t o s.0
           ∙ rw (ne_eqb (step_of version b call).refusal 10 (not_ten version c b o call), s.1)
-          (w.gives ∙ ap (λ (n : ℕ). audit_from same version services c w.most (steps_from version (step_of version b call).battery calls) n r) m);
+          (w.gives ∙ ap (λ (n : ℕ). audit_from same version extension c w.most (steps_from version (step_of version b call).battery calls) n r) m);
     }

@@ -4,13 +4,13 @@ use Rattle.std.specs.Prelude.{ℕ, zero, suc, ◌+◌, ◌*◌, Bool, false, con
 use Rattle.refusals.specs.Refusals.{bad_call, no_version, bad_card, bad_line, disagrees, too_long}
 use Rattle.codec.specs.Bytes.{be_at}
 use Rattle.card.specs.Version.{known_version}
-use Rattle.card.specs.Services.{Service}
+use Rattle.card.specs.Extension.{Extension}
 use Rattle.card.specs.declared.Card.{Card}
 use Rattle.battery.specs.Battery.{fresh}
 use Rattle.battery.specs.declared.Battery.{Battery}
 use Rattle.battery.specs.declared.Answer.{Answer}
 use Rattle.engine.specs.Steps.{advance_of}
-use Rattle.sheet_records.specs.Cards.{card_length, card_at, services_at, refusal_at}
+use Rattle.sheet_records.specs.Cards.{card_length, card_at, extension_at, refusal_at}
 use Rattle.sheet_lines.specs.Answers.{agrees}
 use Rattle.sheet_lines.specs.Lines.{opening_length}
 use Rattle.sheet_lines.specs.Front.{line_call, line_answer, following}
@@ -32,12 +32,12 @@ audit_line same version battery k seen None go = Refused bad_line (k + 1)
 audit_line same version battery k seen (Some call) go = judge same k seen (advance_of version battery call) go
 
 -- the lines from the front of bs on, after k lines; `most` bounds how many there are
-unfoldable pub audit_from : (Float → Float → Bool) → ℕ → List Service → Card → ℕ → Battery → ℕ → List ℕ → Verdict
-audit_from same version services card zero battery k bs = Accepted k
-audit_from same version services card (suc most) battery k [] = Accepted k
-audit_from same version services card (suc most) battery k (x ∷ bs) =
-    audit_line same version battery k (line_answer version card (x ∷ bs)) (line_call version services card (x ∷ bs))
-    (λ next. audit_from same version services card most next (k + 1) (following version card (x ∷ bs)))
+unfoldable pub audit_from : (Float → Float → Bool) → ℕ → Extension → Card → ℕ → Battery → ℕ → List ℕ → Verdict
+audit_from same version extension card zero battery k bs = Accepted k
+audit_from same version extension card (suc most) battery k [] = Accepted k
+audit_from same version extension card (suc most) battery k (x ∷ bs) =
+    audit_line same version battery k (line_answer version card (x ∷ bs)) (line_call version extension card (x ∷ bs))
+    (λ next. audit_from same version extension card most next (k + 1) (following version card (x ∷ bs)))
 
 -- line 0's content, and all that follows it
 abbrev pub card_part : ℕ → List ℕ → List ℕ
@@ -59,13 +59,13 @@ card_line_ok version bs =
 unfoldable pub card_line : ℕ → List ℕ → Option CardLine
 card_line version bs = cond (card_line_ok version bs) (Some (record { card = card_at version (card_part version bs); end = opening_length version (drop 3 bs) })) None
 
--- the call lines, on a card that lists these services, from its fresh battery on
-unfoldable pub audit_lines : (Float → Float → Bool) → ℕ → List Service → Card → List ℕ → Verdict
-audit_lines same version services card bs = audit_from same version services card (length bs) (fresh card) 0 bs
+-- the call lines, on a card with this extension, from its fresh battery on
+unfoldable pub audit_lines : (Float → Float → Bool) → ℕ → Extension → Card → List ℕ → Verdict
+audit_lines same version extension card bs = audit_from same version extension card (length bs) (fresh card) 0 bs
 
 -- the lines of an accepted card; 70 (index 0) for one that the audit doesn't take
-unfoldable pub audit_card : Rules → ℕ → List Service → Card → List ℕ → Verdict
-audit_card rules version services card bs = cond (rules.test version card) (audit_lines rules.same version services card bs) (Refused 70 0)
+unfoldable pub audit_card : Rules → ℕ → Extension → Card → List ℕ → Verdict
+audit_card rules version extension card bs = cond (rules.test version card) (audit_lines rules.same version extension card bs) (Refused 70 0)
 
 -- document 02, Three: '40 means a first byte that is missing or no known version', at index 0; the first byte is the version
 unfoldable pub audit_of : Rules → List ℕ → Verdict
@@ -73,7 +73,7 @@ audit_of rules bs =
     let version = get_or bs 0 0 in
     cond (known_version version)
     (cond (card_line_ok version bs)
-    (audit_card rules version (services_at version (card_part version bs)) (card_at version (card_part version bs)) (lines_part version bs))
+    (audit_card rules version (extension_at version (card_part version bs)) (card_at version (card_part version bs)) (lines_part version bs))
     (Refused bad_card 0))
     (Refused no_version 0)
 

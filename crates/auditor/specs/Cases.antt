@@ -2,10 +2,10 @@
 use Rattle.std.specs.Prelude.{ℕ, ◌≤◌, ◌≡◌, true, false, ◌⊎◌, List, ◌∷◌, ◌++◌, length}
 use Rattle.codec.specs.Bytes.{be}
 use Rattle.card.specs.Version.{known_version}
-use Rattle.card.specs.Services.{Service}
+use Rattle.card.specs.Extension.{Extension}
 use Rattle.card.specs.declared.Card.{Card}
 use Rattle.battery.specs.declared.Call.{Call}
-use Rattle.sheet_records.specs.Cards.{card_length, card_at, services_at}
+use Rattle.sheet_records.specs.Cards.{card_length, card_at, extension_at}
 use Rattle.sheet_lines.specs.Answers.{answer_at, agrees}
 use Rattle.auditor.specs.Verdicts.{Verdict, Accepted, Refused}
 use Rattle.auditor.specs.Rules.{Rules}
@@ -42,8 +42,8 @@ pub record CardNotTaken (rules : Rules) (bs : List ℕ) : Type 0 where
   pub fails : rules.test opened.version (card_at opened.version opened.card) ≡ false
 
 -- no call line stands at the front of bs to which 42 doesn't apply
-abbrev pub NoLine : ℕ → List Service → Card → List ℕ → Type 0
-NoLine version services card bs = (line : Line) (call : Call) (rest : List ℕ) → bs ≡ bytes_of line ++ rest → Laid version services card line call → ⊥
+abbrev pub NoLine : ℕ → Extension → Card → List ℕ → Type 0
+NoLine version extension card bs = (line : Line) (call : Call) (rest : List ℕ) → bs ≡ bytes_of line ++ rest → Laid version extension card line call → ⊥
 
 -- k lines make a sheet, and after them are bytes that begin with no line: 42
 pub record BadLine (rules : Rules) (bs : List ℕ) (k : ℕ) : Type 0 where
@@ -52,7 +52,7 @@ pub record BadLine (rules : Rules) (bs : List ℕ) (k : ℕ) : Type 0 where
   pub bytes : bs ≡ front ++ rest
   pub some : 1 ≤ length rest
   pub sheet : Sheet rules front k
-  pub none : NoLine sheet.version (services_at sheet.version sheet.card) (card_at sheet.version sheet.card) rest
+  pub none : NoLine sheet.version (extension_at sheet.version sheet.card) (card_at sheet.version sheet.card) rest
 
 -- k lines make a sheet, and the line after them is laid and disagrees: 43
 pub record Disagrees (rules : Rules) (bs : List ℕ) (k : ℕ) : Type 0 where
@@ -62,7 +62,7 @@ pub record Disagrees (rules : Rules) (bs : List ℕ) (k : ℕ) : Type 0 where
   pub bytes : bs ≡ front ++ (bytes_of line ++ rest)
   pub sheet : Sheet rules front k
   pub call : Call
-  pub laid : Laid sheet.version (services_at sheet.version sheet.card) (card_at sheet.version sheet.card) line call
+  pub laid : Laid sheet.version (extension_at sheet.version sheet.card) (card_at sheet.version sheet.card) line call
   pub differs :
       agrees rules.same (answer_at sheet.version (card_at sheet.version sheet.card) line.answer)
       (expected sheet.version (card_at sheet.version sheet.card) sheet.calls call)

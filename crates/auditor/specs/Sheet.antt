@@ -2,7 +2,7 @@
 use Rattle.std.specs.Prelude.{ℕ, ◌+◌, ◌≡◌, Bool, true, List, [], ◌∷◌, ◌++◌, length, Float, Some}
 use Rattle.codec.specs.Bytes.{be}
 use Rattle.card.specs.Version.{known_version}
-use Rattle.card.specs.Services.{Service}
+use Rattle.card.specs.Extension.{Extension}
 use Rattle.card.specs.declared.Card.{Card}
 use Rattle.battery.specs.Battery.{fresh}
 use Rattle.battery.specs.Call.{call_in_range}
@@ -10,7 +10,7 @@ use Rattle.battery.specs.declared.Battery.{Battery}
 use Rattle.battery.specs.declared.Call.{Call}
 use Rattle.battery.specs.declared.Answer.{Answer}
 use Rattle.engine.specs.Steps.{step_of}
-use Rattle.sheet_records.specs.Cards.{card_length, card_at, services_at, refusal_at}
+use Rattle.sheet_records.specs.Cards.{card_length, card_at, extension_at, refusal_at}
 use Rattle.sheet_calls.specs.Calls.{call_of}
 use Rattle.sheet_lines.specs.Answers.{answer_length, answer_at, marks_ok, agrees}
 use Rattle.auditor.specs.Rules.{Rules}
@@ -30,21 +30,21 @@ abbrev pub lines_bytes : List Line → List ℕ
 lines_bytes [] = []
 lines_bytes (l ∷ ls) = bytes_of l ++ lines_bytes ls
 
--- a line 'to which 42 doesn't apply', and the call that its bytes are on a card that lists these services
-pub record Laid (version : ℕ) (services : List Service) (card : Card) (line : Line) (call : Call) : Type 0 where
+-- a line 'to which 42 doesn't apply', and the call that its bytes are on a card with this extension
+pub record Laid (version : ℕ) (extension : Extension) (card : Card) (line : Line) (call : Call) : Type 0 where
   pub two : length line.head ≡ 2
   pub counts : be line.head ≡ length line.call + length line.answer
-  pub reads : call_of version services line.call ≡ Some call
+  pub reads : call_of version extension line.call ≡ Some call
   pub in_range : call_in_range version card call ≡ true
   pub long : length line.answer ≡ answer_length version card
   pub marks : marks_ok version line.answer ≡ true
 
 -- line for line
-abbrev pub AllLaid : ℕ → List Service → Card → List Line → List Call → Type 0
-AllLaid version services card [] [] = Unit
-AllLaid version services card [] (call ∷ calls) = ⊥
-AllLaid version services card (l ∷ ls) [] = ⊥
-AllLaid version services card (l ∷ ls) (call ∷ calls) = Laid version services card l call × AllLaid version services card ls calls
+abbrev pub AllLaid : ℕ → Extension → Card → List Line → List Call → Type 0
+AllLaid version extension card [] [] = Unit
+AllLaid version extension card [] (call ∷ calls) = ⊥
+AllLaid version extension card (l ∷ ls) [] = ⊥
+AllLaid version extension card (l ∷ ls) (call ∷ calls) = Laid version extension card l call × AllLaid version extension card ls calls
 
 -- 'A sheet has the layout when 40 doesn't apply, line 0 is there in its length and all bytes after it are call lines to which 42 doesn't apply.'
 pub record Layout (version : ℕ) (bs card : List ℕ) (lines : List Line) (calls : List Call) : Type 0 where
@@ -54,7 +54,7 @@ pub record Layout (version : ℕ) (bs card : List ℕ) (lines : List Line) (call
   pub two : length head ≡ 2
   pub counts : be head ≡ card_length version card
   pub long : length card ≡ card_length version card
-  pub laid : AllLaid version (services_at version card) (card_at version card) lines calls
+  pub laid : AllLaid version (extension_at version card) (card_at version card) lines calls
 
 -- ---- 'their card is accepted', by 1 to 4 and by 61
 

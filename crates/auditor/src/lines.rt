@@ -1,7 +1,7 @@
 // The walk over the lines.
 ghost use Rattle.std.specs.Prelude.{◌≡◌};
 ghost use Rattle.card.specs.Card.{card_refusal};
-ghost use Rattle.sheet_records.specs.Cards.{services_at};
+ghost use Rattle.sheet_records.specs.Cards.{extension_at};
 ghost use Rattle.sheet_lines.specs.Answers.{same_number};
 ghost use Rattle.auditor.specs.Audit.{audit_lines};
 ghost use Rattle.auditor.specs.Verdicts.{numbered};
@@ -11,11 +11,11 @@ use card::Card;
 use refusals::Refusal;
 use sheet_records::cards::CardBytes;
 
-// Steps an own battery of an accepted card, with line 0's bytes for its services, through the lines. It stays accepted, so that a line's call is all
+// Steps an own battery of an accepted card, with line 0's bytes for its extension, through the lines. It stays accepted, so that a line's call is all
 // that 10 tests.
 pub fn audit_lines(card: Card, line0: CardBytes<'_>, bytes: &[u8]) -> Verdict
     requires { card_refusal line0.version card ≡ 0 }
-    ensures { numbered result ≡ audit_lines same_number line0.entry.version (services_at line0.entry.version line0.entry.bytes.now) card bytes.now }
+    ensures { numbered result ≡ audit_lines same_number line0.entry.version (extension_at line0.entry.version line0.entry.bytes.now) card bytes.now }
 {
     let version = line0.version;
     let mut rest = bytes;

@@ -40,7 +40,7 @@ unfoldable pub call_in_range : ℕ → Card → Call → Bool
 call_in_range version card (DemandEnergy d) = demand_in_range card d
 call_in_range version card (ChargeElectric power target) = is_power power && is_level target
 call_in_range version card (ChargeHydronic h) = hydronic_in_range h
-call_in_range version card HeatLoss = true
+call_in_range version card (HeatLoss floor) = true
 call_in_range version card CloseTimestep = true
 call_in_range version card ReadStateOfCharge = true
 call_in_range version card (ChargeEnergyDemand most target) = is_given_temperature most && is_level target

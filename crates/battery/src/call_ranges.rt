@@ -57,7 +57,7 @@ pub fn call_in_range(version: u8, card: Card, call: Call) -> bool
         Call::DemandEnergy(d) => demand_in_range(card, d),
         Call::ChargeElectric(power, target) => { card::ranges::is_power(power) & is_level(target) }
         Call::ChargeHydronic(h) => hydronic_in_range(h),
-        Call::HeatLoss | Call::CloseTimestep | Call::ReadStateOfCharge => true,
+        Call::HeatLoss(_) | Call::CloseTimestep | Call::ReadStateOfCharge => true,
         Call::ChargeEnergyDemand(most, target) => { is_given_temperature(most) & is_level(target) }
     }
 }

@@ -66,7 +66,8 @@ pub enum Call {
     // power, target
     ChargeElectric(f64, f64),
     ChargeHydronic(Hydronic),
-    HeatLoss,
+    // whether the card sets a floor for it
+    HeatLoss(bool),
     CloseTimestep,
     ReadStateOfCharge,
     // flow maximum, target

@@ -1,8 +1,6 @@
 -- Document 02, Four: the services that a card lists, refusal 61, and the class of a demand's type.
 use Rattle.std.specs.Prelude.{ℕ, zero, suc, ◌<◌, ◌≤◌, Bool, true, cond, ◌&&◌, List, [], ◌∷◌, ◌⊎◌, leb, eqb, length}
 use Rattle.refusals.specs.Refusals.{answered, bad_services}
-use Rattle.card.specs.Card.{card_refusal}
-use Rattle.card.specs.declared.Card.{Card}
 use Rattle.card.specs.declared.services.Service as code
 
 -- 'number (u16) and class (u8, 1 regular, 2 space, 3 direct)': the struct of the code
@@ -35,12 +33,9 @@ rising_from least (service ∷ services) = service_ok least service && rising_fr
 unfoldable pub services_ok : List Service → Bool
 services_ok services = leb (length services) most_services && rising_from (suc last_type) services
 
--- '61 .. after 4': the refusal of a card with its services
+-- '61', where the list is refused
 unfoldable pub list_refusal : List Service → ℕ
 list_refusal services = cond (services_ok services) answered bad_services
-
-unfoldable pub full_refusal : ℕ → Card → List Service → ℕ
-full_refusal version card services = cond (eqb (card_refusal version card) 0) (list_refusal services) (card_refusal version card)
 
 -- '61, a count above 32, a list not rising, a number under 4 or an unknown class', apart from the test
 pub data BadServices (service : ℕ → Service) (count : ℕ) : Type 0 where

@@ -6,7 +6,7 @@ abbrev pub oldest_version : ℕ
 oldest_version = 1
 
 abbrev pub newest_version : ℕ
-newest_version = 3
+newest_version = 4
 
 -- document 02, Three: 'From here on 40 means a first byte that is missing or no known version'
 unfoldable pub known_version : ℕ → Bool
@@ -19,3 +19,7 @@ shows_hydronic_time version = leb 2 version
 -- Four: 'In version 3 the type field has two bytes', and the card lists services
 unfoldable pub lists_services : ℕ → Bool
 lists_services version = leb 3 version
+
+-- Six: 'In version 4 a flag' behind the services
+unfoldable pub sets_floor : ℕ → Bool
+sets_floor version = leb 4 version

@@ -1,6 +1,7 @@
-// The card: document 01's fields and their ranges, and whether 1 to 4 accept it; document 02's services.
+// The card: document 01's fields and their ranges, and whether 1 to 4 accept it; document 02's services and flag.
 #![tactic(auto)]
 
+pub mod extension;
 pub mod pcm;
 pub mod ranges;
 pub mod services;

@@ -1,6 +1,8 @@
 // The services that a card lists, wherever they lie: refusal 61's test of them, and the class of a number.
-ghost use Rattle.std.specs.Prelude.{◌≡◌, ◌<◌, ◌≤◌, ℕ, List, length, get_or};
+ghost use Rattle.std.specs.Prelude.{◌≡◌, ◌≤◌, length};
 ghost use Rattle.card.specs.Services.{service_ok, rising_from, services_ok, listed_class, class_of};
+
+use crate::extension::Extended;
 
 // The most services that a card may list.
 pub const MOST_SERVICES: usize = 32;
@@ -16,28 +18,6 @@ pub struct Service {
     pub class: u8,
 }
 
-// What lists services. One too long for a card may have fewer that can be read, so that functions that read one ask for its length: a type for a short
-// one would stand in their clauses in its place.
-pub trait Services {
-    ghost use Rattle.card.specs.declared.services.Service.{Service};
-
-    // all of them, by the version; none before version 3
-    ghost list: { Self → List Service };
-
-    // as many of them can be read
-    ghost room: { Self → ℕ };
-
-    fn count(&self) -> usize
-        ensures { result ≡ length (list self.now) };
-
-    fn service(&self, k: usize) -> Service
-        requires { (k < length (list self.now)) × (k < room self.now) }
-        ensures { result ≡ get_or (list self.now) k result };
-
-    // as many as a card may list can all be read
-    ghost few_fit: { (services : Self) → length (list services) ≤ 32 → length (list services) ≤ room services };
-}
-
 // Whether a number isn't under a least one, and its class is regular, space or direct.
 #[tactic(auto, unfolding(crate::specs::Services::service_ok))]
 pub fn service_ok(least: u32, service: Service) -> bool
@@ -48,14 +28,14 @@ pub fn service_ok(least: u32, service: Service) -> bool
 
 // Whether the services rise from 4 and have known classes.
 #[tactic(auto, using(crate::proofs::Listed::rising_stops, crate::proofs::Listed::rising_further, crate::proofs::Listed::rising_done))]
-fn services_rise<S: Services>(services: &S) -> bool
-    requires { length (S.list services.now) ≤ S.room services.now }
-    ensures { result ≡ rising_from 4 (S.list services.now) }
+fn services_rise<E: Extended>(extended: &E) -> bool
+    requires { length (E.extension extended.now).services ≤ E.room extended.now }
+    ensures { result ≡ rising_from 4 (E.extension extended.now).services }
 {
     let mut least: u32 = 4;
-    // by index, as the trait's `service` takes it: a `map` over the range would only move it into a closure, no plainer
-    for k in 0..services.count() {
-        let service = services.service(k);
+    // by index, as `service` takes it: a `map` over the range would only move it into a closure, no plainer
+    for k in 0..extended.count() {
+        let service = extended.service(k);
         if service_ok(least, service) {
             least = (service.number as u32) + 1;
         } else {
@@ -67,24 +47,24 @@ fn services_rise<S: Services>(services: &S) -> bool
 
 // Whether the services are accepted: refusal 61's test.
 #[tactic(auto, using(crate::proofs::Listed::ok_few, crate::proofs::Listed::ok_many))]
-pub fn services_ok<S: Services>(services: &S) -> bool
-    ensures { result ≡ services_ok (S.list services.now) }
+pub fn services_ok<E: Extended>(extended: &E) -> bool
+    ensures { result ≡ services_ok (E.extension extended.now).services }
 {
-    if services.count() <= MOST_SERVICES {
-        return services_rise(services);
+    if extended.count() <= MOST_SERVICES {
+        return services_rise(extended);
     }
     false
 }
 
 // The class of a number among the services, 0 where it isn't there: of the first with that number, in order, as the definition has it of any list.
 #[tactic(auto, using(crate::proofs::Listed::class_here, crate::proofs::Listed::class_further, crate::proofs::Listed::class_none))]
-fn listed_class<S: Services>(services: &S, number: u16) -> u8
-    requires { length (S.list services.now) ≤ S.room services.now }
-    ensures { result ≡ listed_class (S.list services.now) number }
+fn listed_class<E: Extended>(extended: &E, number: u16) -> u8
+    requires { length (E.extension extended.now).services ≤ E.room extended.now }
+    ensures { result ≡ listed_class (E.extension extended.now).services number }
 {
     // by index, as in `services_rise`
-    for k in 0..services.count() {
-        let service = services.service(k);
+    for k in 0..extended.count() {
+        let service = extended.service(k);
         if service.number == number {
             return service.class;
         }
@@ -94,12 +74,12 @@ fn listed_class<S: Services>(services: &S, number: u16) -> u8
 
 // The class of a type: itself up to 3, else what the services give.
 #[tactic(auto, using(crate::proofs::ServiceClass::own_type, crate::proofs::ServiceClass::above_type))]
-pub fn class_of<S: Services>(services: &S, number: u16) -> u8
-    requires { length (S.list services.now) ≤ S.room services.now }
-    ensures { result ≡ class_of (S.list services.now) number }
+pub fn class_of<E: Extended>(extended: &E, number: u16) -> u8
+    requires { length (E.extension extended.now).services ≤ E.room extended.now }
+    ensures { result ≡ class_of (E.extension extended.now).services number }
 {
     if number <= LAST_TYPE {
         return number as u8;
     }
-    listed_class(services, number)
+    listed_class(extended, number)
 }

@@ -1,4 +1,5 @@
 -- An accepted battery has at most 64 layers, finite zones, and losses that charge nothing.
+use Rattle.std.specs.Prelude.{None}
 use Prim.Native.Nat.{ℕ, ◌≤◌}
 use mathlib.Core.Path.{◌≡◌}
 use mathlib.Core.Bool.{true, false}
@@ -23,5 +24,5 @@ module _ (version : ℕ) (b : Battery) (h : battery_accepted version b ≡ true)
   pub accepted_finite : zones_finite b.zones b.card.layers ≡ true
   accepted_finite = (accepted_battery version b h).zones
 
-  pub accepted_losses : lt (charger_heat (loss_input b.card)).0 zero ≡ false
-  accepted_losses = no_charger version b accepted_card
+  pub accepted_losses : lt (charger_heat (loss_input b.card None)).0 zero ≡ false
+  accepted_losses = no_charger version b accepted_card None

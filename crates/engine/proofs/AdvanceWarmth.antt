@@ -1,6 +1,6 @@
 -- `advance` of a standing loss warms no zone, of an electric charge cools none, whatever the call's numbers; and 22 only with the budget used.
 use mathlib.Core.Path.{◌≡◌}
-use mathlib.Core.Bool.{◌&&◌}
+use mathlib.Core.Bool.{Bool, ◌&&◌}
 use Prim.Native.Nat.{ℕ, ◌<◌}
 use native.Mathlib.Omega.{arith}
 use lib.Dec.{T}
@@ -25,11 +25,11 @@ use Rattle.engine.proofs.Promises.{refused_number}
 use Rattle.engine.proofs.Warmth.{as_before, loss_warms_none, electric_cools_none}
 
 module _ (version : ℕ) (b : Battery) (g : GoodBattery version b) (f : CardFits b.card) (i : ℕ) (l : i < b.card.layers) where
-  pub advance_loss_warms_none : T (le (get_or (advance_of version b HeatLoss).battery.zones i nan) (get_or b.zones i nan))
+  pub advance_loss_warms_none : (floor : Bool) → T (le (get_or (advance_of version b (HeatLoss floor)).battery.zones i nan) (get_or b.zones i nan))
   unfolding refused_with
-  advance_loss_warms_none =
-      by_step version b HeatLoss (λ (a : Answer). T (le (get_or a.battery.zones i nan) (get_or b.zones i nan)))
-      (loss_warms_none version b g f i l) (as_before version b g f i l)
+  advance_loss_warms_none floor =
+      by_step version b (HeatLoss floor) (λ (a : Answer). T (le (get_or a.battery.zones i nan) (get_or b.zones i nan)))
+      (loss_warms_none version b g f floor i l) (as_before version b g f i l)
 
   pub advance_electric_cools_none : (power target : Float) → T (le (get_or b.zones i nan) (get_or (advance_of version b (ChargeElectric power target)).battery.zones i nan))
   unfolding advance_of refused_with

@@ -13,7 +13,7 @@ unfolding operation_of operation_step step_of
 by_kind version b (DemandEnergy d) = refl
 by_kind version b (ChargeElectric power target) = refl
 by_kind version b (ChargeHydronic h) = refl
-by_kind version b HeatLoss = refl
+by_kind version b (HeatLoss floor) = refl
 by_kind version b CloseTimestep = refl
 by_kind version b ReadStateOfCharge = refl
 by_kind version b (ChargeEnergyDemand most target) = refl

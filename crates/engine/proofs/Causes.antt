@@ -25,7 +25,7 @@ use Rattle.substep.specs.declared.Fault.{Fault}
 use Rattle.substep.specs.declared.Fault.TheVariants.{Logarithm, NotFinite}
 use Rattle.runs.specs.Runs.{fault_end, end_refusal}
 use Rattle.runs.specs.Hydronic.{hydronic_ended}
-use Rattle.runs.specs.Charge.{electric_input, electric_ended, charge_electric, charge_hydronic, charge_battery, loss_input, loss_ended, battery_heat_loss, charge_energy_demand}
+use Rattle.runs.specs.Charge.{electric_input, electric_ended, charge_electric, charge_hydronic, charge_battery, loss_floor, loss_input, loss_ended, battery_heat_loss, charge_energy_demand}
 use Rattle.runs.specs.declared.End.{End}
 use Rattle.runs.specs.declared.End.TheVariants.{OverBudget}
 use Rattle.runs.specs.declared.Source.{Source}
@@ -101,10 +101,10 @@ module _ (n : ℕ) (l : 22 ≤ n) (b : Battery) where
       let r = charge_battery b source target in
       run_refuses r.part.end (charged_answer version b r) w
 
-  loss_refuses : RunWhy n (battery_heat_loss b).part.end (cooled_answer b (battery_heat_loss b)) → (heat_loss b).refusal ≡ n
+  loss_refuses : (floor : Bool) → RunWhy n (battery_heat_loss b floor).part.end (cooled_answer b (battery_heat_loss b floor)) → (heat_loss b floor).refusal ≡ n
   unfolding heat_loss
-  loss_refuses w =
-      let r = battery_heat_loss b in
+  loss_refuses floor w =
+      let r = battery_heat_loss b floor in
       run_refuses r.part.end (cooled_answer b r) w
 
 pub why_refuses : (n : ℕ) → 22 ≤ n → (version : ℕ) (b : Battery) (call : Call) → call_in_range version b.card call ≡ true → Runs b call → Why n version b call → (step_of version b call).refusal ≡ n
@@ -112,7 +112,7 @@ unfolding step_of call_in_range
 why_refuses n l version b (DemandEnergy d) i runs w = demand_refuses n l b d i runs w
 why_refuses n l version b (ChargeElectric power target) i runs w = charge_refuses n l b version (Electric power) target w
 why_refuses n l version b (ChargeHydronic h) i runs w = charge_refuses n l b version (wet_source h) h.target w
-why_refuses n l version b HeatLoss i runs w = loss_refuses n l b w
+why_refuses n l version b (HeatLoss floor) i runs w = loss_refuses n l b floor w
 why_refuses n l version b CloseTimestep i runs w = checked_refuses n l b (plain_answer zero (closed_battery b)) w.0 w.1
 why_refuses n l version b ReadStateOfCharge i runs w = level_refuses n l b w
 why_refuses n l version b (ChargeEnergyDemand most target) i runs w = to_level_refuses n l b most target w
@@ -146,9 +146,9 @@ module _ (version : ℕ) (b : Battery) where
   unfolding charge_battery charge_electric electric_ended outcome_of
   electric_end power target = refl
 
-  loss_end : (battery_heat_loss b).part.end ≡ fault_end (process_heat_battery_zones b.card (derived b.card) (salt_at (salts_of b.card)) (loss_input b.card) b.zones).fault
+  loss_end : (floor : Bool) → (battery_heat_loss b floor).part.end ≡ fault_end (process_heat_battery_zones b.card (derived b.card) (salt_at (salts_of b.card)) (loss_input b.card (loss_floor floor)) b.zones).fault
   unfolding battery_heat_loss loss_ended outcome_of
-  loss_end = refl
+  loss_end floor = refl
 
   demand_ended_lem : (n : ℕ) (f : Option Fault) → ((e : End) → e ≡ fault_end f → end_refusal e ≡ n) → (d : Demand) → DemandFaulted f b d → DemandWhy n b d
   demand_ended_lem n f number d w =
@@ -159,7 +159,7 @@ module _ (version : ℕ) (b : Battery) where
       inr (record { asked = w.asked; feed = w.feed; given = w.given; why = inl (over_22 _ (demand_end_lem d w.feed ∙ w.over.ended)) })
   budget_why (ChargeElectric power target) w = absurd w
   budget_why (ChargeHydronic h) w = inl (over_22 _ (hydronic_end_lem h ∙ w.over.ended))
-  budget_why HeatLoss w = absurd w
+  budget_why (HeatLoss floor) w = absurd w
   budget_why CloseTimestep w = absurd w
   budget_why ReadStateOfCharge w = absurd w
   budget_why (ChargeEnergyDemand most target) w = absurd w
@@ -168,7 +168,7 @@ module _ (version : ℕ) (b : Battery) where
   logarithm_why (DemandEnergy d) w = inr (demand_ended_lem 24 (Some Logarithm) logarithm_24 d w)
   logarithm_why (ChargeElectric power target) w = absurd w
   logarithm_why (ChargeHydronic h) w = inl (logarithm_24 _ (hydronic_end_lem h ∙ w.ended))
-  logarithm_why HeatLoss w = absurd w
+  logarithm_why (HeatLoss floor) w = absurd w
   logarithm_why CloseTimestep w = absurd w
   logarithm_why ReadStateOfCharge w = absurd w
   logarithm_why (ChargeEnergyDemand most target) w = absurd w
@@ -184,7 +184,7 @@ module _ (version : ℕ) (b : Battery) where
   not_finite_why (DemandEnergy d) (inr (inr w)) = inl (refl, w)
   not_finite_why (ChargeElectric power target) w = run_23 _ _ (λ s. electric_end power target ∙ ap fault_end s.fault) w
   not_finite_why (ChargeHydronic h) w = run_23 _ _ (λ s. hydronic_end_lem h ∙ s.ended) w
-  not_finite_why HeatLoss w = run_23 _ _ (λ s. loss_end ∙ ap fault_end s.fault) w
+  not_finite_why (HeatLoss floor) w = run_23 _ _ (λ s. loss_end floor ∙ ap fault_end s.fault) w
   not_finite_why CloseTimestep w = (refl, w)
   not_finite_why ReadStateOfCharge w = inr (refl, w)
   not_finite_why (ChargeEnergyDemand most target) w = inr (refl, w)
@@ -193,7 +193,7 @@ module _ (version : ℕ) (b : Battery) where
   full_why (DemandEnergy d) w = absurd w
   full_why (ChargeElectric power target) w = absurd w
   full_why (ChargeHydronic h) w = absurd w
-  full_why HeatLoss w = absurd w
+  full_why (HeatLoss floor) w = absurd w
   full_why CloseTimestep w = absurd w
   full_why ReadStateOfCharge w = inl (refl, w.above)
   full_why (ChargeEnergyDemand most target) w = inl (refl, w.above)

@@ -75,9 +75,9 @@ module _ (b : Battery) where
   unfolding charge run_answer
   charge_late version source target = let r = charge_battery b source target in run_late b (charged_answer version b r) refl r.part.end
 
-  pub loss_late : Late (heat_loss b).refusal
+  pub loss_late : (floor : Bool) → Late (heat_loss b floor).refusal
   unfolding heat_loss run_answer
-  loss_late = let r = battery_heat_loss b in run_late b (cooled_answer b r) refl r.part.end
+  loss_late floor = let r = battery_heat_loss b floor in run_late b (cooled_answer b r) refl r.part.end
 
   pub plain_late : (c : Battery) (energy : Float) → Late (checked b (plain_answer energy c)).refusal
   unfolding plain_answer
@@ -144,7 +144,7 @@ unfolding step_of
 demand_or_late version b (DemandEnergy d) = inl (d, refl)
 demand_or_late version b (ChargeElectric power target) = inr (charge_late b version (Electric power) target)
 demand_or_late version b (ChargeHydronic h) = inr (charge_late b version (wet_source h) h.target)
-demand_or_late version b HeatLoss = inr (loss_late b)
+demand_or_late version b (HeatLoss floor) = inr (loss_late b floor)
 demand_or_late version b CloseTimestep = inr (plain_late b (closed_battery b) zero)
 demand_or_late version b ReadStateOfCharge = inr (level_late b (level b))
 demand_or_late version b (ChargeEnergyDemand most target) = inr (to_level_late b most target (level b))

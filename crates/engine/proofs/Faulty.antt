@@ -69,7 +69,7 @@ layer_refuses c None h = refl
 zone_refuses : (m : Mode) (c : Card) (d : SubstepInput) → zone_transfer m c d ≡ None → (m ≡ Normal) × BadArgument (d.reynold ⊗ d.flow)
 unfolding zone_transfer heat_transfer
 zone_refuses OnlyCharging c d h = never (cc)
-zone_refuses Losses c d h = never (cc)
+zone_refuses (Losses floor) c d h = never (cc)
 zone_refuses Normal c d h =
     (refl, ln_refuses (d.reynold ⊗ d.flow) (transfer_refuses d.a d.b (ln (d.reynold ⊗ d.flow)) (layer_refuses c (transfer_of d.a d.b (ln (d.reynold ⊗ d.flow))) h)))
 

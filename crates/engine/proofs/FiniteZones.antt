@@ -1,7 +1,7 @@
 -- The zones that a run leaves are finite where it started from finite ones and answers: each of its substeps tested its own.
 use Rattle.std.specs.Prelude.{None, Option, Some}
 use mathlib.Core.Path.{◌≡◌, refl, ◌∙◌, ap}
-use mathlib.Core.Bool.{true}
+use mathlib.Core.Bool.{Bool, true}
 use mathlib.Core.List.{List}
 use Prim.Native.Nat.{ℕ, ◌+◌}
 use native.Mathlib.Omega.{arith}
@@ -42,7 +42,7 @@ use Rattle.runs.specs.declared.HydronicState.{HydronicState}
 use Rattle.runs.specs.declared.HydronicTurn.{HydronicTurn}
 use Rattle.runs.specs.Runs.{outcome, fault_end, end_refusal, reynold_between}
 use Rattle.runs.specs.Hydronic.{wet_input, clearly_below, limit_reached, replay_by, replayed, fraction_seconds, hydronic_whole, hydronic_by, hydronic_step, hydronic_run, hydronic_ended, whole_substeps}
-use Rattle.runs.specs.Charge.{electric_input, electric_ended, charge_electric, hydronic_task, hydronic_start, charge_hydronic, charge_battery, loss_input, loss_ended, battery_heat_loss}
+use Rattle.runs.specs.Charge.{electric_input, electric_ended, charge_electric, hydronic_task, hydronic_start, charge_hydronic, charge_battery, loss_floor, loss_input, loss_ended, battery_heat_loss}
 use Rattle.engine_replies.specs.Replies.{demand_start}
 use Rattle.engine_replies.proofs.Settled.{run_end}
 use Rattle.runs.specs.Zoned.{Zoned, zoned, AsDefined}
@@ -170,9 +170,9 @@ module _ (b : Battery) where
   unfolding charge_electric electric_ended outcome_of
   electric_finite power target e = substep_finite b.card (derived b.card) (salt_at (salts_of b.card)) (electric_input (ledger_of b) power target) b.zones (answers_faultless _ e)
 
-  pub loss_leaves_finite : end_refusal (battery_heat_loss b).part.end ≡ 0 → zones_finite (battery_heat_loss b).zones b.card.layers ≡ true
+  pub loss_leaves_finite : (floor : Bool) → end_refusal (battery_heat_loss b floor).part.end ≡ 0 → zones_finite (battery_heat_loss b floor).zones b.card.layers ≡ true
   unfolding battery_heat_loss loss_ended outcome_of
-  loss_leaves_finite e = substep_finite b.card (derived b.card) (salt_at (salts_of b.card)) (loss_input b.card) b.zones (answers_faultless _ e)
+  loss_leaves_finite floor e = substep_finite b.card (derived b.card) (salt_at (salts_of b.card)) (loss_input b.card (loss_floor floor)) b.zones (answers_faultless _ e)
 
   module _ (h : zones_finite b.zones b.card.layers ≡ true) where
     hydronic_finite : (wet : Exchanger) (target : Float) → Finite b.card.layers (charge_hydronic b wet target).zones

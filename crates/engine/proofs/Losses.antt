@@ -1,4 +1,5 @@
 -- The losses of an accepted card are not negative, and no heat of a charger.
+use Rattle.std.specs.Prelude.{Option}
 use mathlib.Core.Path.{◌≡◌}
 use mathlib.Core.Bool.{true, false}
 use Prim.Native.Nat.{ℕ}
@@ -36,8 +37,8 @@ unfolding times_in_range is_timestep of_bits le
 timestep_nonneg c h =
     le_trans zero hundredth c.timestep tt (within_low hundredth day c.timestep (and_true (is_substep c.substep) (is_timestep c.timestep) h).1)
 
-pub no_charger : (version : ℕ) (b : Battery) → card_refusal version b.card ≡ 0 → lt (charger_heat (loss_input b.card)).0 zero ≡ false
+pub no_charger : (version : ℕ) (b : Battery) → card_refusal version b.card ≡ 0 → (floor : Option Float) → lt (charger_heat (loss_input b.card floor)).0 zero ≡ false
 unfolding loss_input of_bits
-no_charger version b h =
+no_charger version b h floor =
     let c = accepted version b.card h in
-    charger_not_negative (loss_input b.card) (neg_nonpos b.card.losses (losses_nonneg b.card c.powers)) (seconds_nonneg b.card.timestep (timestep_nonneg b.card c.times))
+    charger_not_negative (loss_input b.card floor) (neg_nonpos b.card.losses (losses_nonneg b.card c.powers)) (seconds_nonneg b.card.timestep (timestep_nonneg b.card c.times))

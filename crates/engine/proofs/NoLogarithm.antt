@@ -1,7 +1,7 @@
 -- 24 only where the logarithm of a demand's or hydronic substep refuses its argument.
 use Rattle.std.specs.Prelude.{Some, Option, None}
 use mathlib.Core.Path.{◌≡◌, refl, sym, ◌∙◌, ap}
-use mathlib.Core.Bool.{false}
+use mathlib.Core.Bool.{Bool, false}
 use mathlib.Core.Logic.{inl, inr}
 use Prim.Native.Nat.{ℕ}
 use native.Mathlib.Omega.{arith}
@@ -23,7 +23,7 @@ use Rattle.substep.specs.declared.Fault.TheVariants.{Logarithm, NotFinite}
 use Rattle.runs.specs.Runs.{fault_end, end_refusal, end_state}
 use Rattle.run_demand.specs.Demand.{demand_input, demand_ended}
 use Rattle.runs.specs.Hydronic.{hydronic_ended, whole_substeps}
-use Rattle.runs.specs.Charge.{electric_input, electric_ended, charge_electric, hydronic_start, charge_hydronic, charge_battery, loss_input, loss_ended, battery_heat_loss, wet_of}
+use Rattle.runs.specs.Charge.{electric_input, electric_ended, charge_electric, hydronic_start, charge_hydronic, charge_battery, loss_floor, loss_input, loss_ended, battery_heat_loss, wet_of}
 use Rattle.runs.specs.declared.End.{End}
 use Rattle.runs.specs.declared.End.TheVariants.{Done, Negative, Met, NoStep, Level, Limit, Time, OverBudget, NoLogarithm, NotFiniteRun}
 use Rattle.runs.specs.declared.Source.TheVariants.{Electric}
@@ -125,8 +125,8 @@ some_logarithm h = never (cc)
 modes_apart : OnlyCharging ≡ Normal → ⊥
 modes_apart h = never (cc)
 
-losses_apart : Losses ≡ Normal → ⊥
-losses_apart h = never (cc)
+losses_apart : (floor : Option Float) → Losses floor ≡ Normal → ⊥
+losses_apart floor h = never (cc)
 
 run_24 : (end : End) (a : Answer) → RunWhy 24 end a → end_fault end ≡ Some Logarithm
 run_24 end a (inl h) = end_fault_24 end h
@@ -148,17 +148,17 @@ module _ (b : Battery) where
       let m = (logarithm_only b.card (derived b.card) (salt_at (salts_of b.card)) (electric_input (ledger_of b) power target) b.zones (sym (fault_of_end _) ∙ h)).normal in
       modes_apart m
 
-  loss_24 : end_fault (battery_heat_loss b).part.end ≡ Some Logarithm → ⊥
+  loss_24 : (floor : Bool) → end_fault (battery_heat_loss b floor).part.end ≡ Some Logarithm → ⊥
   unfolding battery_heat_loss loss_ended loss_input outcome_of
-  loss_24 h =
-      let m = (logarithm_only b.card (derived b.card) (salt_at (salts_of b.card)) (loss_input b.card) b.zones (sym (fault_of_end _) ∙ h)).normal in
-      losses_apart m
+  loss_24 floor h =
+      let m = (logarithm_only b.card (derived b.card) (salt_at (salts_of b.card)) (loss_input b.card (loss_floor floor)) b.zones (sym (fault_of_end _) ∙ h)).normal in
+      losses_apart (loss_floor floor) m
 
 why_24 : (version : ℕ) (b : Battery) (call : Call) → Why 24 version b call → NoLogarithmTaken b call
 why_24 version b (DemandEnergy d) w = demand_24 version b d w
 why_24 version b (ChargeElectric power target) w = electric_24 b power target (run_24 _ _ w)
 why_24 version b (ChargeHydronic h) w = hydronic_faults (Some Logarithm) some_logarithm b h (run_24 _ _ w)
-why_24 version b HeatLoss w = loss_24 b (run_24 _ _ w)
+why_24 version b (HeatLoss floor) w = loss_24 b floor (run_24 _ _ w)
 why_24 version b CloseTimestep w = let n = w.0 in omega arith
 why_24 version b ReadStateOfCharge w = level_24 b _ w
 why_24 version b (ChargeEnergyDemand most target) w = level_24 b _ w

@@ -1,5 +1,6 @@
 -- 23 only where a number after a substep, or a reported number or total, is not finite.
 use Rattle.std.specs.Prelude.{None, Some}
+use mathlib.Core.Bool.{Bool}
 use mathlib.Core.Path.{◌≡◌, sym, ◌∙◌}
 use mathlib.Core.Logic.{◌⊎◌, inl, inr}
 use Prim.Native.Nat.{ℕ}
@@ -16,7 +17,7 @@ use Rattle.battery.specs.declared.Call.TheVariants.{DemandEnergy, ChargeElectric
 use Rattle.substep.specs.Substep.{outcome_of}
 use Rattle.substep.specs.declared.Fault.TheVariants.{NotFinite}
 use Rattle.runs.specs.declared.End.{End}
-use Rattle.runs.specs.Charge.{electric_input, electric_ended, charge_electric, charge_battery, loss_input, loss_ended, battery_heat_loss}
+use Rattle.runs.specs.Charge.{electric_input, electric_ended, charge_electric, charge_battery, loss_floor, loss_input, loss_ended, battery_heat_loss}
 use Rattle.runs.specs.declared.Source.TheVariants.{Electric}
 use Rattle.engine_replies.specs.Replies.{demand_answer}
 use Rattle.engine.specs.Steps.{demand_ran, step_of}
@@ -58,15 +59,15 @@ module _ (version : ℕ) (b : Battery) where
   electric_23 power target h =
       substep_fault b.card (derived b.card) (salt_at (salts_of b.card)) (electric_input (ledger_of b) power target) b.zones (Some NotFinite) some_not_finite (sym (fault_of_end _) ∙ h)
 
-  loss_23 : end_fault (battery_heat_loss b).part.end ≡ Some NotFinite → SubstepFault (Some NotFinite) b.card (derived b.card) (salt_at (salts_of b.card)) (loss_input b.card) b.zones
+  loss_23 : (floor : Bool) → end_fault (battery_heat_loss b floor).part.end ≡ Some NotFinite → SubstepFault (Some NotFinite) b.card (derived b.card) (salt_at (salts_of b.card)) (loss_input b.card (loss_floor floor)) b.zones
   unfolding battery_heat_loss loss_ended outcome_of
-  loss_23 h = substep_fault b.card (derived b.card) (salt_at (salts_of b.card)) (loss_input b.card) b.zones (Some NotFinite) some_not_finite (sym (fault_of_end _) ∙ h)
+  loss_23 floor h = substep_fault b.card (derived b.card) (salt_at (salts_of b.card)) (loss_input b.card (loss_floor floor)) b.zones (Some NotFinite) some_not_finite (sym (fault_of_end _) ∙ h)
 
 why_23 : (version : ℕ) (b : Battery) (call : Call) → Why 23 version b call → NotFiniteFound version b call
 why_23 version b (DemandEnergy d) w = demand_23 version b d w
 why_23 version b (ChargeElectric power target) w = run_23 _ _ (electric_23 version b power target) w
 why_23 version b (ChargeHydronic h) w = run_23 _ _ (hydronic_faults (Some NotFinite) some_not_finite b h) w
-why_23 version b HeatLoss w = run_23 _ _ (loss_23 version b) w
+why_23 version b (HeatLoss floor) w = run_23 _ _ (loss_23 version b floor) w
 why_23 version b CloseTimestep w = w.1
 why_23 version b ReadStateOfCharge w = level_23 b _ w
 why_23 version b (ChargeEnergyDemand most target) w = level_23 b _ w

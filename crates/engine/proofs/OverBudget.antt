@@ -1,7 +1,7 @@
 -- 22 only where the count equals the budget and another substep is due.
 use Rattle.std.specs.Prelude.{None, Option, Some}
 use mathlib.Core.Path.{◌≡◌, refl, sym, ◌∙◌}
-use mathlib.Core.Bool.{false, ◌&&◌}
+use mathlib.Core.Bool.{Bool, false, ◌&&◌}
 use Prim.Native.Nat.{ℕ}
 use native.Mathlib.Omega.{arith}
 use native.Mathlib.Nat.{zero-add}
@@ -104,10 +104,10 @@ module _ (b : Battery) where
       let e = run_over b r.part.end (charged_answer version b r) (run_answers _ r.part (charged_battery b r)) h in
       record { over = rw zero-add at (hydronic_run_over x (salt_at (salts_of b.card)) (whole_substeps x) 0 (zoned (hydronic_start b.card (wet_of w)) b.zones) e) }
 
-  loss_over : (heat_loss b).refusal ≡ 22 → ⊥
+  loss_over : (floor : Bool) → (heat_loss b floor).refusal ≡ 22 → ⊥
   unfolding heat_loss battery_heat_loss loss_ended
-  loss_over h =
-      let r = battery_heat_loss b in
+  loss_over floor h =
+      let r = battery_heat_loss b floor in
       fault_not_over _ (run_over b r.part.end (cooled_answer b r) (run_answers _ r.part (cooled_battery b r)) h)
 
   level_over : (s : Option Float) → (read_level b s).refusal ≡ 22 → ⊥
@@ -127,7 +127,7 @@ unfolding step_of
 over_budget_only version b (DemandEnergy d) h = demand_over b d h
 over_budget_only version b (ChargeElectric power target) h = electric_over b version power target h
 over_budget_only version b (ChargeHydronic w) h = hydronic_over b version w h
-over_budget_only version b HeatLoss h = loss_over b h
+over_budget_only version b (HeatLoss floor) h = loss_over b floor h
 over_budget_only version b CloseTimestep h =
     checked_not_over b (plain_answer Constants.zero (closed_battery b)) (plain_answers Constants.zero (closed_battery b)) h
 over_budget_only version b ReadStateOfCharge h = level_over b (level b) h

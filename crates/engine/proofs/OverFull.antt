@@ -68,7 +68,7 @@ why_full : (version : ℕ) (b : Battery) (call : Call) → Why 25 version b call
 why_full version b (DemandEnergy d) w = demand_not_full version b d w
 why_full version b (ChargeElectric power target) w = run_not_full _ _ w
 why_full version b (ChargeHydronic h) w = run_not_full _ _ w
-why_full version b HeatLoss w = run_not_full _ _ w
+why_full version b (HeatLoss floor) w = run_not_full _ _ w
 why_full version b CloseTimestep w = let n = w.0 in omega arith
 why_full version b ReadStateOfCharge w = level_full b _ w
 why_full version b (ChargeEnergyDemand most target) w = level_full b _ w

@@ -1,7 +1,7 @@
 -- Why a call is refused with 22 to 25: the run's end, an answer that is not finite, or the level.
 use Rattle.std.specs.Prelude.{None, Option, Some}
 use mathlib.Core.Path.{◌≡◌, refl, sym, ◌∙◌}
-use mathlib.Core.Bool.{false, ◌&&◌}
+use mathlib.Core.Bool.{Bool, false, ◌&&◌}
 use mathlib.Core.Logic.{◌⊎◌, inl, inr}
 use Prim.Native.Nat.{ℕ, ◌≤◌}
 use native.Mathlib.Omega.{arith}
@@ -49,7 +49,7 @@ abbrev pub Why : ℕ → ℕ → Battery → Call → Type 0
 Why n version b (DemandEnergy d) = ((n ≡ 23) × NoDemandNotFinite b d) ⊎ DemandWhy n b d
 Why n version b (ChargeElectric power target) = ChargeWhy n version b (Electric power) target
 Why n version b (ChargeHydronic h) = ChargeWhy n version b (wet_source h) h.target
-Why n version b HeatLoss = RunWhy n (battery_heat_loss b).part.end (cooled_answer b (battery_heat_loss b))
+Why n version b (HeatLoss floor) = RunWhy n (battery_heat_loss b floor).part.end (cooled_answer b (battery_heat_loss b floor))
 Why n version b CloseTimestep = (n ≡ 23) × (answer_finite (plain_answer zero (closed_battery b)) ≡ false)
 Why n version b ReadStateOfCharge = LevelWhy n b (λ soc. soc)
 Why n version b (ChargeEnergyDemand most target) = LevelWhy n b (λ soc. (charge_energy_demand b.card most target soc).0)
@@ -98,10 +98,10 @@ module _ (n : ℕ) (l : 22 ≤ n) (b : Battery) where
       let r = charge_battery b source target in
       run_why r.part.end (charged_answer version b r) (run_answers _ r.part (charged_battery b r)) h
 
-  loss_why : (heat_loss b).refusal ≡ n → RunWhy n (battery_heat_loss b).part.end (cooled_answer b (battery_heat_loss b))
+  loss_why : (floor : Bool) → (heat_loss b floor).refusal ≡ n → RunWhy n (battery_heat_loss b floor).part.end (cooled_answer b (battery_heat_loss b floor))
   unfolding heat_loss
-  loss_why h =
-      let r = battery_heat_loss b in
+  loss_why floor h =
+      let r = battery_heat_loss b floor in
       run_why r.part.end (cooled_answer b r) (run_answers _ r.part (cooled_battery b r)) h
 
   level_why : (s : Option Float) → level b ≡ s → (read_level b s).refusal ≡ n → LevelWhy n b (λ soc. soc)
@@ -126,7 +126,7 @@ unfolding step_of
 refused_why n l version b (DemandEnergy d) h = demand_why n l b d h
 refused_why n l version b (ChargeElectric power target) h = charge_why n l b version (Electric power) target h
 refused_why n l version b (ChargeHydronic w) h = charge_why n l b version (wet_source w) w.target h
-refused_why n l version b HeatLoss h = loss_why n l b h
+refused_why n l version b (HeatLoss floor) h = loss_why n l b floor h
 refused_why n l version b CloseTimestep h = checked_why n l b (plain_answer zero (closed_battery b)) (plain_answers zero (closed_battery b)) h
 refused_why n l version b ReadStateOfCharge h = level_why n l b (level b) refl h
 refused_why n l version b (ChargeEnergyDemand most target) h = to_level_why n l b most target (level b) refl h

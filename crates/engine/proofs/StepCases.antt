@@ -53,7 +53,7 @@ unfolding step_of call_in_range
 step_20 version b (DemandEnergy d) r = demand_is_20 b d r
 step_20 version b (ChargeElectric power target) r = no_20 _ (charge_late b version (Electric power) target)
 step_20 version b (ChargeHydronic h) r = no_20 _ (charge_late b version (wet_source h) h.target)
-step_20 version b HeatLoss r = no_20 _ (loss_late b)
+step_20 version b (HeatLoss floor) r = no_20 _ (loss_late b floor)
 step_20 version b CloseTimestep r = no_20 _ (plain_late b (closed_battery b) zero)
 step_20 version b ReadStateOfCharge r = no_20 _ (level_late b (level b))
 step_20 version b (ChargeEnergyDemand most target) r = no_20 _ (to_level_late b most target (level b))
@@ -63,7 +63,7 @@ unfolding step_of call_in_range
 step_21 version b (DemandEnergy d) r = demand_is_21 b d r
 step_21 version b (ChargeElectric power target) r = no_21 _ (charge_late b version (Electric power) target)
 step_21 version b (ChargeHydronic h) r = no_21 _ (charge_late b version (wet_source h) h.target)
-step_21 version b HeatLoss r = no_21 _ (loss_late b)
+step_21 version b (HeatLoss floor) r = no_21 _ (loss_late b floor)
 step_21 version b CloseTimestep r = no_21 _ (plain_late b (closed_battery b) zero)
 step_21 version b ReadStateOfCharge r = no_21 _ (level_late b (level b))
 step_21 version b (ChargeEnergyDemand most target) r = no_21 _ (to_level_late b most target (level b))

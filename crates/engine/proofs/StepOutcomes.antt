@@ -1,7 +1,7 @@
 -- The outcome of each of the seven kinds.
 use Rattle.std.specs.Prelude.{None, Option, Some}
 use mathlib.Core.Path.{◌≡◌, refl}
-use mathlib.Core.Bool.{true, false, not, ◌&&◌}
+use mathlib.Core.Bool.{Bool, true, false, not, ◌&&◌}
 use mathlib.Core.Logic.{inr}
 use Prim.Native.Nat.{ℕ, ◌≤◌}
 use native.Mathlib.Omega.{arith}
@@ -26,7 +26,7 @@ use Rattle.runs.specs.declared.Source.{Source}
 use Rattle.runs.specs.declared.Source.TheVariants.{Electric, Wet}
 use Rattle.run_demand.specs.Demand.{demand_ended}
 use Rattle.runs.specs.Hydronic.{hydronic_ended, whole_substeps}
-use Rattle.runs.specs.Charge.{electric_input, electric_ended, charge_electric, hydronic_task, hydronic_start, charge_hydronic, charge_battery, loss_input, loss_ended, battery_heat_loss, charge_energy_demand}
+use Rattle.runs.specs.Charge.{electric_input, electric_ended, charge_electric, hydronic_task, hydronic_start, charge_hydronic, charge_battery, loss_floor, loss_input, loss_ended, battery_heat_loss, charge_energy_demand}
 use Rattle.engine_replies.specs.Classes.{service_class, unserved}
 use Rattle.engine_replies.specs.Replies.{demand_start, served, demand_kept, demand_answer, closed_battery, charged_answer, cooled_answer}
 use Rattle.runs.specs.Zoned.{Zoned, zoned}
@@ -65,9 +65,9 @@ module _ (b : Battery) where
   charge_ended (Electric power) target = electric_ended_lem power target
   charge_ended (Wet wet) target = hydronic_ended_lem wet target
 
-  loss_ended_lem : EndedKept b (battery_heat_loss b)
+  loss_ended_lem : (floor : Bool) → EndedKept b (battery_heat_loss b floor)
   unfolding battery_heat_loss loss_ended
-  loss_ended_lem = record { above = substep_above b.card (derived b.card) (salt_at (salts_of b.card)) (loss_input b.card) b.zones; substeps = λ h. h }
+  loss_ended_lem floor = record { above = substep_above b.card (derived b.card) (salt_at (salts_of b.card)) (loss_input b.card (loss_floor floor)) b.zones; substeps = λ h. h }
 
 module _ (b : Battery) (d : Demand) where
   demand_kept_lem : (r : Zoned Stopped) → EndedKept b r → Kept b false (not d.commit) (demand_answer b d r)
@@ -114,11 +114,11 @@ module _ (b : Battery) where
       let k = charge_ended b source target in
       run_outcome b true false (charged_answer version b r) (charged_kept b r k.above k.substeps version) r.part.end
 
-  loss_outcome : Outcome b false false (heat_loss b)
+  loss_outcome : (floor : Bool) → Outcome b false false (heat_loss b floor)
   unfolding heat_loss
-  loss_outcome =
-      let r = battery_heat_loss b in
-      let k = loss_ended_lem b in
+  loss_outcome floor =
+      let r = battery_heat_loss b floor in
+      let k = loss_ended_lem b floor in
       run_outcome b false false (cooled_answer b r) (cooled_kept b r k.above k.substeps) r.part.end
 
   level_outcome : (s : Option Float) → Outcome b false true (read_level b s)
@@ -138,7 +138,7 @@ unfolding step_of is_charge only_asks
 step_outcome version b (DemandEnergy d) = demand_outcome b d
 step_outcome version b (ChargeElectric power target) = charge_outcome b version (Electric power) target
 step_outcome version b (ChargeHydronic h) = charge_outcome b version (wet_source h) h.target
-step_outcome version b HeatLoss = loss_outcome b
+step_outcome version b (HeatLoss floor) = loss_outcome b floor
 step_outcome version b CloseTimestep = checked_outcome b false false (plain_answer zero (closed_battery b)) (closed_kept b)
 step_outcome version b ReadStateOfCharge = level_outcome b (level b)
 step_outcome version b (ChargeEnergyDemand most target) = to_level_outcome b most target (level b)

@@ -101,7 +101,7 @@ module _ (version other : ℕ) (b : Battery) where
       let r = charge_battery b (Electric power) target in
       ap (unless_refused b r.part.end) (timeless version other b r refl)
   others_equal (ChargeHydronic w) h = absurd (h w refl)
-  others_equal HeatLoss h = refl
+  others_equal (HeatLoss floor) h = refl
   others_equal CloseTimestep h = refl
   others_equal ReadStateOfCharge h = refl
   others_equal (ChargeEnergyDemand most target) h = refl

@@ -1,12 +1,13 @@
--- A standing loss warms no zone, and an electric charge cools none: every zone, over rounding, answered or refused.
+-- A standing loss warms no zone, and an electric charge cools none: every zone, over rounding, answered or refused. With a floor a loss leaves no zone under it that
+-- wasn't there.
 use mathlib.Core.Path.{◌≡◌, refl}
-use mathlib.Core.Bool.{true}
+use mathlib.Core.Bool.{Bool, true, false}
 use Prim.Native.Nat.{ℕ, ◌≤◌, ◌<◌}
 use native.Mathlib.Omega.{arith}
 use lib.Dec.{T, eqb}
 use lib.ListN.{length, get_or}
-use lib.Ieee.{Float, nan, of_bits, le}
-use Rattle.floats.specs.Constants.{zero}
+use lib.Ieee.{Float, nan, of_bits, lt, le}
+use Rattle.floats.specs.Constants.{zero, room_temperature}
 use Rattle.floats.specs.Standins.{finite64, max_zero}
 use Rattle.logic.proofs.Branch.{by_test}
 use Rattle.floats.proofs.Difference.{neg_nonpos}
@@ -30,10 +31,11 @@ use Rattle.battery.specs.declared.Battery.{Battery}
 use Rattle.battery.specs.declared.Call.TheVariants.{ChargeElectric, HeatLoss}
 use Rattle.battery.proofs.Accepted.{AcceptedBattery, accepted_battery}
 use Rattle.battery.proofs.Zones.{zones_finite_at}
-use Rattle.substep.proofs.Warmth.{losses_warm_none, charging_cools_none}
+use Rattle.substep.proofs.Warmth.{losses_warm_none, losses_stop, charging_cools_none}
 use Rattle.runs.specs.declared.End.{End}
 use Rattle.runs.specs.Runs.{end_refusal, time_available}
-use Rattle.runs.specs.Charge.{electric_input, electric_ended, charge_electric, charge_battery, loss_input, loss_ended, battery_heat_loss}
+use Rattle.zone_update.proofs.Floors.{GoodFloor}
+use Rattle.runs.specs.Charge.{electric_input, electric_ended, charge_electric, charge_battery, loss_floor, loss_input, loss_ended, battery_heat_loss}
 use Rattle.engine_replies.specs.Replies.{checked, unless_refused, run_answer, charged_battery, cooled_battery}
 use Rattle.engine.specs.Steps.{charge, heat_loss, step_of}
 use Rattle.engine.proofs.Losses.{seconds_nonneg, losses_nonneg, timestep_nonneg}
@@ -47,6 +49,12 @@ by_refusal P b end a h k =
     by_test P (eqb (end_refusal end) 0) _ _
     (λ t. by_test P (answer_finite a) _ _ (λ u. h) (λ u. k 23))
     (λ t. k (end_refusal end))
+
+-- 16 °C is a number
+good_floor : (floor : Bool) → GoodFloor (loss_floor floor)
+unfolding loss_floor of_bits
+good_floor true = tt
+good_floor false = tt
 
 module _ (version : ℕ) (b : Battery) (g : GoodBattery version b) (f : CardFits b.card) where
   battery_accepted_lem : AcceptedBattery version b
@@ -66,14 +74,25 @@ module _ (version : ℕ) (b : Battery) (g : GoodBattery version b) (f : CardFits
       let t = get_or b.zones i nan in
       le_refl t (finite_number t (finite64_finite t (finite i l)))
 
-  pub loss_warms_none : (i : ℕ) → i < b.card.layers → T (le (get_or (step_of version b HeatLoss).battery.zones i nan) (get_or b.zones i nan))
+  pub loss_warms_none : (floor : Bool) (i : ℕ) → i < b.card.layers → T (le (get_or (step_of version b (HeatLoss floor)).battery.zones i nan) (get_or b.zones i nan))
   unfolding step_of heat_loss battery_heat_loss loss_ended run_answer cooled_battery refused_with loss_input of_bits
-  loss_warms_none i l =
+  loss_warms_none floor i l =
       let c = accepted version b.card battery_accepted_lem.card in
-      by_refusal (λ (a : Answer). T (le (get_or a.battery.zones i nan) (get_or b.zones i nan))) b (battery_heat_loss b).part.end _
-      (losses_warm_none b.card (derived b.card) (salt_at (salts_of b.card)) (loss_input b.card) b.zones salts
-      (seconds_nonneg b.card.timestep (timestep_nonneg b.card c.times)) places finite refl (neg_nonpos b.card.losses (losses_nonneg b.card c.powers)) i l)
+      by_refusal (λ (a : Answer). T (le (get_or a.battery.zones i nan) (get_or b.zones i nan))) b (battery_heat_loss b floor).part.end _
+      (losses_warm_none b.card (derived b.card) (salt_at (salts_of b.card)) (loss_input b.card (loss_floor floor)) b.zones salts
+      (seconds_nonneg b.card.timestep (timestep_nonneg b.card c.times)) places finite (loss_floor floor) (good_floor floor) refl (neg_nonpos b.card.losses (losses_nonneg b.card c.powers)) i l)
       (λ n. as_before i l)
+
+  -- a zone under the floor after a loss was there, and stayed
+  pub loss_stops : (i : ℕ) → i < b.card.layers
+      → lt (get_or (step_of version b (HeatLoss true)).battery.zones i nan) room_temperature ≡ true → get_or (step_of version b (HeatLoss true)).battery.zones i nan ≡ get_or b.zones i nan
+  unfolding step_of heat_loss battery_heat_loss loss_ended run_answer cooled_battery refused_with loss_floor loss_input
+  loss_stops i l =
+      let c = accepted version b.card battery_accepted_lem.card in
+      by_refusal (λ (a : Answer). lt (get_or a.battery.zones i nan) room_temperature ≡ true → get_or a.battery.zones i nan ≡ get_or b.zones i nan) b (battery_heat_loss b true).part.end _
+      (losses_stop b.card (derived b.card) (salt_at (salts_of b.card)) (loss_input b.card (loss_floor true)) b.zones salts
+      (seconds_nonneg b.card.timestep (timestep_nonneg b.card c.times)) places finite room_temperature refl i l)
+      (λ n h. refl)
 
   pub electric_cools_none :
       (power target : Float) → call_in_range version b.card (ChargeElectric power target) ≡ true → (i : ℕ) → i < b.card.layers →

@@ -68,7 +68,7 @@ abbrev pub BudgetUsed : Battery → Call → Type 0
 BudgetUsed battery (DemandEnergy d) = DemandUsed battery d
 BudgetUsed battery (ChargeElectric power target) = ⊥
 BudgetUsed battery (ChargeHydronic h) = HydronicUsed battery h
-BudgetUsed battery HeatLoss = ⊥
+BudgetUsed battery (HeatLoss floor) = ⊥
 BudgetUsed battery CloseTimestep = ⊥
 BudgetUsed battery ReadStateOfCharge = ⊥
 BudgetUsed battery (ChargeEnergyDemand most target) = ⊥

@@ -28,7 +28,7 @@ abbrev pub Case20 : Battery → Call → Type 0
 Case20 battery (DemandEnergy d) = NoReturn d
 Case20 battery (ChargeElectric power target) = ⊥
 Case20 battery (ChargeHydronic h) = ⊥
-Case20 battery HeatLoss = ⊥
+Case20 battery (HeatLoss floor) = ⊥
 Case20 battery CloseTimestep = ⊥
 Case20 battery ReadStateOfCharge = ⊥
 Case20 battery (ChargeEnergyDemand most target) = ⊥
@@ -37,7 +37,7 @@ abbrev pub Case21 : Battery → Call → Type 0
 Case21 battery (DemandEnergy d) = NoService d
 Case21 battery (ChargeElectric power target) = ⊥
 Case21 battery (ChargeHydronic h) = ⊥
-Case21 battery HeatLoss = ⊥
+Case21 battery (HeatLoss floor) = ⊥
 Case21 battery CloseTimestep = ⊥
 Case21 battery ReadStateOfCharge = ⊥
 Case21 battery (ChargeEnergyDemand most target) = ⊥

@@ -29,7 +29,7 @@ use Rattle.substep.specs.declared.Fault.TheVariants.{Logarithm, NotFinite}
 use Rattle.runs.specs.Runs.{fault_end, end_refusal, reynold_between, end_state}
 use Rattle.run_demand.specs.Demand.{demand_input}
 use Rattle.runs.specs.Hydronic.{wet_input, fraction_seconds}
-use Rattle.runs.specs.Charge.{electric_input, loss_input, charge_battery, battery_heat_loss, charge_energy_demand}
+use Rattle.runs.specs.Charge.{electric_input, loss_floor, loss_input, charge_battery, battery_heat_loss, charge_energy_demand}
 use Rattle.runs.specs.declared.HydronicTask.{HydronicTask}
 use Rattle.runs.specs.declared.HydronicState.{HydronicState}
 use Rattle.runs.specs.declared.End.{End}
@@ -48,7 +48,7 @@ abbrev pub OverFull : Battery → Call → Type 0
 OverFull battery (DemandEnergy d) = ⊥
 OverFull battery (ChargeElectric power target) = ⊥
 OverFull battery (ChargeHydronic h) = ⊥
-OverFull battery HeatLoss = ⊥
+OverFull battery (HeatLoss floor) = ⊥
 OverFull battery CloseTimestep = ⊥
 OverFull battery ReadStateOfCharge = AboveFull battery
 OverFull battery (ChargeEnergyDemand most target) = AboveFull battery
@@ -117,7 +117,7 @@ abbrev pub NoLogarithmTaken : Battery → Call → Type 0
 NoLogarithmTaken battery (DemandEnergy d) = DemandFaulted (Some Logarithm) battery d
 NoLogarithmTaken battery (ChargeElectric power target) = ⊥
 NoLogarithmTaken battery (ChargeHydronic h) = HydronicFaulted (Some Logarithm) battery h
-NoLogarithmTaken battery HeatLoss = ⊥
+NoLogarithmTaken battery (HeatLoss floor) = ⊥
 NoLogarithmTaken battery CloseTimestep = ⊥
 NoLogarithmTaken battery ReadStateOfCharge = ⊥
 NoLogarithmTaken battery (ChargeEnergyDemand most target) = ⊥
@@ -151,9 +151,9 @@ NotFiniteFound version battery (ChargeElectric power target) =
 NotFiniteFound version battery (ChargeHydronic h) =
     HydronicFaulted (Some NotFinite) battery h
     ⊎ AnswerNotFinite (charge_battery battery (wet_source h) h.target).part.end (charged_answer version battery (charge_battery battery (wet_source h) h.target))
-NotFiniteFound version battery HeatLoss =
-    SubstepFault (Some NotFinite) battery.card (derived battery.card) (salt_at (salts_of battery.card)) (loss_input battery.card) battery.zones
-    ⊎ AnswerNotFinite (battery_heat_loss battery).part.end (cooled_answer battery (battery_heat_loss battery))
+NotFiniteFound version battery (HeatLoss floor) =
+    SubstepFault (Some NotFinite) battery.card (derived battery.card) (salt_at (salts_of battery.card)) (loss_input battery.card (loss_floor floor)) battery.zones
+    ⊎ AnswerNotFinite (battery_heat_loss battery floor).part.end (cooled_answer battery (battery_heat_loss battery floor))
 NotFiniteFound version battery CloseTimestep = answer_finite (plain_answer zero (closed_battery battery)) ≡ false
 NotFiniteFound version battery ReadStateOfCharge = LevelNotFinite battery (λ soc. soc)
 NotFiniteFound version battery (ChargeEnergyDemand most target) = LevelNotFinite battery (λ soc. (charge_energy_demand battery.card most target soc).0)

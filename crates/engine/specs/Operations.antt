@@ -13,7 +13,7 @@ unfoldable pub operation_of : Call → Operation
 operation_of (Call.DemandEnergy d) = DemandEnergy d
 operation_of (Call.ChargeElectric power target) = Charge (Electric power) target
 operation_of (Call.ChargeHydronic h) = Charge (wet_source h) h.target
-operation_of Call.HeatLoss = HeatLoss
+operation_of (Call.HeatLoss floor) = HeatLoss floor
 operation_of Call.CloseTimestep = CloseTimestep
 operation_of Call.ReadStateOfCharge = ReadStateOfCharge
 operation_of (Call.ChargeEnergyDemand most target) = ChargeEnergyDemand most target
@@ -22,7 +22,7 @@ operation_of (Call.ChargeEnergyDemand most target) = ChargeEnergyDemand most tar
 unfoldable pub operation_step : ℕ → Battery → Operation → Answer
 operation_step version battery (DemandEnergy d) = demand_energy battery d
 operation_step version battery (Charge source target) = charge version battery source target
-operation_step version battery HeatLoss = heat_loss battery
+operation_step version battery (HeatLoss floor) = heat_loss battery floor
 operation_step version battery CloseTimestep = closed battery
 operation_step version battery ReadStateOfCharge = read_level battery (level battery)
 operation_step version battery (ChargeEnergyDemand most target) = demand_to_level battery most target (level battery)

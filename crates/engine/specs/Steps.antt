@@ -75,9 +75,9 @@ charge version battery source target =
     let r = charge_battery battery source target in
     unless_refused battery r.part.end (charged_answer version battery r)
 
-unfoldable pub heat_loss : Battery → Answer
-heat_loss battery =
-    let r = battery_heat_loss battery in
+unfoldable pub heat_loss : Battery → Bool → Answer
+heat_loss battery floor =
+    let r = battery_heat_loss battery floor in
     unless_refused battery r.part.end (cooled_answer battery r)
 
 -- kind 5: 'the three running times become 0'
@@ -107,7 +107,7 @@ unfoldable pub step_of : ℕ → Battery → Call → Answer
 step_of version battery (DemandEnergy d) = demand_energy battery d
 step_of version battery (ChargeElectric power target) = charge version battery (Electric power) target
 step_of version battery (ChargeHydronic h) = charge version battery (wet_source h) h.target
-step_of version battery HeatLoss = heat_loss battery
+step_of version battery (HeatLoss floor) = heat_loss battery floor
 step_of version battery CloseTimestep = closed battery
 step_of version battery ReadStateOfCharge = read_level battery (level battery)
 step_of version battery (ChargeEnergyDemand most target) = demand_to_level battery most target (level battery)

@@ -16,7 +16,8 @@ pub enum Operation {
     DemandEnergy(Demand),
     // source, target
     Charge(Source, f64),
-    HeatLoss,
+    // whether there is a floor
+    HeatLoss(bool),
     CloseTimestep,
     ReadStateOfCharge,
     // flow maximum, target
@@ -36,7 +37,7 @@ impl From<Call> for Operation {
                 target,
             ),
             Call::ChargeHydronic(h) => Operation::Charge(Source::Wet(Exchanger::from(h)), h.target),
-            Call::HeatLoss => Operation::HeatLoss,
+            Call::HeatLoss(floor) => Operation::HeatLoss(floor),
             Call::CloseTimestep => Operation::CloseTimestep,
             Call::ReadStateOfCharge => Operation::ReadStateOfCharge,
             Call::ChargeEnergyDemand(most, target) => Operation::ChargeEnergyDemand(most, target),

@@ -1,6 +1,6 @@
 // Document 01's steps: what each kind of call answers, and the battery that it leaves. The zones stay where they lie; a refused call may leave
 // any there, and its answer shows the battery as it was. That the zones are finite is therefore a clause and no ghost field: it holds before a call only.
-ghost use Rattle.std.specs.Prelude.{◌≡◌, true, false, ◌≤◌};
+ghost use Rattle.std.specs.Prelude.{◌≡◌, true, false, ◌≤◌, None};
 ghost use Rattle.std.specs.Float.Ieee.{lt};
 ghost use Rattle.floats.specs.Constants.{zero};
 ghost use Rattle.battery.specs.Battery.{zones_finite, battery_accepted};
@@ -36,12 +36,13 @@ fn charge<const STEP: usize>(
 
 fn heat_loss<const STEP: usize>(
     lent: Lent<'_, STEP>,
+    floor: bool,
     zones: &mut [f64; 64],
 ) -> Result<Reply, Refusal>
-    requires { lt (charger_heat (loss_input lent.ledger.card)).0 zero ≡ false }
-    ensures { settled lent.entry.ledger zones.old result zones.new ≡ heat_loss (whole lent.entry.ledger zones.old) }
+    requires { lt (charger_heat (loss_input lent.ledger.card None)).0 zero ≡ false }
+    ensures { settled lent.entry.ledger zones.old result zones.new ≡ heat_loss (whole lent.entry.ledger zones.old) floor }
 {
-    let s = run_charges::battery_heat_loss(lent, zones);
+    let s = run_charges::battery_heat_loss(lent, floor, zones);
     let a = engine_replies::run_reply(0.0, s, lent.ledger.totals);
     engine_replies::unless_refused(s.end, a)
 }
@@ -129,13 +130,13 @@ fn operation_step<const STEP: usize>(
     what: Operation,
     zones: &mut [f64; 64],
 ) -> Result<Reply, Refusal>
-    requires { (zones_finite zones.old lent.ledger.card.layers ≡ true) × (lt (charger_heat (loss_input lent.ledger.card)).0 zero ≡ false) }
+    requires { (zones_finite zones.old lent.ledger.card.layers ≡ true) × (lt (charger_heat (loss_input lent.ledger.card None)).0 zero ≡ false) }
     ensures { settled lent.entry.ledger zones.old result zones.new ≡ operation_step version (whole lent.entry.ledger zones.old) what }
 {
     match what {
         Operation::DemandEnergy(d) => demand::demand_energy(lent, d, zones),
         Operation::Charge(source, target) => { charge(version, lent, source, target, zones) }
-        Operation::HeatLoss => heat_loss(lent, zones),
+        Operation::HeatLoss(floor) => heat_loss(lent, floor, zones),
         Operation::CloseTimestep => close_timestep(lent.ledger, zones),
         Operation::ReadStateOfCharge => state_of_charge(lent, zones),
         Operation::ChargeEnergyDemand(most, target) => {

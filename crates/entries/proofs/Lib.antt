@@ -2,6 +2,6 @@ pub mod Opening
 pub mod Entering
 pub mod Checked
 pub mod Answered
-pub mod OwnServices
+pub mod OwnExtension
 pub mod OwnRecordLaws
 pub mod Zones

@@ -4,8 +4,9 @@ use Rattle.std.specs.Float.{nan}
 use Rattle.refusals.specs.Refusals.{answered, bad_call, no_version}
 use Rattle.refusals.specs.Number.{number}
 use Rattle.refusals.specs.declared.Refusal.{Refusal}
-use Rattle.card.specs.Version.{known_version, lists_services}
-use Rattle.card.specs.Services.{Service, listed, services_ok}
+use Rattle.card.specs.Version.{known_version, lists_services, sets_floor}
+use Rattle.card.specs.Services.{Service, listed}
+use Rattle.card.specs.Extension.{Extension, extension_ok}
 use Rattle.floats.specs.Constants as Constants
 use Rattle.battery.specs.Answer.{outlet_mark, outlet_value, refused_with}
 use Rattle.battery.specs.Ledger.{whole, renewed_battery}
@@ -18,7 +19,7 @@ use Rattle.engine.specs.Steps.{advance_of}
 use Rattle.sheet_calls.specs.Calls.{call_of}
 use Rattle.entries.specs.declared.own_record.Shown.{Shown}
 use Rattle.entries.specs.declared.own_record.OwnRecord.{OwnRecord}
-use Rattle.entries.specs.declared.own_record.OwnServices.{OwnServices}
+use Rattle.entries.specs.declared.own_record.OwnExtension.{OwnExtension}
 
 -- a battery after a call, and what the call answers
 pub record Advanced : Type 0 where
@@ -63,16 +64,16 @@ unfoldable pub advance_read : ℕ → Battery → Option Call → Answer
 advance_read version battery None = refused_with bad_call battery
 advance_read version battery (Some call) = advance_of version battery call
 
--- document 02, Four: '61 .. counted with 1 to 4 everywhere', so 10 for services that are refused
-unfoldable pub advance_listed : ℕ → List Service → Battery → List ℕ → Answer
-advance_listed version services battery call = cond (services_ok services) (advance_read version battery (call_of version services call)) (refused_with bad_call battery)
+-- document 02, Four: '61 .. counted with 1 to 4 everywhere', so 10 for services that are refused, as for a flag that is
+unfoldable pub advance_extended : ℕ → Extension → Battery → List ℕ → Answer
+advance_extended version extension battery call = cond (extension_ok extension) (advance_read version battery (call_of version extension call)) (refused_with bad_call battery)
 
 -- document 02, Three: 'an unknown one is 40 there, before all'
-unfoldable pub answer_own : ℕ → List Service → Battery → List ℕ → Answer
-answer_own version services battery call = cond (known_version version) (advance_listed version services battery call) (refused_with no_version battery)
+unfoldable pub answer_own : ℕ → Extension → Battery → List ℕ → Answer
+answer_own version extension battery call = cond (known_version version) (advance_extended version extension battery call) (refused_with no_version battery)
 
-unfoldable pub advanced_of : ℕ → List Service → Battery → List ℕ → Advanced
-advanced_of version services battery call = advanced_by (answer_own version services battery call)
+unfoldable pub advanced_of : ℕ → Extension → Battery → List ℕ → Advanced
+advanced_of version extension battery call = advanced_by (answer_own version extension battery call)
 
 -- ---- the struct that the caller keeps
 
@@ -83,22 +84,26 @@ own_service numbers classes i = record { number = get_or numbers i 0; class = ge
 unfoldable pub own_services : ℕ → ℕ → List ℕ → List ℕ → List Service
 own_services version count numbers classes = cond (lists_services version) (listed (own_service numbers classes) 0 count) []
 
--- the same where they are lent
-abbrev pub lent_services : OwnServices → List Service
-lent_services lent = own_services lent.version lent.count lent.numbers.now lent.classes.now
+-- its flag, from version 4 on
+unfoldable pub own_floor : ℕ → ℕ → ℕ
+own_floor version floor = cond (sets_floor version) floor 0
 
-abbrev pub services_of : ℕ → OwnRecord → List Service
-services_of version own = own_services version own.services own.numbers own.classes
+-- both, where they are lent
+abbrev pub lent_extension : OwnExtension → Extension
+lent_extension lent = record { services = own_services lent.version lent.count lent.numbers.now lent.classes.now; floor = own_floor lent.version lent.floor }
 
--- the struct afterwards, and what the call answers: its services stay
+abbrev pub extension_of : ℕ → OwnRecord → Extension
+extension_of version own = record { services = own_services version own.services own.numbers own.classes; floor = own_floor version own.floor }
+
+-- the struct afterwards, and what the call answers: its services and its flag stay
 pub record OwnAdvanced : Type 0 where
   pub own : OwnRecord
   pub shown : Shown
 
 abbrev pub with_battery : OwnRecord → Battery → OwnRecord
-with_battery own battery = record { battery = battery; services = own.services; numbers = own.numbers; classes = own.classes }
+with_battery own battery = record { battery = battery; services = own.services; numbers = own.numbers; classes = own.classes; floor = own.floor }
 
 unfoldable pub own_advanced : ℕ → OwnRecord → List ℕ → OwnAdvanced
 own_advanced version own call =
-    let a = advanced_of version (services_of version own) own.battery call in
+    let a = advanced_of version (extension_of version own) own.battery call in
     record { own = with_battery own a.battery; shown = a.shown }

@@ -3,14 +3,16 @@ ghost use Rattle.std.specs.Prelude.{◌≡◌, ◌+◌, ◌≤◌, true, length}
 ghost use Rattle.refusals.specs.Number.{number};
 ghost use Rattle.battery.specs.Answer.{settled};
 ghost use Rattle.battery.specs.Ledger.{whole};
-ghost use Rattle.entries.specs.Record.{reply_shown, refused_shown, answered_with, renewed_zones, lent_services, advance_listed, answer_own, advanced_of};
+ghost use Rattle.entries.specs.Record.{reply_shown, refused_shown, answered_with, renewed_zones, lent_extension, advance_extended, answer_own, advanced_of};
 
 use battery::lent::Lent;
 use battery::{Battery, Ledger, Reply};
-use card::services::{Service, Services};
+use card::extension::Extended;
+use card::services::Service;
 use refusals::Refusal;
 
-// The caller's own record: a battery, and the services that its card lists, which are read from version 3 on and never written.
+// The caller's own record: a battery, the services that its card lists, which are read from version 3 on, and its flag, which is read from version 4 on.
+// Neither is ever written.
 #[repr(C)]
 #[derive(Clone, Copy)]
 pub struct OwnRecord {
@@ -19,23 +21,26 @@ pub struct OwnRecord {
     pub services: u8,
     pub numbers: [u16; 32],
     pub classes: [u8; 32],
+    // 1 sets a floor for standing losses
+    pub floor: u8,
 }
 
-// The services of such a record where they lie, in a version.
+// The services of such a record where they lie, and its flag, in a version.
 #[derive(Clone, Copy)]
-pub struct OwnServices<'a> {
+pub struct OwnExtension<'a> {
     pub version: u8,
     pub count: u8,
     pub numbers: &'a [u16; 32],
     pub classes: &'a [u8; 32],
+    pub floor: u8,
 }
 
-impl<'a> Services for OwnServices<'a> {
-    ghost list = { lent_services };
+impl<'a> Extended for OwnExtension<'a> {
+    ghost extension = { lent_extension };
 
-    ghost room = { λ services. 32 };
+    ghost room = { λ own. 32 };
 
-    #[tactic(auto, using(crate::proofs::OwnServices::own_count, crate::proofs::OwnServices::own_none))]
+    #[tactic(auto, using(crate::proofs::OwnExtension::own_count, crate::proofs::OwnExtension::own_none))]
     fn count(&self) -> usize {
         if card::version::lists_services(self.version) {
             return self.count as usize;
@@ -43,7 +48,7 @@ impl<'a> Services for OwnServices<'a> {
         0
     }
 
-    #[tactic(auto, unfolding(crate::specs::Record::own_service), using(crate::proofs::OwnServices::own_entry))]
+    #[tactic(auto, unfolding(crate::specs::Record::own_service), using(crate::proofs::OwnExtension::own_entry))]
     fn service(&self, k: usize) -> Service {
         Service {
             number: self.numbers[k],
@@ -51,7 +56,15 @@ impl<'a> Services for OwnServices<'a> {
         }
     }
 
-    ghost few_fit = { λ services few. few };
+    #[tactic(auto, unfolding(crate::specs::Record::own_floor))]
+    fn floor(&self) -> u8 {
+        if card::version::sets_floor(self.version) {
+            return self.floor;
+        }
+        card::extension::NO_FLOOR
+    }
+
+    ghost few_fit = { λ own few. few };
 }
 
 // What a call answers, without the battery.
@@ -112,27 +125,28 @@ fn renew_zones(zones: &mut [f64; 64], own: &[f64; 64], n: usize)
     zones[..n].copy_from_slice(&own[..n]);
 }
 
-// A call's bytes on any battery and services whatsoever, its zones apart: 10 where one of them is refused. They are judged before the call is read,
-// so that the call goes to the step from where it was read, without a copy. Ledger, services, call and zones go side by side: C's record has the zones
+// A call's bytes on any battery and extension whatsoever, its zones apart: 10 where one of them is refused. They are judged before the call is read,
+// so that the call goes to the step from where it was read, without a copy. Ledger, extension, call and zones go side by side: C's record has the zones
 // inside its battery, and here they are lent apart.
-#[tactic(auto, unfolding(crate::specs::Record::advance_read), using(card::proofs::Listed::ok_length, engine::proofs::Accepted::accepted_few, engine_replies::proofs::Settled::settled_refusal, sheet_calls::proofs::ByKind::kind_fits, sheet_calls::proofs::ByKind::read_by_kind, sheet_calls::proofs::ByKind::none_by_kind, crate::proofs::Answered::not_accepted_listed, crate::proofs::Answered::accepted_listed))]
+#[tactic(auto, unfolding(crate::specs::Record::advance_read), using(card::proofs::FullRefusal::extension_few, engine::proofs::Accepted::accepted_few, engine_replies::proofs::Settled::settled_refusal, sheet_calls::proofs::ByKind::kind_fits, sheet_calls::proofs::ByKind::read_by_kind, sheet_calls::proofs::ByKind::none_by_kind, crate::proofs::Answered::not_accepted_extended, crate::proofs::Answered::accepted_extended))]
 fn advance_read(
     version: u8,
     ledger: Ledger,
-    services: OwnServices<'_>,
+    extension: OwnExtension<'_>,
     call: &[u8],
     zones: &mut [f64; 64],
 ) -> Result<Reply, Refusal>
-    ensures { settled ledger zones.old result zones.new ≡ advance_listed version (lent_services services.entry) (whole ledger zones.old) call.now }
+    ensures { settled ledger zones.old result zones.new ≡ advance_extended version (lent_extension extension.entry) (whole ledger zones.old) call.now }
 {
-    if !(battery::is_accepted(version, ledger, zones) & card::services::services_ok(&services)) {
+    if !(battery::is_accepted(version, ledger, zones) & card::extension::extension_ok(&extension)) {
         return Err(Refusal::BadCall);
     }
     let Some(kind) = sheet_calls::kind_of(version, call) else {
         return Err(Refusal::BadCall);
     };
-    let class = sheet_calls::demand_class(version, &services, kind, call);
-    let Some(read) = sheet_calls::call_by(version, kind, class, call) else {
+    let class = sheet_calls::demand_class(version, &extension, kind, call);
+    let floor = card::extension::has_floor(&extension);
+    let Some(read) = sheet_calls::call_by(version, kind, class, floor, call) else {
         return Err(Refusal::BadCall);
     };
     let figures = card::pcm::figures_of(ledger.card);
@@ -146,14 +160,14 @@ fn advance_read(
 fn advance_version(
     version: u8,
     ledger: Ledger,
-    services: OwnServices<'_>,
+    extension: OwnExtension<'_>,
     call: &[u8],
     zones: &mut [f64; 64],
 ) -> Result<Reply, Refusal>
-    ensures { settled ledger zones.old result zones.new ≡ answer_own version (lent_services services.entry) (whole ledger zones.old) call.now }
+    ensures { settled ledger zones.old result zones.new ≡ answer_own version (lent_extension extension.entry) (whole ledger zones.old) call.now }
 {
     if card::version::known_version(version) {
-        return advance_read(version, ledger, services, call, zones);
+        return advance_read(version, ledger, extension, call, zones);
     }
     Err(Refusal::NoVersion)
 }
@@ -163,14 +177,14 @@ fn advance_version(
 #[tactic(auto, unfolding(battery::specs::Answer::refused_with, crate::specs::Record::shown_of, crate::specs::Record::advanced_by, crate::specs::Record::advanced_of), using(engine_replies::proofs::Settled::settled_refusal, crate::proofs::Answered::answer_is, crate::proofs::Answered::answered_few, crate::proofs::Answered::answered_zones))]
 pub fn advance_apart(
     ledger: Ledger,
-    services: OwnServices<'_>,
+    extension: OwnExtension<'_>,
     call: &[u8],
     zones: &mut [f64; 64],
 ) -> Result<Reply, Refusal>
-    ensures { answered_with ledger result zones.new ≡ advanced_of services.entry.version (lent_services services.entry) (whole ledger zones.old) call.now }
+    ensures { answered_with ledger result zones.new ≡ advanced_of extension.entry.version (lent_extension extension.entry) (whole ledger zones.old) call.now }
 {
     let mut own = *zones;
-    let reply = advance_version(services.version, ledger, services, call, &mut own)?;
+    let reply = advance_version(extension.version, ledger, extension, call, &mut own)?;
     renew_zones(zones, &own, ledger.count as usize);
     Ok(reply)
 }

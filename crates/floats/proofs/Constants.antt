@@ -3,17 +3,17 @@ use mathlib.Core.Bool.{false}
 use mathlib.Core.Path.{◌≡◌, refl}
 use Prim.Native.Nat.{ℕ, ◌-◌, ◌*◌, ◌^◌}
 use lib.Ieee.{Float, binary64, round, of_bits}
-use Rattle.floats.specs.Constants.{zero, half, one, two, max_relative, tolerance, demand_relative, negligible_energy, ambient, rated_ambient, minute, thousand, hour, root_two, ln_two, bias, smallest_normal, largest_finite}
+use Rattle.floats.specs.Constants.{zero, half, one, two, max_relative, tolerance, demand_relative, negligible_energy, ambient, room_temperature, rated_ambient, minute, thousand, hour, root_two, ln_two, bias, smallest_normal, largest_finite}
 
 -- p / q, rounded once, to nearest even
 abbrev pub fraction : ℕ → ℕ → Float
 fraction p q = round binary64 false p q
 
 pub whole_numbers :
-    (zero ≡ fraction 0 1) × (one ≡ fraction 1 1) × (two ≡ fraction 2 1) × (ambient ≡ fraction 16 1) × (rated_ambient ≡ fraction 20 1)
+    (zero ≡ fraction 0 1) × (one ≡ fraction 1 1) × (two ≡ fraction 2 1) × (ambient ≡ fraction 16 1) × (room_temperature ≡ fraction 16 1) × (rated_ambient ≡ fraction 20 1)
     × (minute ≡ fraction 60 1) × (thousand ≡ fraction 1000 1) × (bias ≡ fraction 1023 1) × (hour ≡ fraction 3600 1)
 unfolding of_bits round
-whole_numbers = (refl, refl, refl, refl, refl, refl, refl, refl, refl)
+whole_numbers = (refl, refl, refl, refl, refl, refl, refl, refl, refl, refl)
 
 pub fractions :
     (half ≡ fraction 1 2) × (max_relative ≡ fraction 1 (2 ^ 52)) × (tolerance ≡ fraction 1 (10 ^ 10)) × (demand_relative ≡ fraction 1 (10 ^ 9))

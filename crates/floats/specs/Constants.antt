@@ -36,6 +36,10 @@ negligible_energy = of_bits binary64 0x3EB0C6F7A0B5ED8D
 abbrev pub ambient : Float
 ambient = of_bits binary64 0x4030000000000000
 
+-- 16 °C: document 02, Six, 'a floor of 16 °C for standing losses'; a number of its own, though document 01's ambient is 16 too
+abbrev pub room_temperature : Float
+room_temperature = of_bits binary64 0x4030000000000000
+
 -- 20 °C: the surroundings of the rated losses
 abbrev pub rated_ambient : Float
 rated_ambient = of_bits binary64 0x4034000000000000

@@ -22,6 +22,9 @@ pub const NEGLIGIBLE_ENERGY_KJ: f64 = 1e-6;
 
 pub const DEFAULT_AMBIENT_TEMPERATURE: f64 = 16.0;
 
+// The floor of standing losses.
+pub const ROOM_TEMPERATURE_C: f64 = 16.0;
+
 pub const TEMP_AMBIENT_RATED_LOSSES_C: f64 = 20.0;
 
 pub const SECONDS_PER_MINUTE: f64 = 60.0;

@@ -8,7 +8,7 @@ use native.Mathlib.Omega.{arith}
 use Rattle.logic.proofs.Tests.{no_both}
 use Rattle.codec.specs.Bytes.{over}
 use Rattle.card.specs.Version.{known_version}
-use Rattle.card.specs.Services.{Service}
+use Rattle.card.specs.Extension.{Extension}
 use Rattle.card.specs.Card.{CardRefusal}
 use Rattle.card.proofs.Refusals.{card_refusal_own}
 use Rattle.battery.specs.Answer.{refused_with}
@@ -17,9 +17,9 @@ use Rattle.battery.specs.declared.Battery.{Battery}
 use Rattle.sheet_records.specs.Records.{record_of}
 use Rattle.sheet_lines.specs.Lines.{line_bytes}
 use Rattle.entries.specs.Entry.{unchanged, open_of}
-use Rattle.entries.specs.Record.{shown_of, advanced_by, advanced_of}
 use Rattle.entries.proofs.Entering.{code_of, unchanged_by}
 use Rattle.entries.proofs.Opening.{open_unknown}
+use Rattle.entries.specs.Record.{shown_of, advanced_by, advanced_of}
 use Rattle.entries.proofs.OwnRecordLaws.{own_unknown}
 use Rattle.heat_battery.specs.Cases.{Opens}
 use Rattle.heat_battery.specs.Entries.{entry_of}
@@ -115,16 +115,16 @@ module _ (version : ℕ) (rec call free : List ℕ) where
 
 -- ---- a call on the caller's own record
 
-module _ (version : ℕ) (services : List Service) (b : Battery) (call : List ℕ) where
+module _ (version : ℕ) (extension : Extension) (b : Battery) (call : List ℕ) where
   abbrev m : ℕ
-  m = (advanced_of version services b call).shown.refusal
+  m = (advanced_of version extension b call).shown.refusal
 
   own_forty : known_version version ≡ false → m ≡ 40
   unfolding advanced_of advanced_by shown_of refused_with
-  own_forty unknown = ap (λ (a : Answer). a.refusal) (own_unknown version services b call unknown)
+  own_forty unknown = ap (λ (a : Answer). a.refusal) (own_unknown version extension b call unknown)
 
-  pub own_40 : ((advanced_of version services b call).shown.refusal ≡ 40) ↔ (known_version version ≡ false)
-  own_40 = exactly_unknown version m own_forty (λ k. on (own_codes version k services b call))
+  pub own_40 : ((advanced_of version extension b call).shown.refusal ≡ 40) ↔ (known_version version ≡ false)
+  own_40 = exactly_unknown version m own_forty (λ k. on (own_codes version k extension b call))
     where
       on : (m ≡ 10) ⊎ ((m ≡ 0) ⊎ ((20 ≤ m) × (m ≤ 25))) → m ≡ 40 → ⊥
       on (inl e) h = omega arith
@@ -132,4 +132,4 @@ module _ (version : ℕ) (services : List Service) (b : Battery) (call : List �
       on (inr (inr e)) h = omega arith
 
   pub own_numbers : ((m ≡ 10) ⊎ ((m ≡ 0) ⊎ ((20 ≤ m) × (m ≤ 25)))) ⊎ (m ≡ 40)
-  own_numbers = by_version version (λ k. inl (own_codes version k services b call)) (λ u. inr (own_forty u))
+  own_numbers = by_version version (λ k. inl (own_codes version k extension b call)) (λ u. inr (own_forty u))

@@ -18,7 +18,7 @@ use Rattle.battery.specs.Battery.{battery_accepted}
 use Rattle.battery.specs.Call.{call_in_range}
 use Rattle.battery.specs.Answer.{refused_with}
 use Rattle.engine.specs.Steps.{step_of, advance_of}
-use Rattle.sheet_records.specs.Cards.{card_at, services_at}
+use Rattle.sheet_records.specs.Cards.{card_at, extension_at}
 use Rattle.sheet_records.specs.Records.{record_of}
 use Rattle.sheet_calls.specs.Calls.{call_of}
 use Rattle.sheet_lines.specs.Lines.{line_size, line_bytes}
@@ -39,7 +39,7 @@ use Rattle.engine.proofs.AdvanceKeeps.{advance_is_step}
 pub data CallWay (version : ℕ) (rec call free : List ℕ) (a : After) : Type 0 where
   ten : CallCase10 version rec call → a ≡ unchanged 10 rec free → CallWay version rec call free a
   eleven : CallCase11 version rec call free → a ≡ unchanged 11 rec free → CallWay version rec call free a
-  line : GetsLine version rec call free → (c : Call) → call_of version (services_at version rec) call ≡ Some c → a ≡ entered version rec call free (step_of version (record_of version rec) c)
+  line : GetsLine version rec call free → (c : Call) → call_of version (extension_at version rec) call ≡ Some c → a ≡ entered version rec call free (step_of version (record_of version rec) c)
       → CallWay version rec call free a
 
 good_laid : (version : ℕ) (rec : List ℕ) → GoodRecord version rec → LaidRecord version rec
@@ -63,14 +63,14 @@ module _ (version : ℕ) (known : known_version version ≡ true) (rec call free
   abbrev o : After
   o = entry_of version rec call free
 
-  refused_ten : (c : Call) → (battery_accepted version b && call_in_range version b.card c) ≡ false → record_laid version rec ≡ true → call_of version (services_at version rec) call ≡ Some c → o ≡ unchanged 10 rec free
+  refused_ten : (c : Call) → (battery_accepted version b && call_in_range version b.card c) ≡ false → record_laid version rec ≡ true → call_of version (extension_at version rec) call ≡ Some c → o ≡ unchanged 10 rec free
   unfolding advance_of refused_with
   refused_ten c h l e =
       let r : advance_of version b c ≡ refused_with 10 b = rw h in
       entry_read_lem version rec call free known l c e ∙ line_ten version rec call free (advance_of version b c) (ap (λ (a : Answer). a.refusal) r)
 
   -- with a good record and a good call the step runs: 11, or its line
-  stepped : GoodRecord version rec → record_laid version rec ≡ true → (c : Call) → call_of version (services_at version rec) call ≡ Some c → battery_accepted version b ≡ true → call_in_range version b.card c ≡ true
+  stepped : GoodRecord version rec → record_laid version rec ≡ true → (c : Call) → call_of version (extension_at version rec) call ≡ Some c → battery_accepted version b ≡ true → call_in_range version b.card c ≡ true
       → CallWay version rec call free o
   stepped g l c e accepted in_range = on (dec_le (line_size version (card_at version rec) (length call)) (length free))
     where
@@ -83,11 +83,11 @@ module _ (version : ℕ) (known : known_version version ≡ true) (rec call free
       is : o ≡ line_after version rec call free s
       is = entry_read_lem version rec call free known l c e ∙ ap (line_after version rec call free) (advance_is_step version b c accepted in_range)
 
-      good : GoodCall version (services_at version rec) (card_at version rec) call
+      good : GoodCall version (extension_at version rec) (card_at version rec) call
       good =
           record {
-            laid = call_laid version (services_at version rec) call c e;
-            in_range = λ d h. rw (same_call (call_of version (services_at version rec) call) e h) (ap (λ (x : Card). call_in_range version x c) (sym (record_card_lem version rec)) ∙ in_range);
+            laid = call_laid version (extension_at version rec) call c e;
+            in_range = λ d h. rw (same_call (call_of version (extension_at version rec) call) e h) (ap (λ (x : Card). call_in_range version x c) (sym (record_card_lem version rec)) ∙ in_range);
           }
 
       fine : s.refusal ≡ 10 → ⊥
@@ -101,19 +101,19 @@ module _ (version : ℕ) (known : known_version version ≡ true) (rec call free
           let h : length free < line_size version (card_at version rec) (length call) = omega arith in
           eleven (record { record_good = g; call_good = good; no_room = h }) (is ∙ line_room version rec call free s fine (rw card h))
 
-  read_way : record_laid version rec ≡ true → (c : Call) → call_of version (services_at version rec) call ≡ Some c → (p q : Bool) → battery_accepted version b ≡ p → call_in_range version b.card c ≡ q → CallWay version rec call free o
+  read_way : record_laid version rec ≡ true → (c : Call) → call_of version (extension_at version rec) call ≡ Some c → (p q : Bool) → battery_accepted version b ≡ p → call_in_range version b.card c ≡ q → CallWay version rec call free o
   read_way l c e true true h k = stepped (accepted_good version rec (record_laid_lem version rec l) h) l c e h k
   read_way l c e true false h k =
       ten (bad_call (λ g. no_both (sym (g.in_range c e) ∙ ap (λ (x : Card). call_in_range version x c) (sym (record_card_lem version rec)) ∙ k))) (refused_ten c (rw (h, k)) l e)
   read_way l c e false q h k =
       ten (bad_record (λ g. no_both (sym (good_accepted version rec (record_laid_lem version rec l) g) ∙ h))) (refused_ten c (rw h) l e)
 
-  laid_way : record_laid version rec ≡ true → (r : Option Call) → call_of version (services_at version rec) call ≡ r → CallWay version rec call free o
-  laid_way l None e = ten (bad_call (λ g. let x = laid_call version (services_at version rec) call g.laid in no_call (call_of version (services_at version rec) call) e x.1)) (entry_bad version rec call free known l e)
+  laid_way : record_laid version rec ≡ true → (r : Option Call) → call_of version (extension_at version rec) call ≡ r → CallWay version rec call free o
+  laid_way l None e = ten (bad_call (λ g. let x = laid_call version (extension_at version rec) call g.laid in no_call (call_of version (extension_at version rec) call) e x.1)) (entry_bad version rec call free known l e)
   laid_way l (Some c) e = read_way l c e (battery_accepted version b) (call_in_range version b.card c) refl refl
 
   any_way : (t : Bool) → record_laid version rec ≡ t → CallWay version rec call free o
-  any_way true l = laid_way l (call_of version (services_at version rec) call) refl
+  any_way true l = laid_way l (call_of version (extension_at version rec) call) refl
   any_way false l = ten (bad_record (λ g. no_both (sym (laid_record version rec (good_laid version rec g)) ∙ l))) (entry_unlaid version rec call free known l)
 
   pub call_way : CallWay version rec call free (entry_of version rec call free)
@@ -126,7 +126,7 @@ module _ (version : ℕ) (known : known_version version ≡ true) (rec call free
       let f = not_ten (step_of version b c).refusal (step_refusals version b c) in
       (λ z. f.0 (sym n ∙ z), λ z. f.1 (sym n ∙ z))
 
-  no_case : GoodRecord version rec → GoodCall version (services_at version rec) (card_at version rec) call → CallCase10 version rec call → ⊥
+  no_case : GoodRecord version rec → GoodCall version (extension_at version rec) (card_at version rec) call → CallCase10 version rec call → ⊥
   no_case g k (bad_record h) = h g
   no_case g k (bad_call h) = h k
 
@@ -168,13 +168,13 @@ module _ (version : ℕ) (known : known_version version ≡ true) (rec call free
       on (inr h) (line x c k e) = absurd ((line_code c e).1 h)
 
   -- every other call gets the step's line
-  pub gets_step : GetsLine version rec call free → (c : Call) → call_of version (services_at version rec) call ≡ Some c → entry_of version rec call free ≡ entered version rec call free (step_of version (record_of version rec) c)
+  pub gets_step : GetsLine version rec call free → (c : Call) → call_of version (extension_at version rec) call ≡ Some c → entry_of version rec call free ≡ entered version rec call free (step_of version (record_of version rec) c)
   gets_step h c k = on call_way
     where
       on : CallWay version rec call free o → o ≡ entered version rec call free (step_of version b c)
       on (ten x e) = absurd (no_case h.record_good h.call_good x)
       on (eleven x e) = let r = x.no_room in let s = h.room in absurd (omega arith)
-      on (line x d l e) = e ∙ ap (λ (y : Call). entered version rec call free (step_of version b y)) (same_call (call_of version (services_at version rec) call) k l)
+      on (line x d l e) = e ∙ ap (λ (y : Call). entered version rec call free (step_of version b y)) (same_call (call_of version (extension_at version rec) call) k l)
 
   pub gets_line : (((entry_of version rec call free).code ≡ 10 → ⊥) × ((entry_of version rec call free).code ≡ 11 → ⊥)) ↔ GetsLine version rec call free
   gets_line = (on call_way, back call_way)

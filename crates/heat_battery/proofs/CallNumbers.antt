@@ -14,7 +14,7 @@ use Rattle.battery.specs.declared.Call.{Call}
 use Rattle.engine.specs.Steps.{step_of}
 use Rattle.engine.specs.Cases.{Case20, Case21, Case22, Case23, Case24, Case25}
 use Rattle.engine.proofs.StepCases.{step_20, step_21, step_22, step_23, step_24, step_25}
-use Rattle.sheet_records.specs.Cards.{services_at}
+use Rattle.sheet_records.specs.Cards.{extension_at}
 use Rattle.sheet_records.specs.Records.{record_of}
 use Rattle.sheet_calls.specs.Calls.{call_of}
 use Rattle.entries.specs.Entry.{After, unchanged, entered}
@@ -32,7 +32,7 @@ module _ (version : ℕ) (known : known_version version ≡ true) (rec call free
   o = entry_of version rec call free
 
   -- a call that gets a line is in range
-  in_range : GetsLine version rec call free → (c : Call) → call_of version (services_at version rec) call ≡ Some c → call_in_range version b.card c ≡ true
+  in_range : GetsLine version rec call free → (c : Call) → call_of version (extension_at version rec) call ≡ Some c → call_in_range version b.card c ≡ true
   in_range x c k = ap (λ (y : Card). call_in_range version y c) (record_card_lem version rec) ∙ x.call_good.in_range c k
 
   -- a number that the steps give in its case

@@ -9,7 +9,7 @@ use Rattle.battery.specs.Answer.{refused_with}
 use Rattle.battery.specs.Battery.{battery_accepted}
 use Rattle.engine.specs.Steps.{advance_of}
 use Rattle.engine.proofs.AdvanceKeeps.{not_accepted_ten}
-use Rattle.sheet_records.specs.Cards.{services_at}
+use Rattle.sheet_records.specs.Cards.{extension_at}
 use Rattle.sheet_records.specs.Records.{record_of}
 use Rattle.sheet_calls.specs.Calls.{call_of}
 use Rattle.card.specs.Version.{known_version}
@@ -34,11 +34,11 @@ module _ (version : ℕ) (rec call free : List ℕ) where
     entry_unlaid h = entry_known_lem known ∙ rw h
 
     module _ (l : record_laid version rec ≡ true) where
-      pub entry_bad : call_of version (services_at version rec) call ≡ None → entry_of version rec call free ≡ unchanged 10 rec free
+      pub entry_bad : call_of version (extension_at version rec) call ≡ None → entry_of version rec call free ≡ unchanged 10 rec free
       unfolding entry_known entry_read
       entry_bad h = entry_known_lem known ∙ rw (l, h)
 
-      pub entry_read_lem : (c : Call) → call_of version (services_at version rec) call ≡ Some c → entry_of version rec call free ≡ line_after version rec call free (advance_of version (record_of version rec) c)
+      pub entry_read_lem : (c : Call) → call_of version (extension_at version rec) call ≡ Some c → entry_of version rec call free ≡ line_after version rec call free (advance_of version (record_of version rec) c)
       unfolding entry_known entry_read
       entry_read_lem c h = entry_known_lem known ∙ rw (l, h)
 

@@ -14,14 +14,14 @@ use Rattle.codec.specs.Bytes.{over}
 use Rattle.card.specs.Card.{card_refusal}
 use Rattle.card.specs.Version.{known_version}
 use Rattle.card.proofs.FullRefusal.{accepted_full}
-use Rattle.card.specs.Services.{Service}
+use Rattle.card.specs.Extension.{Extension}
 use Rattle.card.specs.declared.Card.{Card}
 use Rattle.battery.specs.declared.Battery.{Battery}
 use Rattle.battery.specs.declared.Call.{Call}
 use Rattle.battery.specs.declared.Answer.{Answer}
 use Rattle.battery.specs.Call.{call_in_range}
 use Rattle.engine.specs.Steps.{step_of}
-use Rattle.sheet_records.specs.Cards.{card_length, card_at, services_at, refusal_at}
+use Rattle.sheet_records.specs.Cards.{card_length, card_at, extension_at, refusal_at}
 use Rattle.sheet_records.specs.Records.{state_length, record_length, record_of, state_bytes, record_bytes}
 use Rattle.sheet_calls.specs.Calls.{call_of}
 use Rattle.sheet_lines.specs.Lines.{line_length, line_size, line_bytes}
@@ -31,7 +31,7 @@ use Rattle.battery.specs.Battery.{battery_accepted}
 use Rattle.battery.proofs.Accepted.{accepted_battery}
 use Rattle.battery.proofs.GoodParts.{good_layers}
 use Rattle.sheet_lines.proofs.AnswerBack.{record_back}
-use Rattle.sheet_records.proofs.CardLaws.{card_length_front, services_front}
+use Rattle.sheet_records.proofs.CardLaws.{card_length_front, extension_front}
 use Rattle.sheet_lines.proofs.CardFront.{card_at_front, refusal_at_front}
 use Rattle.sheet_calls.proofs.CallLaws.{same_call, call_length_lem}
 use Rattle.sheet_calls.proofs.CallExact.{call_laid}
@@ -54,7 +54,7 @@ lined version card call free s = record { code = s.refusal; record' = record_byt
 pub data Entered (version : ℕ) (card : List ℕ) (b : Battery) (rec call free : List ℕ) : Type 0 where
   kept_10 : entry_of version rec call free ≡ unchanged 10 rec free → Entered version card b rec call free
   kept_11 : entry_of version rec call free ≡ unchanged 11 rec free → Entered version card b rec call free
-  stepped : (c : Call) → call_of version (services_at version card) call ≡ Some c → call_in_range version b.card c ≡ true → entry_of version rec call free ≡ lined version card call free (step_of version b c)
+  stepped : (c : Call) → call_of version (extension_at version card) call ≡ Some c → call_in_range version b.card c ≡ true → entry_of version rec call free ≡ lined version card call free (step_of version b c)
       → length (line_bytes version call (step_of version b c)) ≤ length free → Entered version card b rec call free
 
 module _ (version : ℕ) (card : List ℕ) (b : Battery) (rec : List ℕ) (e : Encoded version card b rec) where
@@ -73,17 +73,17 @@ module _ (version : ℕ) (card : List ℕ) (b : Battery) (rec : List ℕ) (e : E
   unfolding record_bytes
   card_size = ap (card_length version) e.bytes ∙ card_length_front version card (state_bytes version b) whole
 
-  -- and so are its services
-  services_are : services_at version rec ≡ services_at version card
+  -- and so is its extension
+  extension_is : extension_at version rec ≡ extension_at version card
   unfolding record_bytes
-  services_are = ap (services_at version) e.bytes ∙ services_front version card (state_bytes version b) whole
+  extension_is = ap (extension_at version) e.bytes ∙ extension_front version card (state_bytes version b) whole
 
   -- an encoding is laid out
   refusal_is : refusal_at version rec ≡ 0
   unfolding record_bytes
   refusal_is =
       ap (refusal_at version) e.bytes ∙ refusal_at_front version card (state_bytes version b) whole
-      ∙ (unfold refusal_at in accepted_full version (card_at version card) (services_at version card) (ap (card_refusal version) e.card_read ∙ (accepted_battery version b e.good.accepted).card) e.listed)
+      ∙ (unfold refusal_at in accepted_full version (card_at version card) (extension_at version card) (ap (card_refusal version) e.card_read ∙ (accepted_battery version b e.good.accepted).card) e.extended)
 
   long_is : length rec ≡ card_length version card + state_length version b.card
   unfolding record_bytes
@@ -96,17 +96,17 @@ module _ (version : ℕ) (card : List ℕ) (b : Battery) (rec : List ℕ) (e : E
       record { card_there = omega (arith, card_size, long_is); card_accepted = refusal_is; long = omega (arith, card_size, long_is, n) }
 
   -- a call that can be read, in its ranges, isn't refused with 10
-  pub read_not_ten : known_version version ≡ true → (call free : List ℕ) (c : Call) → call_of version (services_at version card) call ≡ Some c → call_in_range version b.card c ≡ true
+  pub read_not_ten : known_version version ≡ true → (call free : List ℕ) (c : Call) → call_of version (extension_at version card) call ≡ Some c → call_in_range version b.card c ≡ true
       → (entry_of version rec call free).code ≡ 10 → ⊥
   read_not_ten known call free c k i h = on ((call_10 version known rec call free).0 h)
     where
-      there : call_of version (services_at version rec) call ≡ Some c
-      there = ap (λ (y : List Service). call_of version y call) services_are ∙ k
+      there : call_of version (extension_at version rec) call ≡ Some c
+      there = ap (λ (y : Extension). call_of version y call) extension_is ∙ k
 
       on : CallCase10 version rec call → ⊥
       on (bad_record n) = n (accepted_good version rec encoded_laid (ap (battery_accepted version) read_back ∙ e.good.accepted))
       on (bad_call n) =
-          n (record { laid = call_laid version (services_at version rec) call c there; in_range = λ d l. rw (same_call (call_of version (services_at version rec) call) there l, card_is) i })
+          n (record { laid = call_laid version (extension_at version rec) call c there; in_range = λ d l. rw (same_call (call_of version (extension_at version rec) call) there l, card_is) i })
 
   renewed_is : (c : Call) → renewed version rec (step_of version b c) ≡ record_bytes version card (step_of version b c).battery
   renewed_is c = on (ℕ_discrete (step_of version b c).refusal 0)
@@ -128,7 +128,7 @@ module _ (version : ℕ) (card : List ℕ) (b : Battery) (rec : List ℕ) (e : E
       on (eleven x h) = kept_11 h
       on (line x c k h) =
           let s : step_of version (record_of version rec) c ≡ step_of version b c = ap (λ (y : Battery). step_of version y c) read_back in
-          stepped c (ap (λ (y : List Service). call_of version y call) (sym services_are) ∙ k) (ap (λ (y : Card). call_in_range version y c) (sym card_is) ∙ x.call_good.in_range c k)
+          stepped c (ap (λ (y : Extension). call_of version y call) (sym extension_is) ∙ k) (ap (λ (y : Card). call_in_range version y c) (sym card_is) ∙ x.call_good.in_range c k)
           (h ∙ ap (entered version rec call free) s
           ∙ ap (λ (y : List ℕ). record { code = (step_of version b c).refusal; record' = y; sheet = over (line_bytes version call (step_of version b c)) free }) (renewed_is c))
           (rw (length_line_bytes version call (step_of version b c), step_keeps_card version b c, ← card_is) x.room)
@@ -136,10 +136,10 @@ module _ (version : ℕ) (card : List ℕ) (b : Battery) (rec : List ℕ) (e : E
   -- the encoding after the step
   pub step_encoded : (c : Call) → Encoded version card (step_of version b c).battery (record_bytes version card (step_of version b c).battery)
   step_encoded c =
-      record { long = e.long; card_read = e.card_read ∙ sym (step_keeps_card version b c); listed = e.listed; good = step_keeps_good version b c e.good; bytes = refl }
+      record { long = e.long; card_read = e.card_read ∙ sym (step_keeps_card version b c); extended = e.extended; good = step_keeps_good version b c e.good; bytes = refl }
 
   -- what the line takes of the lent part
-  module _ (call free : List ℕ) (c : Call) (k : call_of version (services_at version card) call ≡ Some c) where
+  module _ (call free : List ℕ) (c : Call) (k : call_of version (extension_at version card) call ≡ Some c) where
     abbrev s : Answer
     s = step_of version b c
 
@@ -153,7 +153,7 @@ module _ (version : ℕ) (card : List ℕ) (b : Battery) (rec : List ℕ) (e : E
     fits_line : line_length version s.battery.card (length call) < 65536
     fits_line =
         line_fits version s.battery.card (length call) (rw (step_keeps_card version b c) (good_layers version b e.good))
-        (omega (arith, call_length_lem version (services_at version card) call c k, call_short version (get_or call 0 0)))
+        (omega (arith, call_length_lem version (extension_at version card) call c k, call_short version (get_or call 0 0)))
 
     takes_line : line_taken (lined version card call free s) ≡ line_size version s.battery.card (length call)
     unfolding line_taken over line_size
@@ -173,6 +173,6 @@ module _ (version : ℕ) (card : List ℕ) (b : Battery) (rec : List ℕ) (e : E
     pub gets_line : no_line (lined version card call free s) ≡ false
     gets_line = has_line
 
-    pub answer_is : answer_to version (services_at version card) b call ≡ s
+    pub answer_is : answer_to version (extension_at version card) b call ≡ s
     unfolding answer_to answer_read
     answer_is = rw k

@@ -14,8 +14,8 @@ use Rattle.battery.specs.declared.Battery.{Battery}
 use Rattle.battery.specs.declared.Answer.{Answer}
 use Rattle.battery.specs.Battery.{fresh}
 use Rattle.engine.specs.Steps.{step_of}
-use Rattle.sheet_records.specs.Cards.{card_at, services_at}
-use Rattle.sheet_records.proofs.CardLaws.{fields_accepted, services_accepted}
+use Rattle.sheet_records.specs.Cards.{card_at, extension_at}
+use Rattle.sheet_records.proofs.CardLaws.{fields_accepted, extension_accepted}
 use Rattle.sheet_records.specs.Records.{record_bytes}
 use Rattle.sheet_lines.specs.Lines.{line_bytes, opening_length, opening_bytes}
 use Rattle.entries.specs.Entry.{After, unchanged, opened_with, open_of}
@@ -73,14 +73,14 @@ module _ (version : ℕ) (card : List ℕ) (b : Battery) (rec free : List ℕ) (
       let r : record_after rec free (call ∷ calls) ≡ record_after rec free calls = record_more rec free call calls a e ∙ rw f in
       let k : free_after rec free (call ∷ calls) ≡ free_after rec free calls = free_more rec free call calls a e ∙ rw f in
       record {
-        lines = w ∙ h.lines ∙ ap (step_lines version (services_at version card) b) (sym s);
+        lines = w ∙ h.lines ∙ ap (step_lines version (extension_at version card) b) (sym s);
         encoded = rw (s, r) h.encoded;
         fits = rw w h.fits;
         following = k ∙ h.following ∙ ap (λ (x : List ℕ). drop (length x) free) (sym w);
       }
 
   -- a call that gets its line, before the others
-  module _ (s : Answer) (answered : answer_to version (services_at version card) b call.bytes ≡ s) (e : entry_to rec free call ≡ lined version card call.bytes free s)
+  module _ (s : Answer) (answered : answer_to version (extension_at version card) b call.bytes ≡ s) (e : entry_to rec free call ≡ lined version card call.bytes free s)
       (has : no_line (lined version card call.bytes free s) ≡ false) (taken : take (line_taken (lined version card call.bytes free s)) (lined version card call.bytes free s).sheet ≡ line_bytes version call.bytes s)
       (following : free_rest (lined version card call.bytes free s) ≡ drop (length (line_bytes version call.bytes s)) free) (room : length (line_bytes version call.bytes s) ≤ length free) where
     abbrev a : After
@@ -95,13 +95,13 @@ module _ (version : ℕ) (card : List ℕ) (b : Battery) (rec free : List ℕ) (
     abbrev free' : List ℕ
     free' = drop (length l) free
 
-    lines_more : (cs : List (List ℕ)) → step_lines version (services_at version card) b (call.bytes ∷ cs) ≡ l ++ step_lines version (services_at version card) s.battery cs
+    lines_more : (cs : List (List ℕ)) → step_lines version (extension_at version card) b (call.bytes ∷ cs) ≡ l ++ step_lines version (extension_at version card) s.battery cs
     unfolding step_lines
-    lines_more cs = ap (λ (x : Answer). line_bytes version call.bytes x ++ step_lines version (services_at version card) x.battery cs) answered
+    lines_more cs = ap (λ (x : Answer). line_bytes version call.bytes x ++ step_lines version (extension_at version card) x.battery cs) answered
 
-    state_more : (cs : List (List ℕ)) → state_after version (services_at version card) b (call.bytes ∷ cs) ≡ state_after version (services_at version card) s.battery cs
+    state_more : (cs : List (List ℕ)) → state_after version (extension_at version card) b (call.bytes ∷ cs) ≡ state_after version (extension_at version card) s.battery cs
     unfolding state_after
-    state_more cs = ap (λ (x : Answer). state_after version (services_at version card) x.battery cs) answered
+    state_more cs = ap (λ (x : Answer). state_after version (extension_at version card) x.battery cs) answered
 
     lined_first : SameAsSteps version card s.battery rec' free' calls → SameAsSteps version card b rec free (call ∷ calls)
     lined_first h =
@@ -112,7 +112,7 @@ module _ (version : ℕ) (card : List ℕ) (b : Battery) (rec free : List ℕ) (
         let n : length l + length (written rec' free' calls) ≡ length (written rec free (call ∷ calls)) = sym (ap length w ∙ simp length-append) in
         let f : length (written rec' free' calls) ≤ length free - length l = simp length-drop at h.fits in
         record {
-          lines = w ∙ ap (λ (x : List ℕ). l ++ x) h.lines ∙ sym (ap (step_lines version (services_at version card) b) p ∙ lines_more (spared rec' free' calls));
+          lines = w ∙ ap (λ (x : List ℕ). l ++ x) h.lines ∙ sym (ap (step_lines version (extension_at version card) b) p ∙ lines_more (spared rec' free' calls));
           encoded = rw (p, r, state_more (spared rec' free' calls)) h.encoded;
           fits = omega (arith, n, f, room);
           following = k ∙ h.following ∙ drop-drop (length (written rec' free' calls)) (length l) free ∙ ap (λ (x : ℕ). drop x free) n;
@@ -144,7 +144,7 @@ fresh_encoded version card h =
     record {
       long = h.long;
       card_read = refl;
-      listed = services_accepted version card h.accepted;
+      extended = extension_accepted version card h.accepted;
       good = fresh_good version (card_at version card) (fields_accepted version card h.accepted) (of_bits-fits binary64 _);
       bytes = refl;
     }
@@ -196,7 +196,7 @@ module _ (version : ℕ) (known : known_version version ≡ true) (card rec free
         let n : length first + length (written r left calls) ≡ length (sheet_of version card rec free calls) = sym (ap length sheet_is ∙ simp length-append) in
         let f : length (written r left calls) ≤ length free - length first = simp length-drop at s.fits in
         record {
-          sheet = sheet_is ∙ ap (λ (x : List ℕ). first ++ x) (s.lines ∙ ap (step_lines version (services_at version card) b) (sym spared_is));
+          sheet = sheet_is ∙ ap (λ (x : List ℕ). first ++ x) (s.lines ∙ ap (step_lines version (extension_at version card) b) (sym spared_is));
           encoded = rw (spared_is, record_is) s.encoded;
           fits = omega (arith, n, f, length_opening_bytes version card h.card_good.long, h.room);
           following = following_is ∙ s.following ∙ drop-drop (length (written r left calls)) (length first) free ∙ ap (λ (x : ℕ). drop x free) n;

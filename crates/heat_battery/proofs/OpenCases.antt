@@ -6,17 +6,19 @@ use mathlib.Core.Bool.{Bool, true, false}
 use Prim.Native.Nat.{ℕ, ◌≤◌, ◌<◌}
 use native.Mathlib.Decide.{ℕ_discrete, dec_le}
 use native.Mathlib.Omega.{arith}
+use borrow.Author.Tests.{leb-true, leb-false, le-leb, lt-leb}
 use lib.ListN.{length, get_or}
 use Rattle.logic.proofs.Tests.{no_both}
-use Rattle.card.specs.Card.{card_in_range, card_refusal, CardRefusal}
+use Rattle.card.specs.Card.{card_refusal, CardRefusal}
 use Rattle.card.specs.Services.{services_ok}
 use Rattle.card.proofs.Refusals.{card_refusal_own}
+use Rattle.card.specs.Extension.{flag_ok}
 use Rattle.card.proofs.Listed.{ok_none}
-use Rattle.card.proofs.FullRefusal.{full_few, full_61, full_refusal_lem}
 use Rattle.card.proofs.ServicesCase.{services_exactly}
+use Rattle.card.proofs.FullRefusal.{full_one, full_few, full_61, full_refusal_lem}
 use Rattle.card.specs.Version.{known_version, lists_services}
 use Rattle.card.specs.declared.Card.{Card}
-use Rattle.sheet_records.specs.Cards.{count_place, card_length, card_at, service_at, services_at, refusal_at}
+use Rattle.sheet_records.specs.Cards.{count_place, card_length, card_at, service_at, services_at, floor_at, extension_at, refusal_at}
 use Rattle.sheet_records.proofs.CardLaws.{services_listed, services_none}
 use Rattle.sheet_records.specs.Records.{record_length}
 use Rattle.sheet_lines.specs.Lines.{opening_length}
@@ -25,6 +27,23 @@ use Rattle.entries.proofs.Entering.{code_of, unchanged_by}
 use Rattle.heat_battery.specs.Cases.{OpenCase1, OpenCase2, OpenCase3, OpenCase4, OpenCase61, OpenCase10, OpenCase11, Opens}
 use Rattle.entries.proofs.Opening.{open_length, open_card, open_record, open_room, opened, open_known_lem}
 use Rattle.heat_battery.proofs.CardCases.{CardWay, out_of_range, lower_above, max_low, nothing, accepted, card_way, card_1, card_2, card_3, card_4, lower_above_is, max_above_is}
+
+-- the flag's test, and its range
+flag_low : (n : ℕ) → flag_ok n ≡ true → n ≤ 1
+unfolding flag_ok
+flag_low n h = leb-true n 1 h
+
+low_flag : (n : ℕ) → n ≤ 1 → flag_ok n ≡ true
+unfolding flag_ok
+low_flag n h = le-leb n 1 h
+
+flag_high : (n : ℕ) → flag_ok n ≡ false → 1 < n
+unfolding flag_ok
+flag_high n h = leb-false n 1 h
+
+high_flag : (n : ℕ) → 1 < n → flag_ok n ≡ false
+unfolding flag_ok
+high_flag n h = lt-leb n 1 h
 
 -- which way opening goes
 data OpenWay (version : ℕ) (card rec free : List ℕ) (a : After) : Type 0 where
@@ -77,14 +96,18 @@ module _ (version : ℕ) (known : known_version version ≡ true) (card rec free
       on (no_room x e) = absurd (eleven (code_of (unchanged 11 rec free) e))
       on (opens x e) = absurd (z (code_of (opened_with version card free) e))
 
-  -- 1 to 4 are the fields', and 61 the list's
-  few : (n : ℕ) → 1 ≤ n → n ≤ 4 → (refusal_at version card ≡ n) ↔ (card_refusal version c ≡ n)
+  -- 1 is the flag's or the fields', 2 to 4 are the fields', and 61 the list's
+  one : (refusal_at version card ≡ 1) ↔ ((flag_ok (floor_at version card) ≡ false) ⊎ (card_refusal version c ≡ 1))
   unfolding refusal_at
-  few = full_few version c (services_at version card)
+  one = full_one version c (extension_at version card)
 
-  list_refused : (refusal_at version card ≡ 61) ↔ ((card_refusal version c ≡ 0) × (services_ok (services_at version card) ≡ false))
+  few : (n : ℕ) → 2 ≤ n → n ≤ 4 → (refusal_at version card ≡ n) ↔ ((flag_ok (floor_at version card) ≡ true) × (card_refusal version c ≡ n))
   unfolding refusal_at
-  list_refused = full_61 version c (services_at version card)
+  few = full_few version c (extension_at version card)
+
+  list_refused : (refusal_at version card ≡ 61) ↔ ((flag_ok (floor_at version card) ≡ true) × (card_refusal version c ≡ 0) × (services_ok (services_at version card) ≡ false))
+  unfolding refusal_at
+  list_refused = full_61 version c (extension_at version card)
 
   card_code : length card ≡ card_length version card → (refusal_at version card ≡ 0 → ⊥) → o.code ≡ refusal_at version card
   card_code l h = code_of (unchanged (refusal_at version card) rec free) (is_known ∙ open_card version card rec free l h)
@@ -93,96 +116,107 @@ module _ (version : ℕ) (known : known_version version ≡ true) (card rec free
   open_1 = (λ h. on h (by_card (λ z. omega arith) (λ z. omega arith) (λ z. omega arith)), back)
     where
       by : card_refusal version c ≡ 1 → CardWay c (card_refusal version c) → OpenCase1 version card
-      by h (out_of_range k e) = inr k
+      by h (out_of_range k e) = inr (inl k)
       by h (lower_above k l e) = absurd (omega arith)
       by h (max_low k l m e) = absurd (omega arith)
       by h (nothing k l m s e) = absurd (omega arith)
       by h (accepted e) = absurd (omega arith)
 
+      which : (flag_ok (floor_at version card) ≡ false) ⊎ (card_refusal version c ≡ 1) → OpenCase1 version card
+      which (inl f) = inr (inr (flag_high (floor_at version card) f))
+      which (inr h) = by h (card_way version c)
+
       on : o.code ≡ 1 → ((length card ≡ card_length version card → ⊥) × (o.code ≡ 1)) ⊎ ((length card ≡ card_length version card) × (refusal_at version card ≡ o.code)) → OpenCase1 version card
       on h (inl x) = inl x.0
-      on h (inr x) = by ((few 1 (omega arith) (omega arith)).0 (x.1 ∙ h)) (card_way version c)
+      on h (inr x) = which (one.0 (x.1 ∙ h))
 
-      long : card_in_range c ≡ false → Dec (length card ≡ card_length version card) → o.code ≡ 1
-      long k (yes l) = let r = (few 1 (omega arith) (omega arith)).1 (card_1 version c k) in card_code l (λ z. omega arith) ∙ r
+      long : (flag_ok (floor_at version card) ≡ false) ⊎ (card_refusal version c ≡ 1) → Dec (length card ≡ card_length version card) → o.code ≡ 1
+      long k (yes l) = let r = one.1 k in card_code l (λ z. omega arith) ∙ r
       long k (no l) = code_of (unchanged 1 rec free) (is_known ∙ open_length version card rec free l)
 
       back : OpenCase1 version card → o.code ≡ 1
       back (inl l) = code_of (unchanged 1 rec free) (is_known ∙ open_length version card rec free l)
-      back (inr k) = long k (ℕ_discrete (length card) (card_length version card))
+      back (inr (inl k)) = long (inr (card_1 version c k)) (ℕ_discrete (length card) (card_length version card))
+      back (inr (inr k)) = long (inl (high_flag (floor_at version card) k)) (ℕ_discrete (length card) (card_length version card))
 
   pub open_2 : ((open_of version card rec free).code ≡ 2) ↔ OpenCase2 version card
   open_2 = (λ h. on h (by_card (λ z. omega arith) (λ z. omega arith) (λ z. omega arith)), back)
     where
-      by : length card ≡ card_length version card → card_refusal version c ≡ 2 → CardWay c (card_refusal version c) → OpenCase2 version card
-      by x h (out_of_range k e) = absurd (omega arith)
-      by x h (lower_above k l e) = record { in_range = record { long = x; fields = k }; lower_above = (lower_above_is c k).0 l }
-      by x h (max_low k l m e) = absurd (omega arith)
-      by x h (nothing k l m s e) = absurd (omega arith)
-      by x h (accepted e) = absurd (omega arith)
+      by : length card ≡ card_length version card → floor_at version card ≤ 1 → card_refusal version c ≡ 2 → CardWay c (card_refusal version c) → OpenCase2 version card
+      by x f h (out_of_range k e) = absurd (omega arith)
+      by x f h (lower_above k l e) = record { in_range = record { long = x; fields = k; flag = f }; lower_above = (lower_above_is c k).0 l }
+      by x f h (max_low k l m e) = absurd (omega arith)
+      by x f h (nothing k l m s e) = absurd (omega arith)
+      by x f h (accepted e) = absurd (omega arith)
 
       on : o.code ≡ 2 → ((length card ≡ card_length version card → ⊥) × (o.code ≡ 1)) ⊎ ((length card ≡ card_length version card) × (refusal_at version card ≡ o.code)) → OpenCase2 version card
       on h (inl x) = absurd (omega arith)
-      on h (inr x) = by x.0 ((few 2 (omega arith) (omega arith)).0 (x.1 ∙ h)) (card_way version c)
+      on h (inr x) = let p = (few 2 (omega arith) (omega arith)).0 (x.1 ∙ h) in by x.0 (flag_low (floor_at version card) p.0) p.1 (card_way version c)
 
       back : OpenCase2 version card → o.code ≡ 2
       back x =
           let k = x.in_range.fields in
-          let r = (few 2 (omega arith) (omega arith)).1 (card_2 version c k ((lower_above_is c k).1 x.lower_above)) in
+          let r = (few 2 (omega arith) (omega arith)).1 (low_flag (floor_at version card) x.in_range.flag, card_2 version c k ((lower_above_is c k).1 x.lower_above)) in
           card_code x.in_range.long (λ z. omega arith) ∙ r
 
   pub open_3 : ((open_of version card rec free).code ≡ 3) ↔ OpenCase3 version card
   open_3 = (λ h. on h (by_card (λ z. omega arith) (λ z. omega arith) (λ z. omega arith)), back)
     where
-      by : length card ≡ card_length version card → card_refusal version c ≡ 3 → CardWay c (card_refusal version c) → OpenCase3 version card
-      by x h (out_of_range k e) = absurd (omega arith)
-      by x h (lower_above k l e) = absurd (omega arith)
-      by x h (max_low k l m e) = record { in_range = record { long = x; fields = k }; ordered = l; max_low = m }
-      by x h (nothing k l m s e) = absurd (omega arith)
-      by x h (accepted e) = absurd (omega arith)
+      by : length card ≡ card_length version card → floor_at version card ≤ 1 → card_refusal version c ≡ 3 → CardWay c (card_refusal version c) → OpenCase3 version card
+      by x f h (out_of_range k e) = absurd (omega arith)
+      by x f h (lower_above k l e) = absurd (omega arith)
+      by x f h (max_low k l m e) = record { in_range = record { long = x; fields = k; flag = f }; ordered = l; max_low = m }
+      by x f h (nothing k l m s e) = absurd (omega arith)
+      by x f h (accepted e) = absurd (omega arith)
 
       on : o.code ≡ 3 → ((length card ≡ card_length version card → ⊥) × (o.code ≡ 1)) ⊎ ((length card ≡ card_length version card) × (refusal_at version card ≡ o.code)) → OpenCase3 version card
       on h (inl x) = absurd (omega arith)
-      on h (inr x) = by x.0 ((few 3 (omega arith) (omega arith)).0 (x.1 ∙ h)) (card_way version c)
+      on h (inr x) = let p = (few 3 (omega arith) (omega arith)).0 (x.1 ∙ h) in by x.0 (flag_low (floor_at version card) p.0) p.1 (card_way version c)
 
       back : OpenCase3 version card → o.code ≡ 3
       back x =
-          let r = (few 3 (omega arith) (omega arith)).1 (card_3 version c x.in_range.fields x.ordered x.max_low) in
+          let r = (few 3 (omega arith) (omega arith)).1 (low_flag (floor_at version card) x.in_range.flag, card_3 version c x.in_range.fields x.ordered x.max_low) in
           card_code x.in_range.long (λ z. omega arith) ∙ r
 
   pub open_4 : ((open_of version card rec free).code ≡ 4) ↔ OpenCase4 version card
   open_4 = (λ h. on h (by_card (λ z. omega arith) (λ z. omega arith) (λ z. omega arith)), back)
     where
-      by : length card ≡ card_length version card → card_refusal version c ≡ 4 → CardWay c (card_refusal version c) → OpenCase4 version card
-      by x h (out_of_range k e) = absurd (omega arith)
-      by x h (lower_above k l e) = absurd (omega arith)
-      by x h (max_low k l m e) = absurd (omega arith)
-      by x h (nothing k l m s e) = record { in_range = record { long = x; fields = k }; ordered = l; warm = (max_above_is c k).0 m; nothing_to_store = s }
-      by x h (accepted e) = absurd (omega arith)
+      by : length card ≡ card_length version card → floor_at version card ≤ 1 → card_refusal version c ≡ 4 → CardWay c (card_refusal version c) → OpenCase4 version card
+      by x f h (out_of_range k e) = absurd (omega arith)
+      by x f h (lower_above k l e) = absurd (omega arith)
+      by x f h (max_low k l m e) = absurd (omega arith)
+      by x f h (nothing k l m s e) = record { in_range = record { long = x; fields = k; flag = f }; ordered = l; warm = (max_above_is c k).0 m; nothing_to_store = s }
+      by x f h (accepted e) = absurd (omega arith)
 
       on : o.code ≡ 4 → ((length card ≡ card_length version card → ⊥) × (o.code ≡ 1)) ⊎ ((length card ≡ card_length version card) × (refusal_at version card ≡ o.code)) → OpenCase4 version card
       on h (inl x) = absurd (omega arith)
-      on h (inr x) = by x.0 ((few 4 (omega arith) (omega arith)).0 (x.1 ∙ h)) (card_way version c)
+      on h (inr x) = let p = (few 4 (omega arith) (omega arith)).0 (x.1 ∙ h) in by x.0 (flag_low (floor_at version card) p.0) p.1 (card_way version c)
 
       back : OpenCase4 version card → o.code ≡ 4
       back x =
           let k = x.in_range.fields in
-          let r = (few 4 (omega arith) (omega arith)).1 (card_4 version c k x.ordered ((max_above_is c k).1 x.warm) x.nothing_to_store) in
+          let r = (few 4 (omega arith) (omega arith)).1 (low_flag (floor_at version card) x.in_range.flag, card_4 version c k x.ordered ((max_above_is c k).1 x.warm) x.nothing_to_store) in
           card_code x.in_range.long (λ z. omega arith) ∙ r
 
   -- a refused card's number is a card's
   refused_number : (refusal_at version card ≡ 0 → ⊥) → (n : ℕ) → o ≡ unchanged (refusal_at version card) rec free → o.code ≡ n → CardRefusal n
   unfolding refusal_at
   refused_number a n e h =
-      subst CardRefusal (sym (code_of (unchanged (refusal_at version card) rec free) e) ∙ h) (full_refusal_lem version c (services_at version card) a)
+      subst CardRefusal (sym (code_of (unchanged (refusal_at version card) rec free) e) ∙ h) (full_refusal_lem version c (extension_at version card) a)
 
   pub open_61 : ((open_of version card rec free).code ≡ 61) ↔ OpenCase61 version card
   open_61 = (λ h. on h (by_card (λ z. omega arith) (λ z. omega arith) (λ z. omega arith)), back)
     where
-      by : length card ≡ card_length version card → (card_refusal version c ≡ 0) × (services_ok (services_at version card) ≡ false) → (t : Bool) → lists_services version ≡ t → OpenCase61 version card
+      by : length card ≡ card_length version card → (flag_ok (floor_at version card) ≡ true) × (card_refusal version c ≡ 0) × (services_ok (services_at version card) ≡ false) → (t : Bool) → lists_services version ≡ t → OpenCase61 version card
       by l x true t =
-          record { long = l; fields = x.0; lists = t; list = (services_exactly (service_at card) (get_or card count_place 0)).0 (sym (ap services_ok (services_listed version card t)) ∙ x.1) }
-      by l x false t = no_both (sym ok_none ∙ sym (ap services_ok (services_none version card t)) ∙ x.1)
+          record {
+            long = l;
+            fields = x.1;
+            flag = flag_low (floor_at version card) x.0;
+            lists = t;
+            list = (services_exactly (service_at card) (get_or card count_place 0)).0 (sym (ap services_ok (services_listed version card t)) ∙ x.2);
+          }
+      by l x false t = no_both (sym ok_none ∙ sym (ap services_ok (services_none version card t)) ∙ x.2)
 
       on : o.code ≡ 61 → ((length card ≡ card_length version card → ⊥) × (o.code ≡ 1)) ⊎ ((length card ≡ card_length version card) × (refusal_at version card ≡ o.code)) → OpenCase61 version card
       on h (inl x) = absurd (omega arith)
@@ -191,7 +225,7 @@ module _ (version : ℕ) (known : known_version version ≡ true) (card rec free
       back : OpenCase61 version card → o.code ≡ 61
       back x =
           let bad = ap services_ok (services_listed version card x.lists) ∙ (services_exactly (service_at card) (get_or card count_place 0)).1 x.list in
-          let r = list_refused.1 (x.fields, bad) in
+          let r = list_refused.1 (low_flag (floor_at version card) x.flag, x.fields, bad) in
           card_code x.long (λ z. omega arith) ∙ r
 
   pub open_10 : ((open_of version card rec free).code ≡ 10) ↔ OpenCase10 version card rec

@@ -8,18 +8,18 @@ use Rattle.refusals.specs.declared.Refusal.{Refusal}
 use Rattle.battery.specs.Ledger.{whole as whole_of, ledger_of}
 use Rattle.battery.specs.declared.Ledger.{Ledger}
 use Rattle.battery.specs.declared.Reply.{Reply}
-use Rattle.entries.specs.Record.{Advanced, answered_with, advanced_of, own_services, services_of, with_battery, own_advanced}
+use Rattle.entries.specs.Record.{Advanced, answered_with, advanced_of, extension_of, with_battery, own_advanced}
 use Rattle.entries.specs.declared.own_record.OwnRecord.{OwnRecord}
 
 -- the record with its totals renewed, where the call is answered, and these zones
 abbrev pub after : OwnRecord → Result Reply Refusal → List Float → OwnRecord
 after h r zs = with_battery h (answered_with (ledger_of h.battery) r zs).battery
 
--- what `advance_apart` says of the lent zones and services, of the record itself
+-- what `advance_apart` says of the lent zones and extension, of the record itself
 module _ (version : ℕ) (h : OwnRecord) (l : Ledger) (r : Result Reply Refusal) (zs : List Float) (call : List ℕ) (e : l ≡ ledger_of h.battery)
-    (said : answered_with l r zs ≡ advanced_of version (own_services version h.services h.numbers h.classes) (whole_of l h.battery.zones) call) where
-  told : answered_with (ledger_of h.battery) r zs ≡ advanced_of version (services_of version h) h.battery call
-  told = subst (λ (m : Ledger). answered_with m r zs ≡ advanced_of version (services_of version h) (whole_of m h.battery.zones) call) e said
+    (said : answered_with l r zs ≡ advanced_of version (extension_of version h) (whole_of l h.battery.zones) call) where
+  told : answered_with (ledger_of h.battery) r zs ≡ advanced_of version (extension_of version h) h.battery call
+  told = subst (λ (m : Ledger). answered_with m r zs ≡ advanced_of version (extension_of version h) (whole_of m h.battery.zones) call) e said
 
   pub shown_told : (answered_with (ledger_of h.battery) r zs).shown ≡ (own_advanced version h call).shown
   unfolding own_advanced

@@ -2,13 +2,13 @@
 use Rattle.std.specs.Prelude.{ℕ, ◌+◌, ◌≤◌, ◌≡◌, List, [], ◌∷◌, ◌++◌, Bool, true, cond, ◌||◌, eqb, length, take, drop, Option, Some, None}
 use Rattle.refusals.specs.Refusals.{bad_call, no_room, no_version}
 use Rattle.codec.specs.Bytes.{be_at}
-use Rattle.card.specs.Services.{Service, services_ok}
+use Rattle.card.specs.Extension.{Extension, extension_ok}
 use Rattle.battery.specs.Answer.{refused_with}
 use Rattle.battery.specs.Battery.{fresh, GoodBattery}
 use Rattle.battery.specs.declared.Battery.{Battery}
 use Rattle.battery.specs.declared.Answer.{Answer}
 use Rattle.engine.specs.Steps.{step_of}
-use Rattle.sheet_records.specs.Cards.{card_length, card_at, services_at}
+use Rattle.sheet_records.specs.Cards.{card_length, card_at, extension_at}
 use Rattle.sheet_records.specs.Records.{record_bytes}
 use Rattle.sheet_calls.specs.Calls.{call_of}
 use Rattle.sheet_lines.specs.Lines.{line_bytes, opening_length, opening_bytes}
@@ -94,39 +94,39 @@ spared_of version card rec free calls =
     let o = open_of version card rec free in
     spared o.record' (drop (opening_length version card) o.sheet) calls
 
--- ---- the steps on a card that lists these services, fed a call's kind and fields, never an answer
+-- ---- the steps on a card with this extension, fed a call's kind and fields, never an answer
 
 unfoldable pub answer_read : ℕ → Battery → Option Call → Answer
 answer_read version battery (Some c) = step_of version battery c
 answer_read version battery None = refused_with bad_call battery
 
-unfoldable pub answer_to : ℕ → List Service → Battery → List ℕ → Answer
-answer_to version services battery call = answer_read version battery (call_of version services call)
+unfoldable pub answer_to : ℕ → Extension → Battery → List ℕ → Answer
+answer_to version extension battery call = answer_read version battery (call_of version extension call)
 
 -- their state after a list of calls, and the lines with their answers
-unfoldable pub state_after : ℕ → List Service → Battery → List (List ℕ) → Battery
-state_after version services battery [] = battery
-state_after version services battery (call ∷ calls) = state_after version services (answer_to version services battery call).battery calls
+unfoldable pub state_after : ℕ → Extension → Battery → List (List ℕ) → Battery
+state_after version extension battery [] = battery
+state_after version extension battery (call ∷ calls) = state_after version extension (answer_to version extension battery call).battery calls
 
-unfoldable pub step_lines : ℕ → List Service → Battery → List (List ℕ) → List ℕ
-step_lines version services battery [] = []
-step_lines version services battery (call ∷ calls) =
-    line_bytes version call (answer_to version services battery call) ++ step_lines version services (answer_to version services battery call).battery calls
+unfoldable pub step_lines : ℕ → Extension → Battery → List (List ℕ) → List ℕ
+step_lines version extension battery [] = []
+step_lines version extension battery (call ∷ calls) =
+    line_bytes version call (answer_to version extension battery call) ++ step_lines version extension (answer_to version extension battery call).battery calls
 
 -- ---- the two agree
 
--- a record that is the encoding of a good battery, with the bytes of its card and accepted services
+-- a record that is the encoding of a good battery, with the bytes of its card and an accepted extension
 pub record Encoded (version : ℕ) (card : List ℕ) (battery : Battery) (rec : List ℕ) : Type 0 where
   pub long : length card ≡ card_length version card
   pub card_read : card_at version card ≡ battery.card
-  pub listed : services_ok (services_at version card) ≡ true
+  pub extended : extension_ok (extension_at version card) ≡ true
   pub good : GoodBattery version battery
   pub bytes : rec ≡ record_bytes version card battery
 
 -- after the calls: each line and the record are the encodings of the steps' answer and state, the lines lie within the lent part, and the bytes after are as before
 pub record SameAsSteps (version : ℕ) (card : List ℕ) (battery : Battery) (rec free : List ℕ) (calls : List ListedCall) : Type 0 where
-  pub lines : written rec free calls ≡ step_lines version (services_at version card) battery (spared rec free calls)
-  pub encoded : Encoded version card (state_after version (services_at version card) battery (spared rec free calls)) (record_after rec free calls)
+  pub lines : written rec free calls ≡ step_lines version (extension_at version card) battery (spared rec free calls)
+  pub encoded : Encoded version card (state_after version (extension_at version card) battery (spared rec free calls)) (record_after rec free calls)
   pub fits : length (written rec free calls) ≤ length free
   pub following : free_after rec free calls ≡ drop (length (written rec free calls)) free
 
@@ -134,7 +134,7 @@ pub record SameAsSteps (version : ℕ) (card : List ℕ) (battery : Battery) (re
 pub record SheetOfSteps (version : ℕ) (card rec free : List ℕ) (calls : List ListedCall) : Type 0 where
   pub sheet :
       sheet_of version card rec free calls
-      ≡ opening_bytes version card ++ step_lines version (services_at version card) (fresh (card_at version card)) (spared_of version card rec free calls)
-  pub encoded : Encoded version card (state_after version (services_at version card) (fresh (card_at version card)) (spared_of version card rec free calls)) (last_record version card rec free calls)
+      ≡ opening_bytes version card ++ step_lines version (extension_at version card) (fresh (card_at version card)) (spared_of version card rec free calls)
+  pub encoded : Encoded version card (state_after version (extension_at version card) (fresh (card_at version card)) (spared_of version card rec free calls)) (last_record version card rec free calls)
   pub fits : length (sheet_of version card rec free calls) ≤ length free
   pub following : free_after_sheet version card rec free calls ≡ drop (length (sheet_of version card rec free calls)) free

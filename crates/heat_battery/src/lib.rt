@@ -5,7 +5,7 @@
 
 ghost use Rattle.std.specs.Prelude.{◌≡◌, true};
 ghost use Rattle.battery.specs.Battery.{battery_accepted};
-ghost use Rattle.sheet_records.specs.Cards.{card_at, services_at};
+ghost use Rattle.sheet_records.specs.Cards.{card_at, extension_at};
 ghost use Rattle.sheet_records.specs.Records.{record_of};
 ghost use Rattle.sheet_calls.specs.Calls.{call_of};
 ghost use Rattle.auditor.specs.Rules.{plain};
@@ -17,7 +17,7 @@ ghost use Rattle.heat_battery.specs.Entries.{entry_read, entry_known, entry_of};
 use auditor::AuditVerdict;
 use battery::Battery;
 use card::Card;
-use entries::own_record::{OwnRecord, OwnServices, Shown};
+use entries::own_record::{OwnExtension, OwnRecord, Shown};
 use refusals::Refusal;
 use sheet_records::cards::CardBytes;
 
@@ -48,7 +48,7 @@ fn advance(
     sheet: &mut [u8],
 ) -> Result<u8, Refusal>
     requires { (record_laid version «record».old ≡ true) × (battery ≡ record_of version «record».old) × (battery_accepted version battery ≡ true) }
-    ensures { WasAfter (entry_read version «record».old call.now sheet.old (call_of version (services_at version «record».old) call.now)) (shown_number result) «record».new sheet.new }
+    ensures { WasAfter (entry_read version «record».old call.now sheet.old (call_of version (extension_at version «record».old) call.now)) (shown_number result) «record».new sheet.new }
 {
     let Some(kind) = sheet_calls::kind_of(version, call) else {
         return Err(Refusal::BadCall);
@@ -58,7 +58,8 @@ fn advance(
         bytes: record,
     };
     let class = sheet_calls::demand_class(version, &listed, kind, call);
-    let Some(read) = sheet_calls::call_by(version, kind, class, call) else {
+    let floor = card::extension::has_floor(&listed);
+    let Some(read) = sheet_calls::call_by(version, kind, class, floor, call) else {
         return Err(Refusal::BadCall);
     };
     let a = engine::steps::advance(version, battery, read);
@@ -74,7 +75,7 @@ fn with_card(
     sheet: &mut [u8],
 ) -> Result<u8, Refusal>
     requires { (record_laid version «record».old ≡ true) × (card ≡ card_at version «record».old) }
-    ensures { WasAfter (entry_read version «record».old call.now sheet.old (call_of version (services_at version «record».old) call.now)) (shown_number result) «record».new sheet.new }
+    ensures { WasAfter (entry_read version «record».old call.now sheet.old (call_of version (extension_at version «record».old) call.now)) (shown_number result) «record».new sheet.new }
 {
     let b = sheet_records::read_record(version, card, record);
     if !entries::record_accepted(version, b) {
@@ -142,13 +143,14 @@ pub extern "C" fn heat_battery_advance(version: u8, own: &mut OwnRecord, call: &
     ensures { (result ≡ (own_advanced version own.old call.now).shown) × (own.new ≡ (own_advanced version own.old call.now).own) }
 {
     let l = battery::ledger_of(own.battery);
-    let services = OwnServices {
+    let extension = OwnExtension {
         version,
         count: own.services,
         numbers: &own.numbers,
         classes: &own.classes,
+        floor: own.floor,
     };
-    match entries::own_record::advance_apart(l, services, call, &mut own.battery.zones) {
+    match entries::own_record::advance_apart(l, extension, call, &mut own.battery.zones) {
         Ok(reply) => {
             own.battery.set_totals(reply.totals);
             Shown::from(reply)

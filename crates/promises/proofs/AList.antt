@@ -10,7 +10,7 @@ use Rattle.card.specs.Version.{known_version}
 use Rattle.card.proofs.Versions.{known_byte}
 use Rattle.battery.specs.Battery.{fresh}
 use Rattle.battery.specs.declared.Battery.{Battery}
-use Rattle.sheet_records.specs.Cards.{card_length, card_at, services_at}
+use Rattle.sheet_records.specs.Cards.{card_length, card_at, extension_at}
 use Rattle.sheet_records.proofs.CardLaws.{card_below}
 use Rattle.sheet_records.specs.Records.{record_bytes}
 use Rattle.sheet_lines.specs.Answers.{AcceptsItself}
@@ -36,15 +36,15 @@ module _ (rules : Rules) (self : AcceptsItself rules.same) (version : ℕ) (know
   abbrev spare : List (List ℕ)
   spare = spared_of version card rec free calls
 
-  all_good : AllGood version (services_at version card) (card_at version card) spare
+  all_good : AllGood version (extension_at version card) (card_at version card) spare
   unfolding fresh
   all_good =
       rw (spared_is version known card rec free h calls)
       (spared_good version known card calls given b (record_bytes version card b) (drop (length (opening_bytes version card)) free) (fresh_encoded version card h.card_good))
 
-  up : LinedUp rules.same version (services_at version card) (card_at version card) b spare
+  up : LinedUp rules.same version (extension_at version card) (card_at version card) b spare
   unfolding fresh
-  up = lined_up rules.same self version (services_at version card) (card_at version card) spare b (fresh_encoded version card h.card_good).good refl all_good
+  up = lined_up rules.same self version (extension_at version card) (card_at version card) spare b (fresh_encoded version card h.card_good).good refl all_good
 
   a_sheet : rules.test version (card_at version card) ≡ true → Sheet rules (sheet_of version card rec free calls) (length spare)
   unfolding steps_from
@@ -62,11 +62,11 @@ module _ (rules : Rules) (self : AcceptsItself rules.same) (version : ℕ) (know
           two = length_be_bytes 2 (card_length version card);
           counts = be_be_bytes 2 (card_length version card) (card_below version card h.card_good.accepted);
           long = h.card_good.long;
-          laid = all_laid rules.same version (services_at version card) (card_at version card) b up.lines up.read up.stepped;
+          laid = all_laid rules.same version (extension_at version card) (card_at version card) b up.lines up.read up.stepped;
         };
         accepted = h.card_good.accepted;
         passes = passes;
-        agreed = all_agree rules.same version (services_at version card) (card_at version card) [] b up.lines up.read refl up.stepped;
+        agreed = all_agree rules.same version (extension_at version card) (card_at version card) [] b up.lines up.read refl up.stepped;
         count = up.count;
       }
 

@@ -12,7 +12,7 @@ use Rattle.floats.specs.Constants.{zero}
 use Rattle.floats.proofs.Parts.{number}
 use Rattle.floats.proofs.Order.{eq_sym, eq_trans}
 use Rattle.floats.proofs.SumLaws.{add_respects}
-use Rattle.card.specs.Services.{Service}
+use Rattle.card.specs.Extension.{Extension}
 use Rattle.card.specs.declared.Card.{Card}
 use Rattle.logic.proofs.Tests.{and_true, no_both}
 use Rattle.battery.specs.Battery.{fresh}
@@ -22,7 +22,7 @@ use Rattle.battery.specs.declared.Call.{Call}
 use Rattle.battery.specs.declared.Answer.{Answer}
 use Rattle.engine.specs.Steps.{step_of}
 use Rattle.engine.proofs.StepKeeps.{charge_adds_energy, charged_stays}
-use Rattle.sheet_records.specs.Cards.{card_at, services_at}
+use Rattle.sheet_records.specs.Cards.{card_at, extension_at}
 use Rattle.sheet_lines.specs.Answers.{same_number, agrees}
 use Rattle.auditor.specs.Rules.{Rules, plain, NoLooser}
 use Rattle.auditor.specs.Sheet.{Line, Laid, Sheet}
@@ -34,14 +34,14 @@ use Rattle.auditor.proofs.Exact.{sheet_stepped, plain_sheet}
 use Rattle.auditor.proofs.ReadCalls.{read_charge}
 use Rattle.promises.proofs.Shown.{shown_refusal, shown_energy, shown_charged, charged_number}
 
-module _ (version : ℕ) (services : List Service) (c : Card) (b : Battery) (o : Own version c b) (sum : Float) (same : T (eq sum b.charged)) (l : Line) (call : Call) (laid : Laid version services c l call)
+module _ (version : ℕ) (extension : Extension) (c : Card) (b : Battery) (o : Own version c b) (sum : Float) (same : T (eq sum b.charged)) (l : Line) (call : Call) (laid : Laid version extension c l call)
     (a : agrees same_number (shown version c l) (step_of version b call) ≡ true) where
   abbrev own : Answer
   own = step_of version b call
 
   charges : answered_charge version c l ≡ (is_charge call && eqb own.refusal 0)
   unfolding answered_charge
-  charges = ap₂ (λ (x : Bool) (r : ℕ). x && eqb r 0) (sym (read_charge version services l.call call laid.reads)) (shown_refusal version c l own a)
+  charges = ap₂ (λ (x : Bool) (r : ℕ). x && eqb r 0) (sym (read_charge version extension l.call call laid.reads)) (shown_refusal version c l own a)
 
   -- the sum on the sheet is the steps' total
   by_charge : (t : Bool) → (is_charge call && eqb own.refusal 0) ≡ t → T (eq (cond t (sum ⊕ (shown version c l).energy) sum) own.battery.charged)
@@ -63,20 +63,20 @@ module _ (version : ℕ) (services : List Service) (c : Card) (b : Battery) (o :
       is_true (eq (shown version c l).battery.charged (sum_after version c sum l))
       (eq_trans (shown version c l).battery.charged own.battery.charged (sum_after version c sum l) (shown_charged version c l own a) (eq_sym (sum_after version c sum l) own.battery.charged kept))
 
-all_summed : (version : ℕ) (services : List Service) (c : Card) (ls : List Line) (calls : List Call) (b : Battery) → Own version c b → (sum : Float) → T (eq sum b.charged) → Stepped same_number version services c b ls calls → AllSummed version c sum ls
-all_summed version services c [] [] b o sum same s = tt
-all_summed version services c [] (call ∷ calls) b o sum same s = absurd s
-all_summed version services c (l ∷ ls) [] b o sum same s = absurd s
-all_summed version services c (l ∷ ls) (call ∷ calls) b o sum same s = (
-  summed version services c b o sum same l call s.0 s.1,
-  all_summed version services c ls calls (step_of version b call).battery (next_own version c b o call) (sum_after version c sum l) (kept version services c b o sum same l call s.0 s.1) s.2,
+all_summed : (version : ℕ) (extension : Extension) (c : Card) (ls : List Line) (calls : List Call) (b : Battery) → Own version c b → (sum : Float) → T (eq sum b.charged) → Stepped same_number version extension c b ls calls → AllSummed version c sum ls
+all_summed version extension c [] [] b o sum same s = tt
+all_summed version extension c [] (call ∷ calls) b o sum same s = absurd s
+all_summed version extension c (l ∷ ls) [] b o sum same s = absurd s
+all_summed version extension c (l ∷ ls) (call ∷ calls) b o sum same s = (
+  summed version extension c b o sum same l call s.0 s.1,
+  all_summed version extension c ls calls (step_of version b call).battery (next_own version c b o call) (sum_after version c sum l) (kept version extension c b o sum same l call s.0 s.1) s.2,
 )
 
 total : (bs : List ℕ) (n : ℕ) (s : Sheet plain bs n) → AllSummed s.version (card_at s.version s.card) zero s.lines
 unfolding fresh of_bits eq
 total bs n s =
     let c = card_at s.version s.card in
-    all_summed s.version (services_at s.version s.card) c s.lines s.calls (fresh c) (fresh_own s.version s.card s.accepted) zero tt (sheet_stepped plain bs n s)
+    all_summed s.version (extension_at s.version s.card) c s.lines s.calls (fresh c) (fresh_own s.version s.card s.accepted) zero tt (sheet_stepped plain bs n s)
 
 -- 'The charged sum starts at 0'
 pub charged_total : (rules : Rules) → NoLooser rules → (bs : List ℕ) (n : ℕ) (s : Sheet rules bs n) → AllSummed s.version (card_at s.version s.card) zero s.lines

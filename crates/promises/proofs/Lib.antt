@@ -1,6 +1,6 @@
 pub mod Spared
 pub mod Widened
-pub mod TwoAndThree
+pub mod TwoVersions
 pub mod ServiceClasses
 pub mod Lined
 pub mod AList

@@ -11,20 +11,21 @@ use Rattle.heat_battery.proofs.CallNumbers.{call_20, call_21, call_22, call_23, 
 use Rattle.heat_battery.proofs.OwnCases.{own_10, own_20, own_21, own_22, own_23, own_24, own_25}
 use Rattle.heat_battery.proofs.AnyVersion as any
 use Rattle.heat_battery.proofs.EqualSteps.{sheet_equal_to_steps}
-use Rattle.entries.specs.Record.{services_of, own_advanced}
+use Rattle.entries.specs.Record.{extension_of, own_advanced}
 use Rattle.entries.proofs.OwnRecordLaws.{refused_record_stays, places_above_stay}
 use Rattle.auditor.specs.Audit.{limited_audit_of}
 use Rattle.auditor.proofs.Exact.{exact}
 use Rattle.auditor.proofs.Refusals.{refused_40, refused_41, refused_42, refused_43, refused_44, refused_70, no_other}
 use Rattle.auditor.proofs.Words.{verdict_given, plain_given, same_verdict, word_accepts}
 use Rattle.auditor.proofs.Fields.{fields_accept, fields_refuse, fields_word}
-use Rattle.promises.proofs.Directions.{directions}
+use Rattle.promises.proofs.Directions.{directions, losses_stop}
 use Rattle.promises.proofs.Charged.{charged_total}
-use Rattle.promises.specs.Promises.{OpeningNumbers, CallNumbers, OwnRecordNumbers, AuditVerdicts, AuditorVerdicts, RefusedOpeningChangesNothing, CallWithoutLineChangesNothing, RefusalLineLeavesTheRecord, RefusedOwnRecordStays, PlacesAboveTheCountStay, ServicesStay, EqualToTheSteps, Opening, AcceptsAList, AcceptsAListByRules, ExactlyWhen, ExactlyWhenInC, WordTellsTheVerdict, ExactlyWhenOfAnyLength, FieldsTellTheVerdict, BothAuditsAgree, ZonesMoveTheRightWay, ChargedTotalAddsUp, OpeningRefusals, CallRefusals, OwnRecordRefusals, AuditRefusals, FortyExactlyWhenUnknown, LogarithmsCounted, HydronicTime, RunningTotalsStay, OnlyTheTimeDiffers, ServiceClasses, DemandsAreClassed, EqualAnswers}
+use Rattle.promises.specs.Promises.{OpeningNumbers, CallNumbers, OwnRecordNumbers, AuditVerdicts, AuditorVerdicts, RefusedOpeningChangesNothing, CallWithoutLineChangesNothing, RefusalLineLeavesTheRecord, RefusedOwnRecordStays, PlacesAboveTheCountStay, ExtensionStays, EqualToTheSteps, Opening, AcceptsAList, AcceptsAListByRules, ExactlyWhen, ExactlyWhenInC, WordTellsTheVerdict, ExactlyWhenOfAnyLength, FieldsTellTheVerdict, BothAuditsAgree, ZonesMoveTheRightWay, ChargedTotalAddsUp, OpeningRefusals, CallRefusals, OwnRecordRefusals, AuditRefusals, FortyExactlyWhenUnknown, LogarithmsCounted, HydronicTime, RunningTotalsStay, OnlyTheTimeDiffers, ServiceClasses, DemandsAreClassed, EqualAnswers, LossesStop, OnlyLossesHaveAFloor, EqualWithoutFloor}
 use Rattle.promises.proofs.Numbers.{among_call, among_own}
 use Rattle.promises.proofs.AList.{a_list}
 use Rattle.promises.proofs.ServiceClasses.{service_classes, demands_are_classed}
-use Rattle.promises.proofs.TwoAndThree.{equal_answers}
+use Rattle.promises.proofs.TwoVersions.{equal_answers, equal_without_floor}
+use Rattle.promises.proofs.Widened.{only_losses_read_it}
 
 pub opening_numbers : OpeningNumbers
 opening_numbers = any.open_numbers
@@ -34,7 +35,7 @@ call_numbers version rec call free = among_call _ (any.call_numbers version rec 
 
 pub own_record_numbers : OwnRecordNumbers
 unfolding own_advanced
-own_record_numbers version own call = among_own _ (any.own_numbers version (services_of version own) own.battery call)
+own_record_numbers version own call = among_own _ (any.own_numbers version (extension_of version own) own.battery call)
 
 pub audit_verdicts : AuditVerdicts
 audit_verdicts = plain_given
@@ -57,9 +58,9 @@ refused_own_record_stays = refused_record_stays
 pub places_above_the_count_stay : PlacesAboveTheCountStay
 places_above_the_count_stay = places_above_stay
 
-pub services_stay : ServicesStay
+pub extension_stays : ExtensionStays
 unfolding own_advanced
-services_stay version own call = (refl, refl, refl)
+extension_stays version own call = (refl, refl, refl, refl)
 
 pub equal_to_the_steps : EqualToTheSteps
 equal_to_the_steps = sheet_equal_to_steps
@@ -99,7 +100,7 @@ charged_total_adds_up = charged_total
 
 pub forty_exactly_when_unknown : FortyExactlyWhenUnknown
 unfolding own_advanced
-forty_exactly_when_unknown version = (any.open_40 version, any.call_40 version, λ own call. any.own_40 version (services_of version own) own.battery call)
+forty_exactly_when_unknown version = (any.open_40 version, any.call_40 version, λ own call. any.own_40 version (extension_of version own) own.battery call)
 
 pub opening_refusals : OpeningRefusals
 opening_refusals version known card rec free =
@@ -120,7 +121,7 @@ call_refusals version known rec call free = (
 pub own_record_refusals : OwnRecordRefusals
 unfolding own_advanced
 own_record_refusals version known own call =
-    let s = services_of version own in
+    let s = extension_of version own in
     let b = own.battery in
     (own_10 version known s b call, own_20 version known s b call, own_21 version known s b call, own_22 version known s b call, own_23 version known s b call, own_24 version known s b call, own_25 version known s b call)
 
@@ -148,3 +149,12 @@ demands_are_of_their_class = demands_are_classed
 
 pub equal_answers_given : EqualAnswers
 equal_answers_given = equal_answers
+
+pub losses_stop_at_the_floor : LossesStop
+losses_stop_at_the_floor = losses_stop
+
+pub only_losses_have_a_floor : OnlyLossesHaveAFloor
+only_losses_have_a_floor = only_losses_read_it
+
+pub equal_answers_without_floor : EqualWithoutFloor
+equal_answers_without_floor = equal_without_floor

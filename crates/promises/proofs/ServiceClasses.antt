@@ -1,4 +1,5 @@
 -- The class of a number by an accepted list of services, and of a demand by its bytes.
+use Rattle.card.specs.Extension.{has_floor}
 use Rattle.std.specs.Prelude.{None, Option, Some}
 use Prim.Native.Nat.{ℕ, zero, suc, ◌+◌, ◌≤◌, ◌<◌}
 use mathlib.Core.Path.{◌≡◌, refl, sym, ap, ◌∙◌}
@@ -85,7 +86,7 @@ service_in : Call → ℕ
 service_in (DemandEnergy d) = d.service
 service_in (ChargeElectric power target) = 0
 service_in (ChargeHydronic h) = 0
-service_in HeatLoss = 0
+service_in (HeatLoss floor) = 0
 service_in CloseTimestep = 0
 service_in ReadStateOfCharge = 0
 service_in (ChargeEnergyDemand most target) = 0
@@ -101,11 +102,12 @@ demand_class_lem version class bs demand h =
 
 pub demands_are_classed : DemandsAreClassed
 unfolding call_of call_by demand_class kind_of
-demands_are_classed version services call demand h =
+demands_are_classed version extension call demand h =
     let k = get_or call 0 0 in
-    let class = demand_class version services k call in
-    let e : 1 ≡ k = call_kind version services call (DemandEnergy demand) h in
-    let r : call_by version k class call ≡ Some (DemandEnergy demand) = (test_good (eqb (length call) (call_length version k)) (call_by version k class call) (DemandEnergy demand) h).1 in
-    let q : demand_call version class call ≡ Some (DemandEnergy demand) = ap (λ (n : ℕ). call_by version n class call) e ∙ r in
-    let c : class ≡ cond (lists_services version) (class_of services (be_at call 1 2)) (get_or call 1 0) = ap (λ (n : ℕ). demand_class version services n call) (sym e) in
+    let class = demand_class version extension.services k call in
+    let floor = has_floor extension in
+    let e : 1 ≡ k = call_kind version extension call (DemandEnergy demand) h in
+    let r : call_by version k class floor call ≡ Some (DemandEnergy demand) = (test_good (eqb (length call) (call_length version k)) (call_by version k class floor call) (DemandEnergy demand) h).1 in
+    let q : demand_call version class call ≡ Some (DemandEnergy demand) = ap (λ (n : ℕ). call_by version n class floor call) e ∙ r in
+    let c : class ≡ cond (lists_services version) (class_of extension.services (be_at call 1 2)) (get_or call 1 0) = ap (λ (n : ℕ). demand_class version extension.services n call) (sym e) in
     demand_class_lem version class call demand q ∙ c

@@ -1,8 +1,9 @@
--- Demand 3 on accepted sheets, from their own bytes: directions, and the charged total.
+-- Demand 3 on accepted sheets, from their own bytes: directions, the floor of losses, and the charged total.
 use Rattle.std.specs.Prelude.{ℕ, ◌<◌, ◌≡◌, Bool, true, cond, ◌&&◌, ◌||◌, List, [], ◌∷◌, eqb, get_or, Float}
 use Rattle.std.specs.Float.{nan}
-use Rattle.std.specs.Float.Ieee.{le, eq}
+use Rattle.std.specs.Float.Ieee.{lt, le, eq}
 use Rattle.floats.specs.F64.{◌⊕◌}
+use Rattle.floats.specs.Constants.{room_temperature}
 use Rattle.card.specs.declared.Card.{Card}
 use Rattle.battery.specs.declared.Answer.{Answer}
 use Rattle.sheet_calls.specs.Calls.{commit_place}
@@ -45,6 +46,15 @@ pub record Directed (version : ℕ) (card : Card) (line : Line) (before after : 
 abbrev pub AllDirected : ℕ → Card → (ℕ → Float) → List Line → Type 0
 AllDirected version card before [] = Unit
 AllDirected version card before (l ∷ ls) = Directed version card l before (zones_in version card l) × AllDirected version card (zones_in version card l) ls
+
+-- ---- Document 02, Six: no zone ends under the floor unless it was there, and then it stays
+
+abbrev pub NoneUnder : Card → (ℕ → Float) → (ℕ → Float) → Type 0
+NoneUnder card before after = (i : ℕ) → i < card.layers → lt (after i) room_temperature ≡ true → eq (after i) (before i) ≡ true
+
+abbrev pub AllFloored : ℕ → Card → (ℕ → Float) → List Line → Type 0
+AllFloored version card before [] = Unit
+AllFloored version card before (l ∷ ls) = (kind_in l ≡ 4 → NoneUnder card before (zones_in version card l)) × AllFloored version card (zones_in version card l) ls
 
 -- ---- Charged total: 'Charge lines are kinds 2 and 3'
 

@@ -6,9 +6,9 @@ use Rattle.codec.specs.Bytes.{be_bytes}
 abbrev num : ℕ → List ℕ
 num bits = be_bytes 8 bits
 
--- what stands behind the card's fields in the newest version: one service, 12, for space
-abbrev pub example_list : List ℕ
-example_list = 1 ∷ 0 ∷ 12 ∷ 2 ∷ []
+-- what stands behind the card's fields in the newest version: one service, 12, for space, and the flag
+abbrev pub example_list : ℕ → List ℕ
+example_list flag = 1 ∷ 0 ∷ 12 ∷ 2 ∷ flag ∷ []
 
 -- layers 1, units 1, simultaneous 0, budget 1000; substep 20 s, timestep 1 h; initial inlet 10, estimated outlet 53, max 80, ref 0, lower 48, upper 56;
 -- below 4, during 32, above 2; velocity 0.1, diameter 10, a 0, b 1000, flow 6, losses 0.25, start 40, power 0
@@ -59,3 +59,11 @@ refused_line demand refusal =
 -- the sheet of the two
 abbrev pub example_sheet : ℕ → List ℕ → List ℕ → ℕ → List ℕ
 example_sheet version list demand refusal = example_opening version list ++ charge_line ++ refused_line demand refusal
+
+-- a standing loss at document 01's point 76 °C, in the newest version: with this energy the zone ends here
+abbrev pub point_record : ℕ → ℕ → List ℕ
+point_record flag zone = record_at (example_list flag) zone 0
+
+abbrev pub loss_line : ℕ → ℕ → List ℕ
+loss_line energy zone =
+    be_bytes 2 79 ++ (4 ∷ 0 ∷ num energy) ++ replicate 9 0 ++ num 0 ++ be_bytes 4 1 ++ num zone ++ num 0 ++ num 0 ++ num 0 ++ num 0 ++ num 0

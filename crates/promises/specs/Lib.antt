@@ -1,4 +1,4 @@
 pub mod Promises
 pub mod Example
 pub mod Claims
-pub mod TwoAndThree
+pub mod TwoVersions

@@ -8,6 +8,7 @@ use Rattle.zone.specs.declared.Salt.{Salt}
 use Rattle.zone.specs.Layer.{salt_at}
 use Rattle.card.specs.Version.{known_version, shows_hydronic_time, lists_services}
 use Rattle.card.specs.Services.{Service, listed, BadServices, class_of}
+use Rattle.card.specs.Extension.{Extension}
 use Rattle.card.specs.Derived.{salts_of}
 use Rattle.card.specs.Card.{card_refusal, OneOf, card_refusals}
 use Rattle.card.specs.declared.Card.{Card}
@@ -29,13 +30,13 @@ use Rattle.engine.specs.Steps.{step_of}
 use Rattle.engine.specs.Budget.{hydronic_task_of, hydronic_run_of}
 use Rattle.engine.specs.Times.{TimeRun, with_time}
 use Rattle.engine.specs.Cases.{Case20, Case21, Case22, Case23, Case24, Case25}
-use Rattle.sheet_records.specs.Cards.{card_at, services_at}
+use Rattle.sheet_records.specs.Cards.{card_at, floor_at, extension_at}
 use Rattle.sheet_records.specs.Records.{record_of}
 use Rattle.sheet_calls.specs.Calls.{call_of}
 use Rattle.sheet_lines.specs.Answers.{AcceptsItself}
 use Rattle.sheet_lines.specs.Lines.{line_bytes, opening_bytes}
 use Rattle.entries.specs.Entry.{unchanged, open_of}
-use Rattle.entries.specs.Record.{services_of, own_advanced}
+use Rattle.entries.specs.Record.{extension_of, own_advanced}
 use Rattle.entries.specs.declared.own_record.OwnRecord.{OwnRecord}
 use Rattle.heat_battery.specs.Entries.{entry_of}
 use Rattle.heat_battery.specs.Cases.{OpenCase1, OpenCase2, OpenCase3, OpenCase4, OpenCase61, OpenCase10, OpenCase11, Opens, CallCase10, CallCase11, LineCase, OwnCase10, OwnCase}
@@ -45,8 +46,8 @@ use Rattle.auditor.specs.Rules.{Rules, plain, NoLooser}
 use Rattle.auditor.specs.Audit.{limit, audit_of, limited_audit_of, verdict_word, verdict_fields}
 use Rattle.auditor.specs.Sheet.{Sheet}
 use Rattle.auditor.specs.Cases.{NoVersion, NoCard, CardNotTaken, BadLine, Disagrees, Known, Given}
-use Rattle.promises.specs.Claims.{AllDirected, AllSummed}
-use Rattle.promises.specs.TwoAndThree.{in_three, FirstTypes, NoEleven, answers_of, opened_record, opened_rest}
+use Rattle.promises.specs.Claims.{AllDirected, AllFloored, AllSummed}
+use Rattle.promises.specs.TwoVersions.{in_three, in_four, FirstTypes, NoEleven, answers_of, opened_record, opened_rest}
 
 -- ---- 1: 'A caller of any entry, with any numbers and any bytes, gets an answer or a refusal of document 01': the contracts of the five C entries
 -- (crates/heat_battery/src/lib.rt) equate what each returns and leaves with open_of, entry_of and own_advanced of the version that it is given, and with limited_audit_of and audit_of of `plain`; these are their numbers, 0 for an answer
@@ -96,11 +97,12 @@ abbrev pub PlacesAboveTheCountStay : Type 0
 PlacesAboveTheCountStay =
     (version : ℕ) (own : OwnRecord) (call : List ℕ) → SameAbove own.battery.card.layers own.battery.zones (own_advanced version own call).own.battery.zones
 
--- and so do its services, whatever they hold, read or not
-abbrev pub ServicesStay : Type 0
-ServicesStay =
+-- and so do its services and its flag, whatever they hold, read or not
+abbrev pub ExtensionStays : Type 0
+ExtensionStays =
     (version : ℕ) (own : OwnRecord) (call : List ℕ)
     → ((own_advanced version own call).own.services ≡ own.services) × ((own_advanced version own call).own.numbers ≡ own.numbers) × ((own_advanced version own call).own.classes ≡ own.classes)
+    × ((own_advanced version own call).own.floor ≡ own.floor)
 
 -- ---- 2: 'engine, sheet writer and sheet reader are proved against 01's steps'
 
@@ -124,7 +126,7 @@ pub record AList (rules : Rules) (version : ℕ) (card rec free : List ℕ) (cal
   -- the version, line 0 and, for each such call in order, a line with the call's own bytes and the steps' answer
   pub bytes :
       sheet_of version card rec free calls
-      ≡ opening_bytes version card ++ step_lines version (services_at version card) (fresh (card_at version card)) (spared_of version card rec free calls)
+      ≡ opening_bytes version card ++ step_lines version (extension_at version card) (fresh (card_at version card)) (spared_of version card rec free calls)
   -- within the buffer
   pub fits : length (sheet_of version card rec free calls) ≤ length free
   -- the bytes after it are as before
@@ -213,13 +215,13 @@ CallRefusals =
 abbrev pub OwnRecordRefusals : Type 0
 OwnRecordRefusals =
     (version : ℕ) → known_version version ≡ true → (own : OwnRecord) (call : List ℕ)
-    → (((own_advanced version own call).shown.refusal ≡ 10) ↔ OwnCase10 version (services_of version own) own.battery call)
-    × (((own_advanced version own call).shown.refusal ≡ 20) ↔ OwnCase Case20 version (services_of version own) own.battery call)
-    × (((own_advanced version own call).shown.refusal ≡ 21) ↔ OwnCase Case21 version (services_of version own) own.battery call)
-    × (((own_advanced version own call).shown.refusal ≡ 22) ↔ OwnCase Case22 version (services_of version own) own.battery call)
-    × (((own_advanced version own call).shown.refusal ≡ 23) ↔ OwnCase (Case23 version) version (services_of version own) own.battery call)
-    × (((own_advanced version own call).shown.refusal ≡ 24) ↔ OwnCase Case24 version (services_of version own) own.battery call)
-    × (((own_advanced version own call).shown.refusal ≡ 25) ↔ OwnCase Case25 version (services_of version own) own.battery call)
+    → (((own_advanced version own call).shown.refusal ≡ 10) ↔ OwnCase10 version (extension_of version own) own.battery call)
+    × (((own_advanced version own call).shown.refusal ≡ 20) ↔ OwnCase Case20 version (extension_of version own) own.battery call)
+    × (((own_advanced version own call).shown.refusal ≡ 21) ↔ OwnCase Case21 version (extension_of version own) own.battery call)
+    × (((own_advanced version own call).shown.refusal ≡ 22) ↔ OwnCase Case22 version (extension_of version own) own.battery call)
+    × (((own_advanced version own call).shown.refusal ≡ 23) ↔ OwnCase (Case23 version) version (extension_of version own) own.battery call)
+    × (((own_advanced version own call).shown.refusal ≡ 24) ↔ OwnCase Case24 version (extension_of version own) own.battery call)
+    × (((own_advanced version own call).shown.refusal ≡ 25) ↔ OwnCase Case25 version (extension_of version own) own.battery call)
 
 -- 70 is given by no audit that takes every card, as document 01's (AuditorVerdicts)
 abbrev pub AuditRefusals : Type 0
@@ -275,8 +277,8 @@ ServiceClasses =
 -- from version 3 on that is the class that a demand has, of a number of two bytes after its kind; before, it is the byte there
 abbrev pub DemandsAreClassed : Type 0
 DemandsAreClassed =
-    (version : ℕ) (services : List Service) (call : List ℕ) (demand : Demand) → call_of version services call ≡ Some (DemandEnergy demand)
-    → demand.service ≡ cond (lists_services version) (class_of services (be_at call 1 2)) (get_or call 1 0)
+    (version : ℕ) (extension : Extension) (call : List ℕ) (demand : Demand) → call_of version extension call ≡ Some (DemandEnergy demand)
+    → demand.service ≡ cond (lists_services version) (class_of extension.services (be_at call 1 2)) (get_or call 1 0)
 
 -- 'A run that uses only types 0 to 3, with 11 nowhere, gives equal answers in versions 2 and 3': any card that opens a sheet of version 2, with any bytes behind it that
 -- open one of version 3, and any calls whatsoever of version 2, given in both layouts
@@ -288,3 +290,26 @@ EqualAnswers =
     → NoEleven (opened_record 3 (fields ++ list) rec₃ free₃) (opened_rest 3 (fields ++ list) rec₃ free₃) (in_three calls)
     → answers_of (opened_record 2 fields rec₂ free₂) (opened_rest 2 fields rec₂ free₂) calls
     ≡ answers_of (opened_record 3 (fields ++ list) rec₃ free₃) (opened_rest 3 (fields ++ list) rec₃ free₃) (in_three calls)
+
+-- Six: 'A loss stops at room temperature.' In each accepted sheet whose card's flag is 1, a zone that is under 16 °C after a standing loss was as it is before it. (That no
+-- zone is warmer is said above, of every version.)
+abbrev pub LossesStop : Type 0
+LossesStop =
+    (rules : Rules) → NoLooser rules → (bs : List ℕ) (n : ℕ) (sheet : Sheet rules bs n) → floor_at sheet.version sheet.card ≡ 1
+    → AllFloored sheet.version (card_at sheet.version sheet.card) (λ i. (card_at sheet.version sheet.card).start) sheet.lines
+
+-- 'a flag, the card's last byte, sets a floor of 16 °C for standing losses', and for nothing else: a call of another kind is read as on a card without it, and the steps know
+-- the flag from the call alone
+abbrev pub OnlyLossesHaveAFloor : Type 0
+OnlyLossesHaveAFloor =
+    (version : ℕ) (extension : Extension) (call : List ℕ) → (get_or call 0 0 ≡ 4 → ⊥) → call_of version extension call ≡ call_of version (record { services = extension.services; floor = 0 }) call
+
+-- 'With the flag 0 the rest is 0 and the oracle is matched as before': any card that opens a sheet of version 3 and, with the flag 0 behind it, one of version 4, and any calls
+-- whatsoever
+abbrev pub EqualWithoutFloor : Type 0
+EqualWithoutFloor =
+    (card rec₃ free₃ rec₄ free₄ : List ℕ) (calls : List ListedCall) → (open_of 3 card rec₃ free₃).code ≡ 0 → (open_of 4 (card ++ (0 ∷ [])) rec₄ free₄).code ≡ 0 → AllGiven 3 calls
+    → NoEleven (opened_record 3 card rec₃ free₃) (opened_rest 3 card rec₃ free₃) calls
+    → NoEleven (opened_record 4 (card ++ (0 ∷ [])) rec₄ free₄) (opened_rest 4 (card ++ (0 ∷ [])) rec₄ free₄) (in_four calls)
+    → answers_of (opened_record 3 card rec₃ free₃) (opened_rest 3 card rec₃ free₃) calls
+    ≡ answers_of (opened_record 4 (card ++ (0 ∷ [])) rec₄ free₄) (opened_rest 4 (card ++ (0 ∷ [])) rec₄ free₄) (in_four calls)

@@ -1,7 +1,7 @@
 // Document 01, module 6: charges, losses, and the energy to a level.
 #![tactic(auto)]
 
-ghost use Rattle.std.specs.Prelude.{◌≡◌, false, ◌≤◌};
+ghost use Rattle.std.specs.Prelude.{◌≡◌, false, ◌≤◌, None};
 ghost use Rattle.std.specs.Float.Ieee.{lt};
 ghost use Rattle.floats.specs.Constants.{zero};
 ghost use Rattle.zone.specs.LentSalts.{lent_salts};
@@ -9,7 +9,7 @@ ghost use Rattle.battery.specs.Ledger.{whole};
 ghost use Rattle.substep.specs.Substep.{charger_heat};
 ghost use Rattle.runs.specs.Runs.{end_refusal};
 ghost use Rattle.runs.specs.Zoned.{AsDefined};
-ghost use Rattle.runs.specs.Charge.{electric_input, electric_ended, charge_electric, hydronic_task, hydronic_start, charge_hydronic, charge_battery, loss_input, loss_ended, battery_heat_loss, energy_deficit, charge_energy_demand};
+ghost use Rattle.runs.specs.Charge.{electric_input, electric_ended, charge_electric, hydronic_task, hydronic_start, charge_hydronic, charge_battery, loss_floor, loss_input, loss_ended, battery_heat_loss, energy_deficit, charge_energy_demand};
 
 use battery::Ledger;
 use battery::lent::Lent;
@@ -128,14 +128,25 @@ pub fn charge_battery<const STEP: usize>(
     }
 }
 
+// The lowest temperature of standing losses, where the card sets a floor.
+#[tactic(auto, unfolding(runs::specs::Charge::loss_floor))]
+fn loss_floor(floor: bool) -> Option<f64>
+    ensures { result ≡ loss_floor floor }
+{
+    if floor {
+        return Some(floats::ROOM_TEMPERATURE_C);
+    }
+    None
+}
+
 // The rated losses over the whole timestep.
 #[tactic(auto, unfolding(runs::specs::Charge::loss_input))]
-fn loss_input(ledger: Ledger) -> SubstepInput
-    ensures { result ≡ loss_input ledger.card }
+fn loss_input(ledger: Ledger, lowest: Option<f64>) -> SubstepInput
+    ensures { result ≡ loss_input ledger.card lowest }
 {
     let card = ledger.card;
     SubstepInput {
-        mode: Mode::Losses,
+        mode: Mode::Losses(lowest),
         inlet: floats::DEFAULT_AMBIENT_TEMPERATURE,
         seconds: card.timestep * floats::SECONDS_PER_HOUR,
         reynold: 0.0,
@@ -162,17 +173,22 @@ fn loss_ended(ledger: Ledger, outcome: Outcome) -> Stopped
     }
 }
 
-// No loss has heat of a charger.
-#[tactic(auto, unfolding(runs::specs::Charge::loss_input, runs::specs::Charge::battery_heat_loss), using(zone::proofs::Salts::salts_at))]
-pub fn battery_heat_loss<const STEP: usize>(lent: Lent<'_, STEP>, zones: &mut [f64; 64]) -> Stopped
-    requires { lt (charger_heat (loss_input lent.ledger.card)).0 zero ≡ false }
-    ensures { AsDefined (end_refusal result.end) result zones.new (battery_heat_loss (whole lent.entry.ledger zones.old)) }
+// No loss has heat of a charger, whatever its floor.
+#[tactic(auto, unfolding(substep::specs::Substep::charger_heat, runs::specs::Charge::loss_input, runs::specs::Charge::battery_heat_loss), using(zone::proofs::Salts::salts_at))]
+pub fn battery_heat_loss<const STEP: usize>(
+    lent: Lent<'_, STEP>,
+    floor: bool,
+    zones: &mut [f64; 64],
+) -> Stopped
+    requires { lt (charger_heat (loss_input lent.ledger.card None)).0 zero ≡ false }
+    ensures { AsDefined (end_refusal result.end) result zones.new (battery_heat_loss (whole lent.entry.ledger zones.old) floor) }
 {
     let ledger = lent.ledger;
     let card = ledger.card;
     let pcm = card::pcm::derived(card);
-    let input = loss_input(ledger);
-    let u = substep_loops::losses::lose_in_place(card, pcm, lent.salts, input, zones);
+    let lowest = loss_floor(floor);
+    let input = loss_input(ledger, lowest);
+    let u = substep_loops::losses::lose_in_place(card, pcm, lent.salts, lowest, input, zones);
     loss_ended(ledger, u)
 }
 

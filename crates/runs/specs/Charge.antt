@@ -1,8 +1,8 @@
 -- Document 01, module 6: `charge_battery_electric`, `battery_heat_loss`, the charge by its source, `calculate_charge_energy_demand`.
-use Rattle.std.specs.Prelude.{cond, Float, Option, Some, None}
+use Rattle.std.specs.Prelude.{Bool, cond, Float, Option, Some, None}
 use Rattle.std.specs.Float.Ieee.{lt, neg}
 use Rattle.floats.specs.F64.{◌⊕◌, ◌⊖◌, ◌⊗◌}
-use Rattle.floats.specs.Constants.{zero, tolerance, max_relative, hour, ambient}
+use Rattle.floats.specs.Constants.{zero, tolerance, max_relative, hour, ambient, room_temperature}
 use Rattle.floats.specs.Standins.{nearly_equal, max_zero, min}
 use Rattle.zone.specs.Heat.{kj, kwh, kilowatt_hours, kilojoules}
 use Rattle.zone.specs.Layer.{Salts, salt_at}
@@ -64,17 +64,22 @@ unfoldable pub charge_battery : Battery → Source → Float → Zoned Stopped
 charge_battery battery (Electric power) target = charge_electric battery power target
 charge_battery battery (Wet wet) target = charge_hydronic battery wet target
 
+-- document 02, Six: 'a floor of 16 °C for standing losses', where the card's flag is 1
+unfoldable pub loss_floor : Bool → Option Float
+loss_floor floor = cond floor (Some room_temperature) None
+
 -- the rated losses over the whole timestep, against 16 °C
-unfoldable pub loss_input : Card → SubstepInput
-loss_input card =
-    record { mode = Losses; inlet = ambient; seconds = card.timestep ⊗ hour; reynold = zero; flow = zero; power = neg card.losses; target = zero; a = card.a; b = card.b }
+unfoldable pub loss_input : Card → Option Float → SubstepInput
+loss_input card lowest =
+    record { mode = Losses lowest; inlet = ambient; seconds = card.timestep ⊗ hour; reynold = zero; flow = zero; power = neg card.losses; target = zero; a = card.a; b = card.b }
 
 unfoldable pub loss_ended : Ledger → Outcome → Stopped
 loss_ended ledger outcome =
     record { energy = kilowatt_hours outcome.delivered; electric = kwh ledger.totals.electric; outlet = zero; time = zero; end = fault_end outcome.fault; substeps = 1 }
 
-unfoldable pub battery_heat_loss : Battery → Zoned Stopped
-battery_heat_loss battery = on_part (loss_ended (ledger_of battery)) (outcome (process_heat_battery_zones battery.card (derived battery.card) (salt_at (salts_of battery.card)) (loss_input battery.card) battery.zones))
+unfoldable pub battery_heat_loss : Battery → Bool → Zoned Stopped
+battery_heat_loss battery floor =
+    on_part (loss_ended (ledger_of battery)) (outcome (process_heat_battery_zones battery.card (derived battery.card) (salt_at (salts_of battery.card)) (loss_input battery.card (loss_floor floor)) battery.zones))
 
 -- the energy to the target level, or to the flow maximum where that is less
 unfoldable pub energy_deficit : Salts → Card → Option Float → Kilojoules → Kilojoules → Kilojoules

@@ -8,7 +8,7 @@ use native.Mathlib.Omega.{arith}
 use borrow.Author.Tests.{eqb-true, ne_eqb}
 use lib.Dec.{eqb}
 use lib.ListN.{length, get_or}
-use Rattle.card.specs.Services.{Service}
+use Rattle.card.specs.Extension.{Extension, has_floor}
 use Rattle.sheet_calls.specs.Calls.{call_length, bare_call, demand_class, call_by, kind_of, call_of}
 use Rattle.sheet_calls.specs.Kinds.{NoKind}
 use Rattle.battery.specs.declared.Call.{Call}
@@ -33,25 +33,25 @@ kind_unknown version [] byte e u = same (eqb 0 (call_length version 0)) 0 refl
 kind_unknown version (b ∷ bs) byte e u = rw (← e, u.length_0 version, ne_eqb (length (b ∷ bs)) 0 (λ z. absurd (omega arith)))
 
 -- kind 0 is no call
-by_kind_lem : ℕ → List Service → List ℕ → ℕ → Option Call
-by_kind_lem version services bs kind = call_by version kind (demand_class version services kind bs) bs
+by_kind_lem : ℕ → Extension → List ℕ → ℕ → Option Call
+by_kind_lem version extension bs kind = call_by version kind (demand_class version extension.services kind bs) (has_floor extension) bs
 
-no_kind : (version kind : ℕ) (services : List Service) (bs : List ℕ) (fits : Bool) → by_kind_lem version services bs (cond fits kind 0) ≡ cond fits (by_kind_lem version services bs kind) None
+no_kind : (version kind : ℕ) (extension : Extension) (bs : List ℕ) (fits : Bool) → by_kind_lem version extension bs (cond fits kind 0) ≡ cond fits (by_kind_lem version extension bs kind) None
 unfolding by_kind_lem call_by bare_call
-no_kind version kind services bs true = refl
-no_kind version kind services bs false = refl
+no_kind version kind extension bs true = refl
+no_kind version kind extension bs false = refl
 
-by_kind : (version : ℕ) (services : List Service) (bs : List ℕ) → by_kind_lem version services bs (kind_of version bs) ≡ call_of version services bs
+by_kind : (version : ℕ) (extension : Extension) (bs : List ℕ) → by_kind_lem version extension bs (kind_of version bs) ≡ call_of version extension bs
 unfolding by_kind_lem kind_of call_of
-by_kind version services bs = no_kind version (get_or bs 0 0) services bs (eqb (length bs) (call_length version (get_or bs 0 0)))
+by_kind version extension bs = no_kind version (get_or bs 0 0) extension bs (eqb (length bs) (call_length version (get_or bs 0 0)))
 
-pub read_by_kind : (version : ℕ) (services : List Service) (bs : List ℕ) (kind class : ℕ) (read : Option Call) → kind ≡ kind_of version bs → class ≡ demand_class version services kind bs
-    → read ≡ call_by version kind class bs → read ≡ call_of version services bs
+pub read_by_kind : (version : ℕ) (extension : Extension) (bs : List ℕ) (kind class : ℕ) (floor : Bool) (read : Option Call) → kind ≡ kind_of version bs
+    → class ≡ demand_class version extension.services kind bs → floor ≡ has_floor extension → read ≡ call_by version kind class floor bs → read ≡ call_of version extension bs
 unfolding by_kind_lem
-read_by_kind version services bs kind class read e c f =
-    f ∙ ap (λ (k : ℕ). call_by version kind k bs) c ∙ ap (by_kind_lem version services bs) e ∙ by_kind version services bs
+read_by_kind version extension bs kind class floor read e c g f =
+    f ∙ ap (λ (t : Bool). call_by version kind class t bs) g ∙ ap (λ (k : ℕ). call_by version kind k (has_floor extension) bs) c ∙ ap (by_kind_lem version extension bs) e ∙ by_kind version extension bs
 
 -- where no kind is read, no call is
-pub none_by_kind : (version : ℕ) (services : List Service) (bs : List ℕ) → 0 ≡ kind_of version bs → call_of version services bs ≡ None
+pub none_by_kind : (version : ℕ) (extension : Extension) (bs : List ℕ) → 0 ≡ kind_of version bs → call_of version extension bs ≡ None
 unfolding by_kind_lem call_by bare_call
-none_by_kind version services bs e = sym (by_kind version services bs) ∙ ap (by_kind_lem version services bs) (sym e)
+none_by_kind version extension bs e = sym (by_kind version extension bs) ∙ ap (by_kind_lem version extension bs) (sym e)

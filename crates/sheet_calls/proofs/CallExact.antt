@@ -2,7 +2,7 @@
 use Rattle.std.specs.Prelude.{Option, Some}
 use mathlib.Core.Path.{◌≡◌, refl, sym, ap, ◌∙◌}
 use mathlib.Core.List.{List}
-use mathlib.Core.Bool.{true, cond, ◌&&◌}
+use mathlib.Core.Bool.{Bool, true, cond, ◌&&◌}
 use mathlib.Core.Logic.{◌⊎◌, inl, inr}
 use Prim.Native.Nat.{ℕ, ◌+◌, ◌≤◌, ◌<◌}
 use native.Mathlib.Decide.{ℕ_discrete, dec_lt}
@@ -14,7 +14,7 @@ use lib.Seq.{get_or-take, get_or-drop}
 use Rattle.codec.specs.Bytes.{be, be_at, f64_at, nth_f64}
 use Rattle.codec.proofs.Places.{zero_bytes, zero_number}
 use Rattle.logic.proofs.Tests.{and_true, true_and}
-use Rattle.card.specs.Services.{Service}
+use Rattle.card.specs.Extension.{Extension, has_floor}
 use Rattle.battery.specs.declared.Call.{Call}
 use Rattle.battery.specs.declared.Call.TheVariants.{DemandEnergy, ChargeElectric, ChargeHydronic, HeatLoss, CloseTimestep, ReadStateOfCharge, ChargeEnergyDemand}
 use Rattle.battery.specs.Kinds.{kind_of}
@@ -61,7 +61,7 @@ unfolding kind_of
 kind_known (DemandEnergy d) = omega arith
 kind_known (ChargeElectric power target) = omega arith
 kind_known (ChargeHydronic h) = omega arith
-kind_known HeatLoss = omega arith
+kind_known (HeatLoss floor) = omega arith
 kind_known CloseTimestep = omega arith
 kind_known ReadStateOfCharge = omega arith
 kind_known (ChargeEnergyDemand most target) = omega arith
@@ -85,19 +85,20 @@ most version bs c h =
     marked bs fields_place (test_good (mark_ok bs fields_place) (Some (ChargeEnergyDemand (given_at bs fields_place) (f64_at bs 10))) c h).0
 
 -- bytes that are read are laid out
-pub call_laid : (version : ℕ) (services : List Service) (bs : List ℕ) (c : Call) → call_of version services bs ≡ Some c → LaidCall version bs
+pub call_laid : (version : ℕ) (extension : Extension) (bs : List ℕ) (c : Call) → call_of version extension bs ≡ Some c → LaidCall version bs
 unfolding call_of call_by Flags
-call_laid version services bs c h =
+call_laid version extension bs c h =
     let k = get_or bs 0 0 in
-    let class = demand_class version services k bs in
-    let r : call_by version k class bs ≡ Some c = (test_good (eqb (length bs) (call_length version k)) (call_by version k class bs) c h).1 in
-    let e = call_kind version services bs c h in
+    let class = demand_class version extension.services k bs in
+    let floor = has_floor extension in
+    let r : call_by version k class floor bs ≡ Some c = (test_good (eqb (length bs) (call_length version k)) (call_by version k class floor bs) c h).1 in
+    let e = call_kind version extension bs c h in
     record {
       from_one = omega (arith, (kind_known c).0, e);
       to_seven = omega (arith, (kind_known c).1, e);
-      long = call_length_lem version services bs c h;
-      demand = λ q. flags version class bs c (ap (λ (n : ℕ). call_by version n class bs) (sym q) ∙ r);
-      flow_maximum = λ q. most version bs c (ap (λ (n : ℕ). call_by version n class bs) (sym q) ∙ r);
+      long = call_length_lem version extension bs c h;
+      demand = λ q. flags version class bs c (ap (λ (n : ℕ). call_by version n class floor bs) (sym q) ∙ r);
+      flow_maximum = λ q. most version bs c (ap (λ (n : ℕ). call_by version n class floor bs) (sym q) ∙ r);
     }
 
 -- what holds of 1 to 7
@@ -117,24 +118,24 @@ seven P p₁ p₂ p₃ p₄ p₅ p₆ p₇ k h l = on (ℕ_discrete k 1) (ℕ_di
 abbrev pub IsRead : Option Call → Type 0
 IsRead r = (c : Call) × (r ≡ Some c)
 
-by_kind : (version class : ℕ) (bs : List ℕ) (k : ℕ) → 1 ≤ k → k ≤ 7 → (k ≡ 1 → Flags version bs) → (k ≡ 7 → Marked bs fields_place) → IsRead (call_by version k class bs)
+by_kind : (version class : ℕ) (floor : Bool) (bs : List ℕ) (k : ℕ) → 1 ≤ k → k ≤ 7 → (k ≡ 1 → Flags version bs) → (k ≡ 7 → Marked bs fields_place) → IsRead (call_by version k class floor bs)
 unfolding call_by bare_call demand_call charge_demand_call Flags
-by_kind version class bs =
-    seven (λ (k : ℕ). (k ≡ 1 → Flags version bs) → (k ≡ 7 → Marked bs fields_place) → IsRead (call_by version k class bs))
+by_kind version class floor bs =
+    seven (λ (k : ℕ). (k ≡ 1 → Flags version bs) → (k ≡ 7 → Marked bs fields_place) → IsRead (call_by version k class floor bs))
     (λ d m. (
       DemandEnergy (demand_at version class bs),
       rw (true_and (le-leb (get_or bs (commit_place version) 0) 1 (d refl).0) (true_and (le-leb (get_or bs (control_place version) 0) 1 (d refl).1) (mark_ok_lem bs (return_place version) (d refl).2))),
     ))
     (λ d m. (ChargeElectric (nth_f64 bs fields_place 0) (nth_f64 bs fields_place 1), refl))
     (λ d m. (ChargeHydronic (hydronic_at version bs), refl))
-    (λ d m. (HeatLoss, refl))
+    (λ d m. (HeatLoss floor, refl))
     (λ d m. (CloseTimestep, refl))
     (λ d m. (ReadStateOfCharge, refl))
     (λ d m. (ChargeEnergyDemand (given_at bs fields_place) (f64_at bs 10), rw (mark_ok_lem bs fields_place (m refl))))
 
 -- bytes that are laid out are read
-pub laid_call : (version : ℕ) (services : List Service) (bs : List ℕ) → LaidCall version bs → IsRead (call_of version services bs)
+pub laid_call : (version : ℕ) (extension : Extension) (bs : List ℕ) → LaidCall version bs → IsRead (call_of version extension bs)
 unfolding call_of Flags
-laid_call version services bs l =
-    let r = by_kind version (demand_class version services (get_or bs 0 0) bs) bs (get_or bs 0 0) l.from_one l.to_seven l.demand l.flow_maximum in
+laid_call version extension bs l =
+    let r = by_kind version (demand_class version extension.services (get_or bs 0 0) bs) (has_floor extension) bs (get_or bs 0 0) l.from_one l.to_seven l.demand l.flow_maximum in
     (r.0, rw (eq-eqb (length bs) (call_length version (get_or bs 0 0)) l.long) r.1)

@@ -4,6 +4,7 @@ use Prim.Native.Nat.{ℕ, ◌≤◌, ◌<◌}
 use native.Mathlib.Decide.{ℕ_discrete}
 use native.Mathlib.Omega.{arith}
 use mathlib.Core.Logic.{◌⊎◌, inl, inr}
+use mathlib.Core.Bool.{Bool}
 use mathlib.Core.List.{List}
 use mathlib.Core.Path.{◌≡◌}
 use borrow.Author.Tests.{ne_eqb}
@@ -28,9 +29,9 @@ module _ (byte : ℕ) (outside : (byte ≡ 0) ⊎ (7 < byte)) where
   unfolding demand_class
   class_0 version services bs = rw (ne_eqb byte 1 (apart 1 (omega arith) (omega arith)))
 
-  no_call : (version class : ℕ) (bs : List ℕ) → call_by version byte class bs ≡ None
+  no_call : (version class : ℕ) (floor : Bool) (bs : List ℕ) → call_by version byte class floor bs ≡ None
   unfolding call_by bare_call
-  no_call version class bs =
+  no_call version class floor bs =
       rw (ne_eqb byte 1 (apart 1 (omega arith) (omega arith)), ne_eqb byte 2 (apart 2 (omega arith) (omega arith)), ne_eqb byte 3 (apart 3 (omega arith) (omega arith)), ne_eqb byte 4 (apart 4 (omega arith) (omega arith)), ne_eqb byte 5 (apart 5 (omega arith) (omega arith)), ne_eqb byte 6 (apart 6 (omega arith) (omega arith)), ne_eqb byte 7 (apart 7 (omega arith) (omega arith)))
 
   pub no_kind : NoKind byte

@@ -3,6 +3,7 @@ use Rattle.std.specs.Prelude.{ℕ, ◌+◌, List, Bool, cond, ◌&&◌, leb, eqb
 use Rattle.codec.specs.Bytes.{be_at, f64_at, nth_f64}
 use Rattle.card.specs.Version.{lists_services}
 use Rattle.card.specs.Services.{Service, class_of}
+use Rattle.card.specs.Extension.{Extension, has_floor}
 use Rattle.battery.specs.declared.Demand.{Demand}
 use Rattle.battery.specs.declared.Hydronic.{Hydronic}
 use Rattle.battery.specs.declared.Call.TheVariants.{DemandEnergy, ChargeElectric, ChargeHydronic, HeatLoss, CloseTimestep, ReadStateOfCharge, ChargeEnergyDemand}
@@ -86,24 +87,24 @@ hydronic_at version bs =
 unfoldable pub charge_demand_call : ℕ → List ℕ → Option Call
 charge_demand_call version bs = cond (mark_ok bs fields_place) (Some (ChargeEnergyDemand (given_at bs fields_place) (f64_at bs 10))) None
 
--- '4 standing loss', '5 close timestep', '6 state of charge': no fields
-unfoldable pub bare_call : ℕ → ℕ → Option Call
-bare_call version kind = cond (eqb kind 4) (Some HeatLoss) (cond (eqb kind 5) (Some CloseTimestep) (cond (eqb kind 6) (Some ReadStateOfCharge) None))
+-- '4 standing loss', with the card's floor or none, '5 close timestep', '6 state of charge': no fields
+unfoldable pub bare_call : ℕ → ℕ → Bool → Option Call
+bare_call version kind floor = cond (eqb kind 4) (Some (HeatLoss floor)) (cond (eqb kind 5) (Some CloseTimestep) (cond (eqb kind 6) (Some ReadStateOfCharge) None))
 
--- the fields of a kind, with a demand's class; '2 electric: power, target'
-unfoldable pub call_by : ℕ → ℕ → ℕ → List ℕ → Option Call
-call_by version kind class bs =
+-- the fields of a kind, with a demand's class, and whether a standing loss has a floor; '2 electric: power, target'
+unfoldable pub call_by : ℕ → ℕ → ℕ → Bool → List ℕ → Option Call
+call_by version kind class floor bs =
     cond (eqb kind 1) (demand_call version class bs)
     (cond (eqb kind 2) (Some (ChargeElectric (nth_f64 bs fields_place 0) (nth_f64 bs fields_place 1)))
     (cond (eqb kind 3) (Some (ChargeHydronic (hydronic_at version bs)))
-    (cond (eqb kind 7) (charge_demand_call version bs) (bare_call version kind))))
+    (cond (eqb kind 7) (charge_demand_call version bs) (bare_call version kind floor))))
 
 -- the kind that a call's bytes begin with, or 0, which is no kind, where they have another length than its calls
 unfoldable pub kind_of : ℕ → List ℕ → ℕ
 kind_of version bs = cond (eqb (length bs) (call_length version (get_or bs 0 0))) (get_or bs 0 0) 0
 
--- a call's bytes on a card that lists these services; bad ones are of another length, of an unknown kind, with a flag or mark other than 0 or 1, or with nonzero bytes under an absent mark
-unfoldable pub call_of : ℕ → List Service → List ℕ → Option Call
-call_of version services bs =
+-- a call's bytes on a card with this extension; bad ones are of another length, of an unknown kind, with a flag or mark other than 0 or 1, or with nonzero bytes under an absent mark
+unfoldable pub call_of : ℕ → Extension → List ℕ → Option Call
+call_of version extension bs =
     let kind = get_or bs 0 0 in
-    cond (eqb (length bs) (call_length version kind)) (call_by version kind (demand_class version services kind bs) bs) None
+    cond (eqb (length bs) (call_length version kind)) (call_by version kind (demand_class version extension.services kind bs) (has_floor extension) bs) None

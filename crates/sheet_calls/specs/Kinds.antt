@@ -1,5 +1,5 @@
 -- Document 01, 'Kinds': the number of each, which is its byte, and what a byte that is no kind gives.
-use Rattle.std.specs.Prelude.{ℕ, ◌≡◌, ◌<◌, ◌⊎◌, List, Option, Some, None, Result, MatchResult}
+use Rattle.std.specs.Prelude.{ℕ, ◌≡◌, ◌<◌, ◌⊎◌, Bool, List, Option, Some, None, Result, MatchResult}
 use Rattle.card.specs.Services.{Service}
 use Rattle.sheet_calls.specs.declared.kind.Kind.{Kind}
 use Rattle.sheet_calls.specs.declared.kind.Kind.TheVariants.{DemandEnergy, ChargeElectric, ChargeHydronic, HeatLoss, CloseTimestep, ReadStateOfCharge, ChargeEnergyDemand}
@@ -25,7 +25,7 @@ pub record NoKind (byte : ℕ) : Type 0 where
   pub outside : (byte ≡ 0) ⊎ (7 < byte)
   pub length_0 : (version : ℕ) → call_length version byte ≡ 0
   pub class_0 : (version : ℕ) (services : List Service) (bs : List ℕ) → demand_class version services byte bs ≡ 0
-  pub no_call : (version class : ℕ) (bs : List ℕ) → call_by version byte class bs ≡ None
+  pub no_call : (version class : ℕ) (floor : Bool) (bs : List ℕ) → call_by version byte class floor bs ≡ None
 
 -- a byte is read as the kind with its number, or as none where no kind has it
 abbrev pub Decodes : ℕ → Result Kind UnknownKind → Type 0

@@ -9,7 +9,7 @@ ghost use Rattle.sheet_calls.specs.Calls.{commit_place, call_length, mark_ok, gi
 ghost use Rattle.sheet_calls.specs.Kinds.{kind_number, kind_number_or_0};
 
 use battery::{Call, Demand, Hydronic};
-use card::services::Services;
+use card::extension::Extended;
 use kind::Kind;
 
 // Place of the first field.
@@ -152,15 +152,15 @@ pub fn kind_of(version: u8, bytes: &[u8]) -> Option<Kind>
 
 // The class of a demand's type by the services that a card lists; 0 for another kind.
 #[tactic(auto, unfolding(crate::specs::Calls::demand_class))]
-pub fn demand_class<S: Services>(version: u8, services: &S, kind: Kind, bytes: &[u8]) -> u8
-    requires { (length (S.list services.now) ≤ S.room services.now) × (call_length version (kind_number kind) ≤ length bytes.now) }
-    ensures { result ≡ demand_class version (S.list services.now) (kind_number kind) bytes.now }
+pub fn demand_class<E: Extended>(version: u8, card: &E, kind: Kind, bytes: &[u8]) -> u8
+    requires { (length (E.extension card.now).services ≤ E.room card.now) × (call_length version (kind_number kind) ≤ length bytes.now) }
+    ensures { result ≡ demand_class version (E.extension card.now).services (kind_number kind) bytes.now }
 {
     match kind {
         Kind::DemandEnergy => {
             if card::version::lists_services(version) {
                 let number = codec::read_u16(bytes, FIELDS);
-                return card::services::class_of(services, number);
+                return card::services::class_of(card, number);
             }
             bytes[FIELDS]
         }
@@ -168,12 +168,12 @@ pub fn demand_class<S: Services>(version: u8, services: &S, kind: Kind, bytes: &
     }
 }
 
-// The call of a kind, with a demand's class, in no fewer bytes than it has; none where they are bad, which A's entry refuses with 10, the auditor
-// with 42.
+// The call of a kind, with a demand's class and a standing loss's floor, in no fewer bytes than it has; none where they are bad, which A's entry
+// refuses with 10, the auditor with 42.
 #[tactic(auto, unfolding(crate::specs::Calls::call_by, crate::specs::Calls::bare_call))]
-pub fn call_by(version: u8, kind: Kind, class: u8, bytes: &[u8]) -> Option<Call>
+pub fn call_by(version: u8, kind: Kind, class: u8, floor: bool, bytes: &[u8]) -> Option<Call>
     requires { call_length version (kind_number kind) ≤ length bytes.now }
-    ensures { result ≡ call_by version (kind_number kind) class bytes.now }
+    ensures { result ≡ call_by version (kind_number kind) class floor bytes.now }
 {
     match kind {
         Kind::DemandEnergy => demand_call(version, class, bytes),
@@ -183,7 +183,7 @@ pub fn call_by(version: u8, kind: Kind, class: u8, bytes: &[u8]) -> Option<Call>
             Some(Call::ChargeElectric(power, target))
         }
         Kind::ChargeHydronic => Some(Call::ChargeHydronic(read_hydronic(version, bytes))),
-        Kind::HeatLoss => Some(Call::HeatLoss),
+        Kind::HeatLoss => Some(Call::HeatLoss(floor)),
         Kind::CloseTimestep => Some(Call::CloseTimestep),
         Kind::ReadStateOfCharge => Some(Call::ReadStateOfCharge),
         Kind::ChargeEnergyDemand => charge_demand_call(version, bytes),

@@ -8,7 +8,7 @@ use lib.Seq.{length-take-le}
 use Rattle.codec.specs.Bytes.{be, be_at, nth_f64, f64_of}
 use Rattle.codec.proofs.Places.{in_front}
 use Rattle.sheet_records.specs.Cards.{card_length, card_at, refusal_at}
-use Rattle.sheet_records.proofs.CardLaws.{card_least, card_length_take, services_front, services_take}
+use Rattle.sheet_records.proofs.CardLaws.{card_least, card_length_take, extension_front, extension_take}
 
 -- a card is read from its own bytes, whatever follows them
 pub card_at_front : (version : ℕ) (card r : List ℕ) → card_length version card ≤ length card → card_at version (card ++ r) ≡ card_at version card
@@ -52,11 +52,11 @@ card_at_take version bs h =
     let k : card_length version (take n bs) ≡ n = card_length_take version bs h in
     sym (card_at_front version (take n bs) (drop n bs) (omega arith)) ∙ ap (card_at version) (take-append-drop n bs)
 
--- so its refusal, its services' too, hangs on them alone
+-- so its refusal, its extension's too, hangs on them alone
 pub refusal_at_front : (version : ℕ) (card r : List ℕ) → card_length version card ≤ length card → refusal_at version (card ++ r) ≡ refusal_at version card
 unfolding refusal_at
-refusal_at_front version card r h = rw (card_at_front version card r h, services_front version card r h)
+refusal_at_front version card r h = rw (card_at_front version card r h, extension_front version card r h)
 
 pub refusal_at_take : (version : ℕ) (bs : List ℕ) → card_length version bs ≤ length bs → refusal_at version (take (card_length version bs) bs) ≡ refusal_at version bs
 unfolding refusal_at
-refusal_at_take version bs h = rw (card_at_take version bs h, services_take version bs h)
+refusal_at_take version bs h = rw (card_at_take version bs h, extension_take version bs h)

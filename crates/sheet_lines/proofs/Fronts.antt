@@ -11,7 +11,7 @@ use lib.ListN.{length, take, drop, get_or, length-drop}
 use lib.Seq.{length-take-le, get_or-take, get_or-drop}
 use Rattle.logic.proofs.Branch.{three_tests}
 use Rattle.codec.specs.Bytes.{be_at}
-use Rattle.card.specs.Services.{Service}
+use Rattle.card.specs.Extension.{Extension, has_floor}
 use Rattle.card.specs.declared.Card.{Card}
 use Rattle.sheet_calls.specs.Kinds.{kind_number}
 use Rattle.sheet_calls.specs.Calls.{call_length, demand_class, call_by, call_of}
@@ -57,11 +57,11 @@ module _ (version : ℕ) (c : Card) (bs : List ℕ) where
   unfolding call_part
   kind_part f = get_or-take (line_call_length version bs) (drop 2 bs) 0 0 f.known ∙ get_or-drop 2 bs 0 0
 
-  pub call_known : (services : List Service) → Front version c bs
-      → call_of version services (call_part version bs) ≡ call_by version (get_or bs 2 0) (demand_class version services (get_or bs 2 0) (call_part version bs)) (call_part version bs)
-  call_known services f =
-      call_by_lem version services (call_part version bs) (call_long f ∙ ap (call_length version) (sym (kind_part f)))
-      ∙ ap (λ (k : ℕ). call_by version k (demand_class version services k (call_part version bs)) (call_part version bs)) (kind_part f)
+  pub call_known : (extension : Extension) → Front version c bs
+      → call_of version extension (call_part version bs) ≡ call_by version (get_or bs 2 0) (demand_class version extension.services (get_or bs 2 0) (call_part version bs)) (has_floor extension) (call_part version bs)
+  call_known extension f =
+      call_by_lem version extension (call_part version bs) (call_long f ∙ ap (call_length version) (sym (kind_part f)))
+      ∙ ap (λ (k : ℕ). call_by version k (demand_class version extension.services k (call_part version bs)) (has_floor extension) (call_part version bs)) (kind_part f)
 
 -- what a head in order tells: the line's parts are the slices that the code takes by it
 pub record Headed (version : ℕ) (c : Card) (bs : List ℕ) (h : LineHead) : Type 0 where

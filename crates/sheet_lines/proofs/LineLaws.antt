@@ -11,7 +11,7 @@ use Rattle.floats.specs.Constants as Constants
 use Rattle.codec.specs.Bytes.{be_at, be_bytes, f64_bytes}
 use Rattle.codec.proofs.Laws.{length_be_bytes}
 use Rattle.codec.proofs.Places.{bytes_here, number_here, byte_here}
-use Rattle.card.specs.Services.{Service}
+use Rattle.card.specs.Extension.{Extension}
 use Rattle.card.specs.declared.Card.{Card}
 use Rattle.battery.specs.declared.Battery.{Battery}
 use Rattle.battery.specs.declared.Answer.{Answer}
@@ -106,9 +106,9 @@ unfolding line_bytes line_length plain_answer answer_length head_length state_le
 closing_line version b c = rw (c.layers, c.zone, c.total, c.pump, c.direct, c.charged, c.electric)
 
 -- and its call is the closing of a timestep
-pub closing_call : (version : ℕ) (services : List Service) → call_of version services (5 ∷ []) ≡ Some CloseTimestep
+pub closing_call : (version : ℕ) (extension : Extension) → call_of version extension (5 ∷ []) ≡ Some CloseTimestep
 unfolding call_of call_length call_by bare_call
-closing_call version services = refl
+closing_call version extension = refl
 
 -- what a call's line says of its length fits two bytes
 pub line_fits : (version : ℕ) (card : Card) (n : ℕ) → card.layers ≤ 64 → n ≤ 73 → line_length version card n < 65536

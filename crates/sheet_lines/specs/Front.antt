@@ -1,7 +1,7 @@
 -- Document 01, 'Sheet': the call line at the front of bytes.
 use Rattle.std.specs.Prelude.{ℕ, ◌+◌, Bool, false, cond, Option, Some, None, List, leb, eqb, length, take, drop, get_or}
 use Rattle.codec.specs.Bytes.{be_at}
-use Rattle.card.specs.Services.{Service}
+use Rattle.card.specs.Extension.{Extension}
 use Rattle.card.specs.declared.Card.{Card}
 use Rattle.battery.specs.declared.Answer.{Answer}
 use Rattle.sheet_calls.specs.Kinds.{kind_number}
@@ -51,10 +51,10 @@ line_head version card bs =
     (Some (record { kind = get_or bs 2 0; call = line_call_length version bs; size = line_size version card (line_call_length version bs) }))
     None
 
--- the call of the line at the front of bs, on a card that lists these services, ranges aside
-unfoldable pub line_call : ℕ → List Service → Card → List ℕ → Option Call
-line_call version services card bs =
-    cond (head_ok version card bs) (cond (marks_ok version (answer_part version card bs)) (call_of version services (call_part version bs)) None) None
+-- the call of the line at the front of bs, on a card with this extension, ranges aside
+unfoldable pub line_call : ℕ → Extension → Card → List ℕ → Option Call
+line_call version extension card bs =
+    cond (head_ok version card bs) (cond (marks_ok version (answer_part version card bs)) (call_of version extension (call_part version bs)) None) None
 
 -- its answer
 abbrev pub line_answer : ℕ → Card → List ℕ → Answer

@@ -1,6 +1,6 @@
 // The call line at the front of a slice.
 ghost use Rattle.std.specs.Prelude.{◌≡◌, ◌≤◌, length, Some};
-ghost use Rattle.sheet_records.specs.Cards.{services_at};
+ghost use Rattle.sheet_records.specs.Cards.{extension_at};
 ghost use Rattle.sheet_lines.specs.Front.{head_numbers, line_head, line_call, line_answer};
 
 use battery::{Answer, Call};
@@ -37,7 +37,7 @@ pub fn line_head(version: u8, card: Card, bytes: &[u8]) -> Option<LineHead>
     None
 }
 
-// The front line's call, by the services of the card in line 0, ranges aside. The head may be none: the definition answers then too.
+// The front line's call, by the extension of the card in line 0, ranges aside. The head may be none: the definition answers then too.
 pub fn line_call(
     card: Card,
     line0: CardBytes<'_>,
@@ -45,7 +45,7 @@ pub fn line_call(
     bytes: &[u8],
 ) -> Option<Call>
     requires { head_numbers head ≡ line_head line0.version card bytes.now }
-    ensures { result ≡ line_call line0.entry.version (services_at line0.entry.version line0.entry.bytes.now) card bytes.now }
+    ensures { result ≡ line_call line0.entry.version (extension_at line0.entry.version line0.entry.bytes.now) card bytes.now }
 {
     let version = line0.version;
     let Some(head) = head else {
@@ -54,7 +54,8 @@ pub fn line_call(
     let answer = 2 + head.call;
     if crate::answers::marks_ok(version, &bytes[answer..head.size]) {
         let class = sheet_calls::demand_class(version, &line0, head.kind, &bytes[2..answer]);
-        return sheet_calls::call_by(version, head.kind, class, &bytes[2..answer]);
+        let floor = card::extension::has_floor(&line0);
+        return sheet_calls::call_by(version, head.kind, class, floor, &bytes[2..answer]);
     }
     None
 }

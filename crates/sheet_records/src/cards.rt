@@ -1,9 +1,10 @@
 // A card's bytes.
 ghost use Rattle.std.specs.Prelude.{◌≡◌, ◌≤◌, ◌<◌, length};
 ghost use Rattle.refusals.specs.Number.{refused_number};
-ghost use Rattle.sheet_records.specs.Cards.{card_length, card_at, refusal_at};
+ghost use Rattle.sheet_records.specs.Cards.{flag_place, flag_length, card_length, card_at, refusal_at};
 
 use card::Card;
+use card::extension::Extended;
 use refusals::Refusal;
 
 // Place of the first of the card's f64.
@@ -19,13 +20,31 @@ pub const SERVICES: usize = 159;
 
 pub const SERVICE: usize = 3;
 
+// The place behind the services, where the flag stands.
+pub fn flag_place(bytes: &[u8]) -> usize
+    ensures { (result ≡ flag_place bytes.now) × (result ≤ 924) }
+{
+    SERVICES + SERVICE * (codec::byte_or_zero(bytes, COUNT) as usize)
+}
+
+// Bytes of the flag.
+#[tactic(auto, unfolding(crate::specs::Cards::flag_length))]
+fn flag_length(version: u8) -> usize
+    ensures { result ≡ flag_length version }
+{
+    if card::version::sets_floor(version) {
+        return 1;
+    }
+    0
+}
+
 // The length of the card at the front of the bytes: it fits in two bytes.
-#[tactic(auto, unfolding(crate::specs::Cards::card_length))]
+#[tactic(auto, unfolding(crate::specs::Cards::card_length), using(crate::proofs::CardLaws::flag_short))]
 pub fn card_length(version: u8, bytes: &[u8]) -> usize
     ensures { (result ≡ card_length version bytes.now) × (result < 65536) }
 {
     if card::version::lists_services(version) {
-        return SERVICES + SERVICE * (codec::byte_or_zero(bytes, COUNT) as usize);
+        return flag_place(bytes) + flag_length(version);
     }
     FIELDS
 }
@@ -71,12 +90,15 @@ impl<'a> CardBytes<'a> {
         }
     }
 
-    // Whether the card, read already, is accepted: 1 to 4, then 61.
-    #[tactic(auto, unfolding(crate::specs::Cards::refusal_at, card::specs::Services::full_refusal, card::specs::Services::list_refusal, card::specs::Card::card_refusal, card::specs::Card::verdict_number), using(refusals::proofs::Numbers::number_not_0))]
+    // Whether the card, read already, is accepted: 1 to 4, the flag among the fields that 1 tests, then 61.
+    #[tactic(auto, unfolding(crate::specs::Cards::refusal_at, card::specs::Extension::full_refusal, card::specs::Services::list_refusal, card::specs::Card::card_refusal, card::specs::Card::verdict_number), using(refusals::proofs::Numbers::number_not_0))]
     pub fn check(self, card: Card) -> Result<(), Refusal>
         requires { card ≡ card_at self.version self.bytes.now }
         ensures { refused_number result ≡ refusal_at self.entry.version self.entry.bytes.now }
     {
+        if !card::extension::flag_ok(self.floor()) {
+            return Err(Refusal::CardOutOfRange);
+        }
         card::verdict::check(self.version, card)?;
         if !card::services::services_ok(&self) {
             return Err(Refusal::BadServices);

@@ -3,7 +3,7 @@
 #![tactic(auto)]
 
 pub mod cards;
-pub mod services;
+pub mod extension;
 
 ghost use Rattle.std.specs.Prelude.{◌≡◌, ◌+◌, ◌*◌, ◌≤◌, length, take};
 ghost use Rattle.std.proofs.lemmas.List.Edits.{sets};
@@ -16,7 +16,7 @@ use card::Card;
 // Bytes of the five totals.
 const TOTALS: usize = 40;
 
-// The version goes beside a card here, and beside a battery, a ledger or a line's bytes elsewhere: it is the sheet's. `CardBytes` and `OwnServices` hold it.
+// The version goes beside a card here, and beside a battery, a ledger or a line's bytes elsewhere: it is the sheet's. `CardBytes` and `OwnExtension` hold it.
 #[tactic(auto, unfolding(crate::specs::Records::state_length))]
 pub fn state_length(version: u8, card: Card) -> usize
     ensures { result ≡ state_length version card }

@@ -23,7 +23,7 @@ use Rattle.substep.proofs.Above.{progress_places}
 pub index_once : (m : Mode) (n k l : ℕ) → k < n → l < k → zone_index m n l ≡ zone_index m n k → ⊥
 unfolding zone_index
 index_once OnlyCharging n k l h g e = omega arith
-index_once Losses n k l h g e = omega arith
+index_once (Losses f) n k l h g e = omega arith
 index_once Normal n k l h g e = omega arith
 
 -- a zone that none of the first k steps came to is as before

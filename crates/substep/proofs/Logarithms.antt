@@ -33,6 +33,6 @@ module _ (card : Card) (pcm : HeatBatteryPcm) (s : ℕ → Salt) (input : Subste
     unfolding logarithms_of
     none_in_charging_alone m = logarithms_taken ∙ ap logarithms_of m
 
-    pub none_in_losses : input.mode ≡ Losses → (process_heat_battery_zones card pcm s input zones).logarithms ≡ 0
+    pub none_in_losses : (floor : Option Float) → input.mode ≡ Losses floor → (process_heat_battery_zones card pcm s input zones).logarithms ≡ 0
     unfolding logarithms_of
-    none_in_losses m = logarithms_taken ∙ ap logarithms_of m
+    none_in_losses floor m = logarithms_taken ∙ ap logarithms_of m

@@ -27,7 +27,7 @@ use Rattle.zone_water.specs.declared.Shared.{Shared}
 use Rattle.zone.specs.declared.Salt.{Salt}
 use Rattle.card.specs.declared.Card.{Card}
 use Rattle.battery.specs.Battery.{zones_finite}
-use Rattle.substep.specs.Substep.{zone_index, zone_step, zone_at, zones_after, charger_heat, progress_from, outcome_of, InPlace, progress_finite, progress_fault, substep_from}
+use Rattle.substep.specs.Substep.{zone_index, counted_energy, zone_step, zone_at, zones_after, charger_heat, progress_from, outcome_of, InPlace, progress_finite, progress_fault, substep_from}
 use Rattle.substep.specs.declared.Common.{Common}
 use Rattle.substep.specs.declared.SubstepInput.{SubstepInput}
 use Rattle.substep.specs.declared.Fault.{Fault}
@@ -74,7 +74,7 @@ zone_step_of t e q k = record { temperature = t; energy = e; outlet = Constants.
 properties_take_none : (m : Mode) (x : Shared) (t inlet : Float) (q : Kilojoules) → (zone_properties m x t inlet q).logarithms ≡ 0
 unfolding zone_properties
 properties_take_none OnlyCharging x t inlet q = refl
-properties_take_none Losses x t inlet q = refl
+properties_take_none (Losses f) x t inlet q = refl
 properties_take_none Normal x t inlet q = refl
 
 pub zone_takes_none : (x : Common) (s : Salt) (t inlet : Float) (q : Kilojoules) (k : KilowattHours) → (zone_step x s t inlet q k).logarithms ≡ 0
@@ -93,7 +93,7 @@ no_more_logarithms x s t inlet q k z taken logarithms e h =
 
 -- charging alone gives no heat to the water
 no_energy : (x : Common) (s : Salt) (t inlet : Float) (q : Kilojoules) (e : KilowattHours) → x.mode ≡ OnlyCharging → (zone_step x s t inlet q e).energy.0 ≡ Constants.zero
-unfolding zone_step zone_properties
+unfolding zone_step zone_properties counted_energy
 no_energy x s t inlet q e m = rw m
 
 module _ (x : Common) (s : ℕ → Salt) (n : ℕ) (p : Progress) (none : p.energies ≡ replicate 64 Constants.zero) (few : n ≤ 64) where

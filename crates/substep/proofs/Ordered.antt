@@ -1,5 +1,6 @@
 -- What is gathered from a list's places in a mode's order: the same where each place is written just before it is read,
 -- and for the tests of a pass and the energies of charging alone the same as upward.
+use Rattle.std.specs.Prelude.{Option, None}
 use mathlib.Core.Path.{◌≡◌, refl, sym, ◌∙◌, ap}
 use mathlib.Core.Bool.{Bool, true, ◌&&◌}
 use mathlib.Core.List.{List}
@@ -35,7 +36,7 @@ and_finite b t = b && finite64 t
 index_back : (m : Mode) (n i : ℕ) → i < n → zone_index m n (zone_index m n i) ≡ i
 unfolding zone_index
 index_back OnlyCharging n i h = omega arith
-index_back Losses n i h = refl
+index_back (Losses f) n i h = refl
 index_back Normal n i h = refl
 
 module _ {A : Type 0} (m : Mode) (n : ℕ) (f : A → Float → A) (a : A) (l : List Float) where
@@ -68,9 +69,9 @@ unfolding in_order sum2_after
 sum_upward m n l up zero = refl
 sum_upward m n l up (suc k) = rw (sum_upward m n l up k, up k)
 
-sum_losses : (n : ℕ) (l : List Float) → in_order Losses n sum2_step no_sum l n ≡ sum2_after l n
+sum_losses : (f : Option Float) (n : ℕ) (l : List Float) → in_order (Losses f) n sum2_step no_sum l n ≡ sum2_after l n
 unfolding zone_index
-sum_losses n l = sum_upward Losses n l (λ i. refl) n
+sum_losses f n l = sum_upward (Losses f) n l (λ i. refl) n
 
 -- all tests hold in one order where they hold in the other
 module _ (m : Mode) (n : ℕ) (l : List Float) where
@@ -108,7 +109,7 @@ module _ (n : ℕ) (l : List Float) (zeros : (i : ℕ) → i < n → get_or l i 
   sum_zeros : in_order OnlyCharging n sum2_step no_sum l n ≡ sum2_after l n
   sum_zeros =
       gathered_none OnlyCharging n sum2_step no_sum l Constants.zero no_sum_more zeros n (omega arith) ∙
-      (sym (gathered_none Losses n sum2_step no_sum l Constants.zero no_sum_more zeros n (omega arith)) ∙ sum_losses n l)
+      (sym (gathered_none (Losses None) n sum2_step no_sum l Constants.zero no_sum_more zeros n (omega arith)) ∙ sum_losses None n l)
 
 -- the sum in the mode's order, of energies that are 0 where it is not upward
 pub sum_all :
@@ -117,5 +118,5 @@ pub sum_all :
     in_order m n sum2_step no_sum l n ≡ sum2_after l n
 unfolding zone_index
 sum_all OnlyCharging n l h = sum_zeros n l (h refl)
-sum_all Losses n l h = sum_losses n l
+sum_all (Losses f) n l h = sum_losses f n l
 sum_all Normal n l h = sum_upward Normal n l (λ i. refl) n

@@ -18,6 +18,7 @@ use Rattle.floats.proofs.Operands.{sum_operands, product_operands, last_operand}
 use Rattle.floats.proofs.Standins.{finite64_finite}
 use Rattle.zone.specs.Heat.{kj}
 use Rattle.zone.specs.declared.Kilojoules.{Kilojoules}
+use Rattle.zone.specs.declared.KilowattHours.{KilowattHours}
 use Rattle.zone.specs.declared.Salt.{Salt}
 use Rattle.zone_water.specs.Water.{zone_properties}
 use Rattle.zone_water.specs.declared.Mode.{Mode}
@@ -26,7 +27,7 @@ use Rattle.zone_water.specs.declared.Shared.{Shared}
 use Rattle.card.specs.declared.Card.{Card}
 use Rattle.card.specs.declared.HeatBatteryPcm.{HeatBatteryPcm}
 use Rattle.battery.specs.Battery.{zones_finite}
-use Rattle.substep.specs.Substep.{zone_index, zone_step, zone_at, zones_after, zone_transfer, common_of, progress_from, progress_finite, progress_fault, without_logarithm, substep_from, with_transfer, process_heat_battery_zones}
+use Rattle.substep.specs.Substep.{zone_index, counted_energy, zone_step, zone_at, zones_after, zone_transfer, common_of, progress_from, progress_finite, progress_fault, without_logarithm, substep_from, with_transfer, process_heat_battery_zones}
 use Rattle.substep.specs.declared.Common.{Common}
 use Rattle.substep.specs.declared.SubstepInput.{SubstepInput}
 use Rattle.substep.specs.declared.Fault.TheVariants.{NotFinite}
@@ -54,10 +55,15 @@ module _ (x : Common) (normal : x.mode ≡ Normal) (s : ℕ → Salt) (n : ℕ) 
   unfolding zones_after zone_at
   last_energy = rw last_index (get_or-set_same q.energies n _ nan (omega (arith, same_places, places)))
 
+  -- what is counted there is the water's heat
+  water_counted : (k : KilowattHours) → (zone_step x (s n) (get_or q.zones n nan) q.outlet q.left k).energy ≡ (zone_properties x.mode x.shared (get_or q.zones n nan) q.outlet q.left).energy
+  unfolding zone_step counted_energy
+  water_counted k = rw normal
+
   last_seconds : T (finite (sum2 (zones_after x s (suc n) (suc n) p).energies (suc n))) → T (finite x.shared.seconds)
-  unfolding zone_step
   last_seconds h =
-      let e = (sum_operands binary64 _ _ (subst (λ (y : Float). T (finite y)) last_energy (last_operand (zones_after x s (suc n) (suc n) p).energies n h))).1 in
+      let a = (sum_operands binary64 _ _ (subst (λ (y : Float). T (finite y)) last_energy (last_operand (zones_after x s (suc n) (suc n) p).energies n h))).1 in
+      let e = subst (λ (y : Kilojoules). T (finite y.0)) (water_counted q.charged) a in
       water_seconds x.shared (get_or q.zones n nan) q.outlet q.left
       (subst (λ (m : Mode). T (finite (zone_properties m x.shared (get_or q.zones n nan) q.outlet q.left).energy.0)) normal e)
 

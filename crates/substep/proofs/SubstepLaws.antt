@@ -59,7 +59,7 @@ whole o zs es u h e = rw (h.0, h.1, e)
 pub index_below : (m : Mode) (n k : ℕ) → k < n → zone_index m n k < n
 unfolding zone_index
 index_below OnlyCharging n k h = omega arith
-index_below Losses n k h = h
+index_below (Losses f) n k h = h
 index_below Normal n k h = h
 
 pub untouched : (x : Common) (s : ℕ → Salt) (n k : ℕ) (p : Progress) (j : ℕ) → k ≤ n → n ≤ j → get_or (zones_after x s n k p).zones j nan ≡ get_or p.zones j nan
@@ -70,9 +70,9 @@ untouched x s n (suc k) p j h g =
     get_or-set_other (zones_after x s n k p).zones (zone_index x.mode n k) j _ nan (λ e. omega arith) ∙ untouched x s n k p j (omega arith) g
 
 -- neither mode takes a logarithm
-pub without_logarithm_loss : (c : Card) (d : SubstepInput) → d.mode ≡ Losses → zone_transfer d.mode c d ≡ Some Constants.zero
+pub without_logarithm_loss : (c : Card) (d : SubstepInput) (f : Option Float) → d.mode ≡ Losses f → zone_transfer d.mode c d ≡ Some Constants.zero
 unfolding zone_transfer
-without_logarithm_loss c d m = rw m
+without_logarithm_loss c d f m = rw m
 
 -- the two parts of a heat transfer that is worked out once
 pub transfer_value : (m : Mode) (c : Card) (d : SubstepInput) (t : Transfer) → t ≡ shared_transfer m c d → t.value ≡ zone_transfer m c d
@@ -88,17 +88,13 @@ pub none_in_a_charge : (d : SubstepInput) → d.mode ≡ OnlyCharging → 0 ≡ 
 unfolding logarithms_of
 none_in_a_charge d m = rw m
 
-pub none_in_a_loss : (d : SubstepInput) → d.mode ≡ Losses → 0 ≡ logarithms_of d.mode
+pub none_in_a_loss : (d : SubstepInput) (f : Option Float) → d.mode ≡ Losses f → 0 ≡ logarithms_of d.mode
 unfolding logarithms_of
-none_in_a_loss d m = rw m
+none_in_a_loss d f m = rw m
 
 pub without_logarithm_charge : (c : Card) (d : SubstepInput) → d.mode ≡ OnlyCharging → zone_transfer d.mode c d ≡ Some Constants.zero
 unfolding zone_transfer
 without_logarithm_charge c d m = rw m
-
-pub common_mode : (c : Card) (pcm : HeatBatteryPcm) (d : SubstepInput) (u : Float) (x : Common) → x ≡ common_of c pcm d u → x.mode ≡ d.mode
-unfolding common_of
-common_mode c pcm d u x e = rw e
 
 pub common_level :
     (c : Card) (pcm : HeatBatteryPcm) (d : SubstepInput) (u : Float) (x : Common) (s : Salt) → x ≡ common_of c pcm d u → target_at x s ≡ target_of c s d.target

@@ -9,7 +9,7 @@ use Rattle.floats.specs.Standins.{finite64}
 use Rattle.floats.specs.Sum2.{sum2}
 use Rattle.zone.specs.Heat.{kj, kwh, kilojoules}
 use Rattle.zone.specs.Layer.{soc_to_temp}
-use Rattle.zone_update.specs.Update.{new_zone_temperature}
+use Rattle.zone_update.specs.Update.{zone_update}
 use Rattle.zone_charging.specs.Charging.{charged, zone_simultaneous_charging}
 use Rattle.zone_water.specs.Water.{mass_flow, heat_transfer, zone_properties}
 use Rattle.zone.specs.declared.Kilojoules.{Kilojoules}
@@ -35,7 +35,7 @@ use Rattle.substep.specs.declared.Fault.TheVariants.{Logarithm, NotFinite}
 -- the k-th of n zones in the mode's order
 unfoldable pub zone_index : Mode → ℕ → ℕ → ℕ
 zone_index OnlyCharging n k = n - k - 1
-zone_index Losses n k = k
+zone_index (Losses lowest) n k = k
 zone_index Normal n k = k
 
 -- a zone's charge, where there is heat of the charger left
@@ -46,12 +46,32 @@ zone_charge salt t target left energy already = cond (lt left.0 Constants.zero) 
 abbrev pub target_at : Common → Salt → Float
 target_at common salt = soc_to_temp salt common.reference common.max common.level
 
+-- the lowest temperature that the mode leaves a zone at: losses alone may have one
+unfoldable pub lowest_of : Mode → Option Float
+lowest_of OnlyCharging = None
+lowest_of (Losses lowest) = lowest
+lowest_of Normal = None
+
+-- of the energy that a zone gives to the water or is to lose, what is counted: document 02, Six, 'the loss counts only what was taken'
+unfoldable pub counted_energy : Mode → Kilojoules → Kilojoules → Kilojoules
+counted_energy OnlyCharging energy taken = energy
+counted_energy (Losses lowest) energy taken = taken
+counted_energy Normal energy taken = energy
+
 -- one zone of the salt s at t: its inlet, the charger's heat left and the energy charged so far
 unfoldable pub zone_step : Common → Salt → Float → Float → Kilojoules → KilowattHours → ZoneStep
 zone_step common salt t inlet left already =
     let p = zone_properties common.mode common.shared t inlet left in
     let c = zone_charge salt t (target_at common salt) left p.energy already in
-    record { temperature = (new_zone_temperature salt t c.heat).temperature; energy = p.energy; outlet = p.outlet; left = c.left; charged = c.charged; logarithms = p.logarithms }
+    let u = zone_update (lowest_of common.mode) salt t c.heat in
+    record {
+      temperature = u.temperature;
+      energy = counted_energy common.mode p.energy u.taken;
+      outlet = p.outlet;
+      left = c.left;
+      charged = c.charged;
+      logarithms = p.logarithms;
+    }
 
 -- the zone at j, of the salt s j
 unfoldable pub zone_at : Common → (ℕ → Salt) → ℕ → Progress → Progress
@@ -77,13 +97,13 @@ per_layer card None = None
 
 unfoldable pub zone_transfer : Mode → Card → SubstepInput → Option Float
 zone_transfer OnlyCharging card input = Some Constants.zero
-zone_transfer Losses card input = Some Constants.zero
+zone_transfer (Losses lowest) card input = Some Constants.zero
 zone_transfer Normal card input = per_layer card (heat_transfer input.a input.b input.flow input.reynold)
 
 -- document 02, Two: the logarithms of a substep, '1 where it takes any, else 0', all of them taken for that share
 unfoldable pub logarithms_of : Mode → ℕ
 logarithms_of OnlyCharging = 0
-logarithms_of Losses = 0
+logarithms_of (Losses lowest) = 0
 logarithms_of Normal = 1
 
 unfoldable pub shared_transfer : Mode → Card → SubstepInput → Transfer

@@ -6,7 +6,7 @@ ghost use Rattle.std.specs.Float.Ieee.{lt};
 ghost use Rattle.floats.specs.Constants.{zero};
 ghost use Rattle.floats.specs.Standins.{finite64};
 ghost use Rattle.zone.specs.LentSalts.{lent_salt};
-ghost use Rattle.substep.specs.Substep.{zone_index, zone_charge, target_at, zone_step, per_layer, shared_transfer, target_of, common_of, charger_heat, without_logarithm, outcome_of};
+ghost use Rattle.substep.specs.Substep.{zone_index, zone_charge, target_at, lowest_of, counted_energy, zone_step, per_layer, shared_transfer, target_of, common_of, charger_heat, without_logarithm, outcome_of};
 
 use card::{Card, HeatBatteryPcm};
 use zone::lent::LentSalts;
@@ -99,7 +99,7 @@ pub fn zone_index(mode: Mode, n: usize, k: usize) -> usize
 {
     match mode {
         Mode::OnlyCharging => n - k - 1,
-        Mode::Losses | Mode::Normal => k,
+        Mode::Losses(_) | Mode::Normal => k,
     }
 }
 
@@ -145,6 +145,28 @@ pub fn zone_target(common: Common, salt: Salt, target: Option<f64>) -> f64
     }
 }
 
+// The lowest temperature that the mode leaves a zone at.
+#[tactic(auto, unfolding(crate::specs::Substep::lowest_of))]
+fn lowest_of(mode: Mode) -> Option<f64>
+    ensures { result ≡ lowest_of mode }
+{
+    match mode {
+        Mode::Losses(lowest) => lowest,
+        Mode::OnlyCharging | Mode::Normal => None,
+    }
+}
+
+// What is counted of a zone's energy, of which so much was taken.
+#[tactic(auto, unfolding(crate::specs::Substep::counted_energy))]
+fn counted_energy(mode: Mode, energy: Kilojoules, taken: Kilojoules) -> Kilojoules
+    ensures { result ≡ counted_energy mode energy taken }
+{
+    match mode {
+        Mode::Losses(_) => taken,
+        Mode::OnlyCharging | Mode::Normal => energy,
+    }
+}
+
 // What one zone hands to the next, water, heat and charged energy, goes as three numbers, as in the definitions.
 #[tactic(auto, unfolding(crate::specs::Substep::zone_step))]
 pub fn zone_step(
@@ -159,12 +181,14 @@ pub fn zone_step(
     requires { lt left.0 zero ≡ true → IfSome target (λ t. t ≡ target_at common salt) }
     ensures { result ≡ zone_step common salt zone inlet left charged }
 {
-    let p = zone_water::get_zone_properties(common.mode, common.shared, zone, inlet, left);
+    let mode = common.mode;
+    let p = zone_water::get_zone_properties(mode, common.shared, zone, inlet, left);
     let c = zone_charge(common, salt, target, zone, left, p.energy, charged);
-    let update = zone_update::calculate_new_zone_temperature(salt, zone, c.heat);
+    let lowest = lowest_of(mode);
+    let update = zone_update::calculate_new_zone_temperature(salt, zone, c.heat, lowest);
     ZoneStep {
         temperature: update.temperature,
-        energy: p.energy,
+        energy: counted_energy(mode, p.energy, update.taken),
         outlet: p.outlet,
         left: c.left,
         charged: c.charged,
@@ -178,7 +202,7 @@ pub fn zone_transfer(mode: Mode, card: Card, input: SubstepInput) -> Transfer
     ensures { result ≡ shared_transfer mode card input }
 {
     match mode {
-        Mode::OnlyCharging | Mode::Losses => Transfer {
+        Mode::OnlyCharging | Mode::Losses(_) => Transfer {
             value: Some(0.0),
             logarithms: 0,
         },
@@ -221,7 +245,8 @@ pub fn common_of(
     transfer: f64,
 ) -> Common
     requires { mode ≡ input.mode }
-    ensures { result ≡ common_of card pcm input transfer }
+    ensures value { result ≡ common_of card pcm input transfer }
+    ensures its_mode { result.mode ≡ mode }
 {
     Common {
         mode,

@@ -1,5 +1,5 @@
 -- A zone's step in charging alone and in losses.
-use Rattle.std.specs.Prelude.{IfSome}
+use Rattle.std.specs.Prelude.{IfSome, Option, None}
 use Rattle.std.specs.Bool.{then_some}
 use mathlib.Core.Path.{◌≡◌, refl, ◌∙◌}
 use mathlib.Core.Bool.{Bool, true, false}
@@ -11,7 +11,7 @@ use Rattle.floats.specs.F64.{◌⊖◌, ◌⊗◌, ◌⊘◌}
 use Rattle.floats.specs.Constants as Constants
 use Rattle.floats.specs.Standins.{max_zero, nearly_equal}
 use Rattle.zone.specs.Heat.{kj}
-use Rattle.zone_update.specs.Update.{new_zone_temperature}
+use Rattle.zone_update.specs.Update.{new_zone_temperature, zone_update}
 use Rattle.zone_charging.specs.Charging.{zone_simultaneous_charging}
 use Rattle.zone_water.specs.Water.{zone_properties}
 use Rattle.zone.specs.declared.Kilojoules.{Kilojoules}
@@ -20,7 +20,7 @@ use Rattle.zone.specs.declared.Salt.{Salt}
 use Rattle.zone_update.specs.declared.ZoneUpdate.{ZoneUpdate}
 use Rattle.zone_charging.specs.declared.Charged.{Charged}
 use Rattle.zone_water.specs.declared.Mode.TheVariants.{OnlyCharging, Losses}
-use Rattle.substep.specs.Substep.{target_at, zone_charge, zone_step, zone_at, zones_after, charger_heat, progress_from}
+use Rattle.substep.specs.Substep.{target_at, lowest_of, counted_energy, zone_charge, zone_step, zone_at, zones_after, charger_heat, progress_from}
 use Rattle.substep.specs.declared.Common.{Common}
 use Rattle.substep.specs.declared.SubstepInput.{SubstepInput}
 use Rattle.substep.specs.Progress.{Progress}
@@ -33,26 +33,27 @@ module _ (x : Common) (s : Salt) (t inlet : Float) (q : Kilojoules) (k : Kilowat
         (c : Charged) (u : ZoneUpdate) →
         lt q.0 Constants.zero ≡ true →
         c ≡ zone_simultaneous_charging s t (target_at x s) q (kj Constants.zero) k →
-        u ≡ new_zone_temperature s t c.heat →
+        u ≡ zone_update None s t c.heat →
         zone_step_of u.temperature (kj Constants.zero) c.left c.charged ≡ zone_step x s t inlet q k
-    unfolding zone_step zone_charge zone_properties
+    unfolding zone_step zone_charge zone_properties lowest_of counted_energy
     charging_on c u h g e = rw (e, g, m, h)
 
     -- with none
     pub charging_off : lt q.0 Constants.zero ≡ false → zone_step_of t (kj Constants.zero) q k ≡ zone_step x s t inlet q k
-    unfolding zone_step zone_charge zone_properties new_zone_temperature nearly_equal eq of_bits
+    unfolding zone_step zone_charge zone_properties lowest_of counted_energy zone_update new_zone_temperature nearly_equal eq of_bits
     charging_off h = rw (m, h)
 
   module _ (h : lt q.0 Constants.zero ≡ false) where
     pub loss_of :
-        x.mode ≡ Losses →
+        (lowest : Option Float) →
+        x.mode ≡ Losses lowest →
         (share e : Float) (u : ZoneUpdate) →
         share ≡ q.0 ⊘ of_int binary64 (pos x.shared.layers) →
         e ≡ max_zero (share ⊗ (t ⊖ x.shared.inlet) ⊘ x.shared.rated) →
-        u ≡ new_zone_temperature s t (kj e) →
-        zone_step_of u.temperature (kj e) q k ≡ zone_step x s t inlet q k
-    unfolding zone_step zone_charge zone_properties
-    loss_of m share e u d g f = rw (f, g, d, m, h)
+        u ≡ zone_update lowest s t (kj e) →
+        zone_step_of u.temperature u.taken q k ≡ zone_step x s t inlet q k
+    unfolding zone_step zone_charge zone_properties lowest_of counted_energy
+    loss_of lowest m share e u d g f = rw (f, g, d, m, h)
 
     uncharged : (zone_step x s t inlet q k).left ≡ q
     unfolding zone_step zone_charge

@@ -41,7 +41,7 @@ impl ZoneStepping for ChargingAlone {
             let own = substep::zone_target(self.common, salt, self.target);
             let c = zone_charging::charge_zone_alone(salt, zone, own, left, charged);
             let heat = c.heat;
-            let update = zone_update::calculate_new_zone_temperature(salt, zone, heat);
+            let update = zone_update::calculate_new_zone_temperature(salt, zone, heat, None);
             let left = c.left;
             let charged = c.charged;
             return ZoneStep {

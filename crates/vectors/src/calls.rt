@@ -16,7 +16,7 @@ fn advanced(held: Held, call: Call) -> Answer {
 
 // Whether the answer agrees. None does where no kind is known.
 pub fn call(words: Words<'_>, held: &mut Held) -> bool {
-    let Some((call, at)) = vectors_lists::calls::read(words) else {
+    let Some((call, at)) = vectors_lists::calls::read(words, held.floor) else {
         return false;
     };
     let answer = advanced(*held, call);

@@ -1,7 +1,7 @@
 -- The ids' numbers in VECTORS.md.
 use Rattle.std.specs.Prelude.{◌≡◌, ◌≢◌, ℕ, Result, MatchResult}
 use Rattle.vectors_files.specs.declared.ids.Id.{Id}
-use Rattle.vectors_files.specs.declared.ids.Id.TheVariants.{Finite, NearlyEqual, MaxZero, Min, Square, Sum2, Ln, Truncate, LayerEnergy, SocToTemp, StateOfCharge, EnergyRequired, NewTemperature, Simultaneous, Viscosity, Reynolds, HeatTransfer, Outlet, ZoneProperties, Card, Substep, ChargeEnergyDemand, Start, Call}
+use Rattle.vectors_files.specs.declared.ids.Id.TheVariants.{Finite, NearlyEqual, MaxZero, Min, Square, Sum2, Ln, Truncate, LayerEnergy, SocToTemp, StateOfCharge, EnergyRequired, NewTemperature, Simultaneous, Viscosity, Reynolds, HeatTransfer, Outlet, ZoneProperties, Card, Lowest, Substep, ChargeEnergyDemand, Start, Call}
 use Rattle.vectors_files.specs.declared.ids.UnknownId.{UnknownId}
 
 abbrev pub number_of : Id → ℕ
@@ -25,6 +25,7 @@ number_of HeatTransfer = 28
 number_of Outlet = 29
 number_of ZoneProperties = 30
 number_of Card = 31
+number_of Lowest = 32
 number_of Substep = 40
 number_of ChargeEnergyDemand = 41
 number_of Start = 50

@@ -1,4 +1,4 @@
-// What VECTORS.md calls the ids from 1 to 8, from 20 to 31, 40, 41, 50 and 51.
+// What VECTORS.md calls the ids from 1 to 8, from 20 to 32, 40, 41, 50 and 51.
 ghost use Rattle.vectors_files.specs.Ids.{Decodes};
 
 use std::fmt;
@@ -25,6 +25,7 @@ pub enum Id {
     Outlet,
     ZoneProperties,
     Card,
+    Lowest,
     Substep,
     ChargeEnergyDemand,
     // the start of a list, and a call of one
@@ -63,6 +64,7 @@ impl TryFrom<u64> for Id {
             29 => Ok(Id::Outlet),
             30 => Ok(Id::ZoneProperties),
             31 => Ok(Id::Card),
+            32 => Ok(Id::Lowest),
             40 => Ok(Id::Substep),
             41 => Ok(Id::ChargeEnergyDemand),
             50 => Ok(Id::Start),
@@ -95,6 +97,7 @@ impl fmt::Display for Id {
             Id::Outlet => "outlet",
             Id::ZoneProperties => "zone_properties",
             Id::Card => "card",
+            Id::Lowest => "lowest",
             Id::Substep => "substep",
             Id::ChargeEnergyDemand => "charge_energy_demand",
             Id::Start | Id::Call => "lists",

@@ -47,15 +47,15 @@ fn energy_demand(words: Words<'_>) -> Call {
     Call::ChargeEnergyDemand(most, words.number(3))
 }
 
-// The call and the answer's first word, where the kind is known. By the number and not by the sheet's `Kind`: one match tells both, and the crate needs no sheet.
-pub fn read(words: Words<'_>) -> Option<(Call, usize)>
+// The call, on a card that sets a floor or none, and the answer's first word, where the kind is known. By the number and not by the sheet's `Kind`: one match tells both, and the crate needs no sheet.
+pub fn read(words: Words<'_>, floor: bool) -> Option<(Call, usize)>
     ensures { IfSome result (λ call. call.1 ≤ 16) }
 {
     match words.word(0) {
         1 => Some((demand(words), 8)),
         2 => Some((Call::ChargeElectric(words.number(1), words.number(2)), 3)),
         3 => Some((hydronic(words), 10)),
-        4 => Some((Call::HeatLoss, 1)),
+        4 => Some((Call::HeatLoss(floor), 1)),
         5 => Some((Call::CloseTimestep, 1)),
         6 => Some((Call::ReadStateOfCharge, 1)),
         7 => Some((energy_demand(words), 4)),

@@ -12,6 +12,8 @@ use vectors_words::Words;
 #[derive(Clone, Copy)]
 pub struct Held {
     pub version: u8,
+    // whether the card sets a floor
+    pub floor: bool,
     pub battery: Battery,
 }
 
@@ -20,6 +22,7 @@ impl Default for Held {
     fn default() -> Held {
         Held {
             version: 0,
+            floor: false,
             battery: battery(Words(&[]), 0),
         }
     }
@@ -42,13 +45,14 @@ fn battery(words: Words<'_>, n: usize) -> Battery
     }
 }
 
-// Id 50: card, zones, five totals, version. None of a record that has not those words.
+// Id 50: card, zones, five totals, version, flag. None of a record that has not those words.
 pub fn start(words: Words<'_>) -> Option<Held> {
     let n = words.count(23)?;
     let version = words.narrow(n + 29, u8::MAX);
-    if words.has(n + 30) & words.word_is(0, n as u64) & card::version::known_version(version) {
+    if words.has(n + 31) & words.word_is(0, n as u64) & card::version::known_version(version) {
         Some(Held {
             version,
+            floor: words.word_is(n + 30, 1),
             battery: battery(words, n),
         })
     } else {

@@ -70,7 +70,7 @@ pub fn zone_properties(words: Words<'_>) -> bool {
     let card = words.rest().card();
     let mode = crate::mode_of(words.word(0));
     let share = match mode {
-        Mode::OnlyCharging | Mode::Losses => Some(0.0),
+        Mode::OnlyCharging | Mode::Losses(_) => Some(0.0),
         Mode::Normal => transfer(words, 31, 32, 30, 28).map(|whole| whole / (card.layers as f64)),
     };
     properties_are(

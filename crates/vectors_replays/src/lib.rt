@@ -12,11 +12,11 @@ use vectors_files::ids::Id;
 use vectors_words::Words;
 use zone_water::Mode;
 
-// Document 01's modes as VECTORS.md numbers them. No `From`: a crate that has neither type cannot write it.
+// Document 01's modes as VECTORS.md numbers them, losses without a lowest temperature. No `From`: a crate that has neither type cannot write it.
 fn mode_of(word: u64) -> Mode {
     match word {
         0 => Mode::OnlyCharging,
-        1 => Mode::Losses,
+        1 => Mode::Losses(None),
         _ => Mode::Normal,
     }
 }
@@ -44,6 +44,7 @@ pub fn replay(id: Id, words: Words<'_>) -> bool {
         Id::Outlet => exchanger::outlet(words),
         Id::ZoneProperties => exchanger::zone_properties(words),
         Id::Card => cards::card(words),
+        Id::Lowest => zones::lowest(words),
         Id::Substep => substeps::substep(words),
         Id::ChargeEnergyDemand => levels::charge_energy_demand(words),
         Id::Start | Id::Call => false,

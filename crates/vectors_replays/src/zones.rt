@@ -1,4 +1,4 @@
-// Ids 20 to 25: modules 1 to 3. The function of an id answers whether a record agrees.
+// Ids 20 to 25 and 32: modules 1 to 3, the last with a lowest temperature. The function of an id answers whether a record agrees.
 ghost use Rattle.std.specs.Prelude.{◌≤◌};
 
 use card::Card;
@@ -63,8 +63,16 @@ pub fn energy_required(words: Words<'_>) -> bool {
 pub fn new_temperature(words: Words<'_>) -> bool {
     let zone = words.number(5);
     let energy = Kilojoules(words.number(6));
-    let r = zone_update::calculate_new_zone_temperature(salt(words, 0), zone, energy);
+    let r = zone_update::calculate_new_zone_temperature(salt(words, 0), zone, energy, None);
     words.ends_with(7, r.temperature)
+}
+
+pub fn lowest(words: Words<'_>) -> bool {
+    let zone = words.number(5);
+    let lowest = Some(words.number(6));
+    let energy = Kilojoules(words.number(7));
+    let r = zone_update::calculate_new_zone_temperature(salt(words, 0), zone, energy, lowest);
+    words.has(11) & words.numbers_are(8, &[r.temperature, r.taken.0, r.rest.0])
 }
 
 pub fn simultaneous(words: Words<'_>) -> bool {

@@ -83,5 +83,5 @@ module _ (s : Salt) (g : GoodSalt s) (t : Float) (F : T (finite64 t)) (target : 
       T (number (zone_simultaneous_charging s t target q (kj zero) k).left.0) → T (le (zone_simultaneous_charging s t target q (kj zero) k).left.0 zero)
   charging_left_nonpositive = charges.left
 
-  pub charge_never_cools : T (le t (new_zone_temperature s t (zone_simultaneous_charging s t target q (kj zero) k).heat).temperature)
+  pub charge_never_cools : T (le t (new_zone_temperature s t (zone_simultaneous_charging s t target q (kj zero) k).heat))
   charge_never_cools = negative_never_lowers s g t F _ charging_heat_nonpositive

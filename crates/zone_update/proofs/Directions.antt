@@ -13,23 +13,22 @@ use Rattle.zone.specs.Heat.{kj}
 use Rattle.zone_update.specs.Update.{new_zone_temperature}
 use Rattle.zone.specs.declared.Kilojoules.{Kilojoules}
 use Rattle.zone.specs.declared.Salt.{Salt}
-use Rattle.zone_update.specs.declared.ZoneUpdate.{ZoneUpdate}
 use Rattle.zone_update.proofs.Falls.{delivering_falls, retrieving_rises}
 
 -- a NaN leaves the zone
-pub nan_leaves_zone : (s : Salt) (t : Float) → new_zone_temperature s t (kj nan) ≡ record { temperature = t }
+pub nan_leaves_zone : (s : Salt) (t : Float) → new_zone_temperature s t (kj nan) ≡ t
 unfolding new_zone_temperature nearly_equal finite64 fits eq lt of_bits
 nan_leaves_zone s t = refl
 
 module _ (s : Salt) (g : GoodSalt s) (t : Float) (F : T (finite64 t)) (e : Kilojoules) where
   -- the zone is not warmer, not cooler
-  abbrev Lowered : ZoneUpdate → Type 0
-  Lowered u = T (le u.temperature t)
+  abbrev Lowered : Float → Type 0
+  Lowered u = T (le u t)
 
-  abbrev Raised : ZoneUpdate → Type 0
-  Raised u = T (le t u.temperature)
+  abbrev Raised : Float → Type 0
+  Raised u = T (le t u)
 
-  pub positive_never_raises : T (le zero e.0) → T (le (new_zone_temperature s t e).temperature t)
+  pub positive_never_raises : T (le zero e.0) → T (le (new_zone_temperature s t e) t)
   unfolding new_zone_temperature of_bits
   positive_never_raises h =
       let falls = delivering_falls s g t e F h in
@@ -41,7 +40,7 @@ module _ (s : Salt) (g : GoodSalt s) (t : Float) (F : T (finite64 t)) (e : Kiloj
       (λ c. absurd (lt→not_le e.0 zero c h))
       (λ c. search (tests, numbers, finites))))
 
-  pub negative_never_lowers : T (le e.0 zero) → T (le t (new_zone_temperature s t e).temperature)
+  pub negative_never_lowers : T (le e.0 zero) → T (le t (new_zone_temperature s t e))
   unfolding new_zone_temperature of_bits
   negative_never_lowers h =
       let rises = retrieving_rises s g t e F h in

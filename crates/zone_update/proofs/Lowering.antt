@@ -12,19 +12,15 @@ use Rattle.zone.specs.declared.Kilojoules.{Kilojoules}
 use Rattle.zone.specs.declared.Salt.{Salt}
 use Rattle.zone_update.specs.Update.{deltas, delivering, retrieving, lowered, zone_falls, new_zone_temperature}
 use Rattle.zone_update.specs.declared.Deltas.{Deltas}
-use Rattle.zone_update.specs.declared.ZoneUpdate.{ZoneUpdate}
 
 no_falls : zero ⊕ zero ⊕ zero ≡ zero
 no_falls = ap (λ (x : Float). x ⊕ zero) no_more ∙ no_more
 
-abbrev still : Float → ZoneUpdate
-still t = record { temperature = t }
-
 module _ (t : Float) (F : T (fits binary64 t)) where
-  by_choice : (a b : Bool) (d r : Deltas) → lowered t (cond a d (cond b r (deltas zero zero zero))) ≡ cond a (lowered t d) (cond b (lowered t r) (record { temperature = t }))
+  by_choice : (a b : Bool) (d r : Deltas) → lowered t (cond a d (cond b r (deltas zero zero zero))) ≡ cond a (lowered t d) (cond b (lowered t r) t)
   by_choice true b d r = refl
   by_choice false true d r = refl
-  by_choice false false d r = ap still (ap (λ (x : Float). t ⊖ x) no_falls ∙ less_zero t F)
+  by_choice false false d r = ap (λ (x : Float). t ⊖ x) no_falls ∙ less_zero t F
 
   pub lowered_by_falls : (s : Salt) (e : Kilojoules) → fits binary64 e.0 ≡ true → lowered t (zone_falls s t e) ≡ new_zone_temperature s t e
   unfolding zone_falls new_zone_temperature

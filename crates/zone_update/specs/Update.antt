@@ -1,9 +1,11 @@
--- Document 01, module 2: `calculate_new_zone_temperature`.
-use Rattle.std.specs.Prelude.{cond, Float}
+-- Document 01, module 2: `calculate_new_zone_temperature`; document 02, Six: 'The zone update is then given a lowest temperature'.
+use Rattle.std.specs.Prelude.{cond, Float, Option, Some, None}
 use Rattle.std.specs.Float.Ieee.{lt, le, neg}
 use Rattle.floats.specs.F64.{◌⊕◌, ◌⊖◌, ◌⊗◌, ◌⊘◌}
 use Rattle.floats.specs.Constants.{zero, negligible_energy, max_relative}
-use Rattle.floats.specs.Standins.{nearly_equal}
+use Rattle.floats.specs.Standins.{nearly_equal, min}
+use Rattle.zone.specs.Heat.{kj}
+use Rattle.zone.specs.Layer.{layer_energy_stored}
 use Rattle.zone.specs.declared.Kilojoules.{Kilojoules}
 use Rattle.zone.specs.declared.Salt.{Salt}
 use Rattle.zone_update.specs.declared.Deltas.{Deltas}
@@ -60,19 +62,19 @@ retrieving salt t energy =
     (deltas (energy.0 ⊘ salt.above) zero zero))
 
 -- the zone at t after its falls
-abbrev pub lowered : Float → Deltas → ZoneUpdate
-lowered t deltas = record { temperature = t ⊖ (deltas.above ⊕ deltas.during ⊕ deltas.below) }
+abbrev pub lowered : Float → Deltas → Float
+lowered t deltas = t ⊖ (deltas.above ⊕ deltas.during ⊕ deltas.below)
 
 -- 'NaN energy, or magnitude at most 1e-6, leaves the zone. A positive one never raises it, a negative one never lowers it.'
-unfoldable pub new_zone_temperature : Salt → Float → Kilojoules → ZoneUpdate
+unfoldable pub new_zone_temperature : Salt → Float → Kilojoules → Float
 new_zone_temperature salt t energy =
     cond (nearly_equal energy.0 zero negligible_energy max_relative)
-    (record { temperature = t })
+    t
     (cond (lt zero energy.0)
     (lowered t (delivering salt t energy))
     (cond (lt energy.0 zero)
     (lowered t (retrieving salt t energy))
-    (record { temperature = t })))
+    t))
 
 -- its falls by two comparisons, none where the zone stays: what the code lowers it by
 unfoldable pub zone_falls : Salt → Float → Kilojoules → Deltas
@@ -82,3 +84,30 @@ zone_falls salt t energy =
     (cond (lt energy.0 (neg negligible_energy))
     (retrieving salt t energy)
     (deltas zero zero zero))
+
+-- the update took the energy whole, and the zone ends at t
+abbrev pub took_all : Float → Kilojoules → ZoneUpdate
+took_all t energy = record { temperature = t; taken = energy; rest = kj zero }
+
+-- 'A zone already at or under the floor stays, and takes 0'
+abbrev pub took_none : Float → Kilojoules → ZoneUpdate
+took_none t energy = record { temperature = t; taken = kj zero; rest = energy }
+
+-- it took so much, and 'the rest is the energy minus that'
+abbrev pub took_part : Float → Float → Kilojoules → ZoneUpdate
+took_part t taken energy = record { temperature = t; taken = kj taken; rest = kj (energy.0 ⊖ taken) }
+
+-- a zone of the salt at t that u would be after document 01's update, with a floor: 'Where the update of document 01 would end under the floor, the zone becomes 16, what was
+-- taken is the smaller of the energy and the layer energy of the old temperature with 16 as ref'
+unfoldable pub floored : Float → Salt → Float → Kilojoules → Float → ZoneUpdate
+floored lowest salt t energy u =
+    cond (le t lowest)
+    (took_none t energy)
+    (cond (lt u lowest)
+    (took_part lowest (min energy.0 (layer_energy_stored t lowest salt).0) energy)
+    (took_all u energy))
+
+-- 'hands back, beside the new temperature, the heat it couldn't take'; without a floor it takes all
+unfoldable pub zone_update : Option Float → Salt → Float → Kilojoules → ZoneUpdate
+zone_update None salt t energy = took_all (new_zone_temperature salt t energy) energy
+zone_update (Some lowest) salt t energy = floored lowest salt t energy (new_zone_temperature salt t energy)

@@ -1,8 +1,8 @@
-// Document 01, module 2. The Rust's heat ranges 1, 2 and 3 lie above, within and below the melting range.
+// Document 01, module 2, with document 02's lowest temperature. The Rust's heat ranges 1, 2 and 3 lie above, within and below the melting range.
 #![tactic(auto)]
 
 ghost use Rattle.std.specs.Prelude.{◌≡◌};
-ghost use Rattle.zone_update.specs.Update.{delivering_from_above, delivering as delivering_of, retrieving_from_below, retrieving as retrieving_of, zone_falls, lowered as lowered_of, new_zone_temperature};
+ghost use Rattle.zone_update.specs.Update.{delivering_from_above, delivering as delivering_of, retrieving_from_below, retrieving as retrieving_of, zone_falls, lowered as lowered_of, new_zone_temperature, floored as floored_of, zone_update};
 
 use zone::{Kilojoules, Salt};
 
@@ -14,10 +14,12 @@ pub struct Deltas {
     pub below: f64,
 }
 
-// A zone after an energy transfer.
+// A zone after an energy transfer: what was taken of the energy, and what couldn't be.
 #[derive(Clone, Copy)]
 pub struct ZoneUpdate {
     pub temperature: f64,
+    pub taken: Kilojoules,
+    pub rest: Kilojoules,
 }
 
 // A zone at upper or warmer gives up the energy e > 0.
@@ -130,12 +132,10 @@ fn retrieving(salt: Salt, zone: f64, energy: Kilojoules) -> Deltas
     }
 }
 
-fn lowered(zone: f64, deltas: Deltas) -> ZoneUpdate
+fn lowered(zone: f64, deltas: Deltas) -> f64
     ensures { result ≡ lowered_of zone deltas }
 {
-    ZoneUpdate {
-        temperature: zone - (deltas.above + deltas.during + deltas.below),
-    }
+    zone - (deltas.above + deltas.during + deltas.below)
 }
 
 // The falls of a zone that gives up the energy e. Nearly equal to 0 is a magnitude of at most NEGLIGIBLE_ENERGY_KJ, and two comparisons cost
@@ -153,11 +153,63 @@ fn zone_falls(salt: Salt, zone: f64, energy: Kilojoules) -> Deltas
     Deltas::default()
 }
 
-// A zone is lowered in one place, by falls of 0 where it stays: so short, it is compiled in place in the loop of every mode.
+// A zone is lowered in one place, by falls of 0 where it stays. In place in the loop of every mode: as a call it took a demand a third more instructions.
+#[inline(always)]
 #[tactic(auto, using(crate::proofs::Lowering::lowered_by_falls))]
-pub fn calculate_new_zone_temperature(salt: Salt, zone: f64, energy: Kilojoules) -> ZoneUpdate
+fn new_zone_temperature(salt: Salt, zone: f64, energy: Kilojoules) -> f64
     ensures { result ≡ new_zone_temperature salt zone energy }
 {
     let d = zone_falls(salt, zone, energy);
     lowered(zone, d)
+}
+
+// A zone that would be at `after` if there were no lowest temperature.
+#[tactic(auto, unfolding(crate::specs::Update::floored))]
+fn floored(lowest: f64, salt: Salt, zone: f64, energy: Kilojoules, after: f64) -> ZoneUpdate
+    ensures { result ≡ floored_of lowest salt zone energy after }
+{
+    if zone <= lowest {
+        return ZoneUpdate {
+            temperature: zone,
+            taken: Kilojoules(0.0),
+            rest: energy,
+        };
+    }
+    if after < lowest {
+        let held = zone::layer::calculate_layer_energy_stored(zone, lowest, salt);
+        let taken = floats::min(energy.0, held.0);
+        return ZoneUpdate {
+            temperature: lowest,
+            taken: Kilojoules(taken),
+            rest: Kilojoules(energy.0 - taken),
+        };
+    }
+    ZoneUpdate {
+        temperature: after,
+        taken: energy,
+        rest: Kilojoules(0.0),
+    }
+}
+
+// The one update of every mode, with the lowest temperature that it may leave a zone at, if there is one. In place too: where there is none, no zone is
+// asked for it.
+#[inline(always)]
+#[tactic(auto, unfolding(crate::specs::Update::zone_update))]
+pub fn calculate_new_zone_temperature(
+    salt: Salt,
+    zone: f64,
+    energy: Kilojoules,
+    lowest: Option<f64>,
+) -> ZoneUpdate
+    ensures { result ≡ zone_update lowest salt zone energy }
+{
+    let temperature = new_zone_temperature(salt, zone, energy);
+    match lowest {
+        None => ZoneUpdate {
+            temperature,
+            taken: energy,
+            rest: Kilojoules(0.0),
+        },
+        Some(lowest) => floored(lowest, salt, zone, energy, temperature),
+    }
 }

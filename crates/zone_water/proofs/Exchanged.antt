@@ -9,8 +9,10 @@ use Rattle.zone.specs.Good.{GoodSalt}
 use Rattle.zone.specs.Heat.{kj}
 use Rattle.zone.specs.declared.Kilojoules.{Kilojoules}
 use Rattle.zone.specs.declared.Salt.{Salt}
-use Rattle.zone_update.specs.Update.{new_zone_temperature}
-use Rattle.zone_update.proofs.Directions.{positive_never_raises}
+use Rattle.std.specs.Prelude.{Option}
+use Rattle.zone_update.specs.Update.{zone_update}
+use Rattle.zone_update.proofs.Floors as Floors
+use Rattle.zone_update.proofs.Floors.{GoodFloor}
 use Rattle.zone_water.specs.Water.{zone_properties}
 use Rattle.zone_water.specs.declared.Mode.TheVariants.{OnlyCharging, Losses}
 use Rattle.zone_water.specs.declared.Shared.{Shared}
@@ -20,9 +22,9 @@ pub charging_alone_exchanges_nothing : (x : Shared) (t inlet : Float) (q : Kiloj
 unfolding zone_properties
 charging_alone_exchanges_nothing x t inlet q = refl
 
--- a standing loss never warms a zone, whatever the surroundings, the rated losses and the charger's heat
+-- a standing loss never warms a zone, whatever the floor, the surroundings, the rated losses and the charger's heat
 pub loss_never_warms :
-    (s : Salt) → GoodSalt s → (t : Float) → T (finite64 t) → (x : Shared) (inlet : Float) (q : Kilojoules) →
-    T (le (new_zone_temperature s t (zone_properties Losses x t inlet q).energy).temperature t)
+    (lowest : Option Float) → GoodFloor lowest → (s : Salt) → GoodSalt s → (t : Float) → T (finite64 t) → (x : Shared) (inlet : Float) (q : Kilojoules) →
+    T (le (zone_update lowest s t (zone_properties (Losses lowest) x t inlet q).energy).temperature t)
 unfolding zone_properties
-loss_never_warms s g t F x inlet q = positive_never_raises s g t F _ (max_zero_nonneg _)
+loss_never_warms lowest f s g t F x inlet q = Floors.loss_never_warms s g t F _ lowest f (max_zero_nonneg _)

@@ -67,7 +67,7 @@ outlet_temp transfer t inlet mass =
 -- Only the normal mode uses the heat transfer, and so the logarithm, which is taken before the zones: a zone takes none of its own
 unfoldable pub zone_properties : Mode → Shared → Float → Float → Kilojoules → ZoneProperties
 zone_properties OnlyCharging shared t inlet left = record { energy = kj zero; outlet = zero; logarithms = 0 }
-zone_properties Losses shared t inlet left =
+zone_properties (Losses lowest) shared t inlet left =
     record { energy = kj (max_zero (left.0 ⊘ of_int binary64 (pos shared.layers) ⊗ (t ⊖ shared.inlet) ⊘ shared.rated)); outlet = zero; logarithms = 0 }
 zone_properties Normal shared t inlet left =
     record {

@@ -6,11 +6,12 @@ ghost use Rattle.zone_water.specs.Water.{kinematic_viscosity, reynold_number, ma
 
 use zone::Kilojoules;
 
-// The Rust's HeatBatteryPcmOperationMode.
+// The Rust's HeatBatteryPcmOperationMode; losses go with the lowest temperature that they leave a zone at, if there is one.
 #[derive(Clone, Copy)]
 pub enum Mode {
     OnlyCharging,
-    Losses,
+    // °C
+    Losses(Option<f64>),
     Normal,
 }
 
@@ -129,7 +130,7 @@ pub fn get_zone_properties(
             outlet: 0.0,
             logarithms: 0,
         },
-        Mode::Losses => {
+        Mode::Losses(_) => {
             let share = left.0 / (shared.layers as f64);
             let energy = floats::max_zero(share * (zone - shared.inlet) / shared.rated);
             ZoneProperties {

@@ -1,5 +1,5 @@
 /* The engine's arithmetic in plain C, for the benchmark: kinds 1 to 5 of document 01 with its stand-ins, operation for
- * operation. It refuses nothing: no ranges, no budget, no test for finite numbers or for the logarithm's argument, and a
+ * operation, and the floor of document 02. It refuses nothing: no ranges, no budget, no test for finite numbers or for the logarithm's argument, and a
  * demand must have its return temperature. */
 #include <math.h>
 #include <stdbool.h>
@@ -31,6 +31,7 @@ struct plain_battery {
     double substep, timestep;
     double initial_inlet, estimated_outlet, max, reference;
     double losses, rated_difference, power;
+    bool floor;
     struct salt salt;
     struct exchanger exchanger;
     struct state start, now;
@@ -352,12 +353,33 @@ static double hydronic(struct plain_battery *b, const double *call) {
     return absorbed / 3600.0;
 }
 
+#define FLOOR 16.0 /* °C */
+
+/* A zone that loses energy but stops at the floor: what was taken. */
+static double lose_to_floor(const struct salt *salt, double *place, double energy) {
+    double zone = *place;
+    if (zone <= FLOOR)
+        return 0.0;
+    double end = new_temperature(salt, zone, energy);
+    if (end < FLOOR) {
+        double held = stored(salt, zone, FLOOR);
+        *place = FLOOR;
+        return held < energy ? held : energy;
+    }
+    *place = end;
+    return energy;
+}
+
 static double standing_loss(struct plain_battery *b) {
     double rated = -charger_energy(b->losses, b->timestep * 3600.0);
     struct sum sum = {0.0, 0.0};
     for (size_t i = 0; i < b->layers; i++) {
         double zone = b->now.zones[i];
         double energy = max_zero(rated / (double)b->layers * (zone - 16.0) / b->rated_difference);
+        if (b->floor) {
+            add(&sum, lose_to_floor(&b->salt, &b->now.zones[i], energy));
+            continue;
+        }
         add(&sum, energy);
         b->now.zones[i] = new_temperature(&b->salt, zone, energy);
     }
@@ -382,8 +404,8 @@ static double answer(struct plain_battery *b, const double *call) {
 
 /* ---- for the benchmark */
 
-/* From a card's 23 numbers, five totals and 64 zones; NULL without memory. */
-struct plain_battery *plain_c_new(const double *start) {
+/* From a card's 23 numbers, five totals and 64 zones, and its floor; NULL without memory. */
+struct plain_battery *plain_c_new(const double *start, bool floor) {
     struct plain_battery *b = malloc(sizeof *b);
     if (b == NULL)
         return NULL;
@@ -403,6 +425,7 @@ struct plain_battery *plain_c_new(const double *start) {
     b->losses = card[16];
     b->rated_difference = b->max - 20.0;
     b->power = card[18];
+    b->floor = floor;
     memcpy(b->start.zones, start + 28, sizeof b->start.zones);
     b->start.running = totals[0];
     b->start.pump = totals[1];

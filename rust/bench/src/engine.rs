@@ -18,11 +18,21 @@ pub fn version() -> Version {
     })
 }
 
-fn calls_bytes(calls: &[Call]) -> Vec<Vec<u8>> {
-    calls.iter().map(|call| sheet::call_bytes(version().number(), call)).collect()
+/// That version, or with a floor the first that has one, if it is later.
+pub fn version_with(floor: bool) -> Version {
+    match floor {
+        true => version().max(Version::Four),
+        false => version(),
+    }
 }
 
-/// A battery and a list of calls, on the caller's own record, by heat_battery_advance.
+fn calls_bytes(version: Version, calls: &[Call]) -> Vec<Vec<u8>> {
+    calls.iter().map(|call| sheet::call_bytes(version.number(), call)).collect()
+}
+
+/// A battery and a list of calls, on the caller's own record, by heat_battery_advance. It begins a cache
+/// line, wherever it is put: across two, a call with one substep took up to a tenth longer.
+#[repr(align(64))]
 pub struct Engine {
     version: u8,
     battery: ffi::Battery,
@@ -32,7 +42,7 @@ pub struct Engine {
 }
 
 impl Engine {
-    pub fn new(battery: &Battery, calls: &[Call]) -> Self {
+    pub fn new(version: Version, battery: &Battery, calls: &[Call]) -> Self {
         let card = &battery.card;
         let zones = battery.state.zones.clone();
         let totals = battery.state.totals.numbers();
@@ -50,9 +60,10 @@ impl Engine {
             services: 0,
             numbers: [0; ffi::MOST_SERVICES],
             classes: [0; ffi::MOST_SERVICES],
+            floor: card.floor,
         };
-        let version = version().number();
-        Engine { version, battery, zones, totals, calls: calls_bytes(calls) }
+        let calls = calls_bytes(version, calls);
+        Engine { version: version.number(), battery, zones, totals, calls }
     }
 
     /// The list, the state written back first: the sum of energies, refusals and the first zone, and the substeps.
@@ -69,7 +80,8 @@ impl Engine {
     }
 }
 
-/// The same by the crate's types.
+/// The same by the crate's types, also at the start of a cache line.
+#[repr(align(64))]
 pub struct Crate {
     start: Record,
     record: Record,
@@ -77,13 +89,12 @@ pub struct Crate {
 }
 
 impl Crate {
-    pub fn new(battery: &Battery, calls: &[Call]) -> Self {
-        let version = version();
+    pub fn new(version: Version, battery: &Battery, calls: &[Call]) -> Self {
         let bytes = sheet::battery_bytes(version.number(), battery);
         let start = heat_battery::Battery::from_bytes(version, &bytes).expect("a good battery");
         let read = |call: &Vec<u8>| heat_battery::Call::from_bytes(version, call).expect("a call");
         let start = Record::from(&start);
-        let calls = calls_bytes(calls).iter().map(read).collect();
+        let calls = calls_bytes(version, calls).iter().map(read).collect();
         Crate { record: start.clone(), start, calls }
     }
 
@@ -112,7 +123,7 @@ pub struct Day {
 
 impl Day {
     pub fn new(card: &Card, calls: &[Call]) -> Self {
-        let (version, calls) = (version().number(), calls_bytes(calls));
+        let (version, calls) = (version().number(), calls_bytes(version(), calls));
         let lines: usize = calls.iter().map(|call| sheet::line_length(call, card.layers)).sum();
         let card = sheet::card_bytes(version, card);
         let record = vec![0; sheet::record_length(&card)];

@@ -4,13 +4,15 @@
 //!   bench                       every row: substeps per second and ratios; then the audit
 //!   bench ROW CONTENDER ROUNDS  that many rounds of one row, for callgrind
 //!
-//! All in version 1, or in the one that the variable BENCH_VERSION names.
+//! All in version 1, or in the one that the variable BENCH_VERSION names; the rows with a floor in
+//! version 4, without the published file.
 
 mod engine;
 mod plain_c;
 mod rows;
 
-use engine::{version, Crate, Day, Engine};
+use engine::{version, version_with, Crate, Day, Engine};
+use heat_battery::Version;
 use oracle::entries::{self, BEST};
 use oracle::model::{Battery, Call, Card, Demand, Hydronic, State, Totals};
 use plain_c::PlainC;
@@ -21,15 +23,19 @@ use std::time::{Duration, Instant};
 const REPEATS: usize = 200;
 const TURN: Duration = Duration::from_millis(2);
 
+/// Of the rows' names.
+const WIDTH: usize = 40;
+
 /// What runs a list so many times.
 type Runner<'a> = Box<dyn FnMut(usize) -> f64 + 'a>;
 
-fn oracle_battery(start: &[f64]) -> Battery {
+fn oracle_battery(start: &[f64], floor: bool) -> Battery {
     let mut card = Card {
         layers: start[0] as u8,
         units: start[1] as u16,
         simultaneous: start[2] as u8,
         budget: start[3] as u16,
+        floor: u8::from(floor),
         ..Card::default()
     };
     for (field, number) in card.numbers_mut().into_iter().zip(&start[4..23]) {
@@ -77,11 +83,16 @@ fn oracle_call(call: &[f64; 10]) -> Call {
 }
 
 /// The list by the oracle's judge or its plain implementation: the sum and the substeps.
-fn oracle_list(step: entries::Step, start: &Battery, calls: &[Call]) -> (f64, u64) {
+fn oracle_list(
+    version: Version,
+    step: entries::Step,
+    start: &Battery,
+    calls: &[Call],
+) -> (f64, u64) {
     let (mut sum, mut substeps) = (0.0, 0);
     let mut battery = start.clone();
     for call in calls {
-        let (answer, after) = step(version().number(), &battery, call);
+        let (answer, after) = step(version.number(), &battery, call);
         sum = sum + answer.energy + f64::from(answer.refusal);
         substeps += u64::from(answer.substeps);
         battery = after;
@@ -94,13 +105,14 @@ fn oracle_calls(row: &Row) -> Vec<Call> {
 }
 
 fn contenders(row: &Row) -> Vec<(&'static str, Runner<'_>)> {
-    let battery = oracle_battery(&row.start);
+    let (version, battery) = (version_with(row.floor), oracle_battery(&row.start, row.floor));
     let calls = oracle_calls(row);
-    let mut engine = Engine::new(&battery, &calls);
-    let mut wrapped = Crate::new(&battery, &calls);
-    let mut plain_c = PlainC::new(&row.start);
-    let plain = move || oracle_list(oracle::plain::step, black_box(&battery), black_box(&calls)).0;
-    let mut all = published(row);
+    let mut engine = Engine::new(version, &battery, &calls);
+    let mut wrapped = Crate::new(version, &battery, &calls);
+    let mut plain_c = PlainC::new(&row.start, row.floor);
+    let plain =
+        move || oracle_list(version, oracle::plain::step, black_box(&battery), black_box(&calls)).0;
+    let mut all = if row.floor { Vec::new() } else { published(row) };
     all.extend([
         ("plain Rust", rounds_of(plain)),
         ("plain C", rounds_of(move || plain_c.list(black_box(&row.calls)))),
@@ -160,10 +172,10 @@ fn times(all: &mut [(&'static str, Runner<'_>)]) -> Vec<f64> {
 
 /// The answers are the judge's, bit by bit, and the published file's to 1e-9.
 fn check(row: &Row) -> u64 {
-    let battery = oracle_battery(&row.start);
+    let (version, battery) = (version_with(row.floor), oracle_battery(&row.start, row.floor));
     let calls = oracle_calls(row);
-    let (sum, substeps) = oracle_list(BEST, &battery, &calls);
-    assert_eq!(Engine::new(&battery, &calls).list().1, substeps, "{}", row.name);
+    let (sum, substeps) = oracle_list(version, BEST, &battery, &calls);
+    assert_eq!(Engine::new(version, &battery, &calls).list().1, substeps, "{}", row.name);
     for (name, mut run) in contenders(row) {
         let got = run(1);
         let same =
@@ -183,27 +195,32 @@ const RATIOS: [(&str, &str); 6] = [
     ("crate", "plain C"),
 ];
 
-/// Measures a row and prints its rates; its line of the second table.
-fn measure(row: &Row) -> String {
+/// Measures a row and prints its rates under the heads; its line of the second table. A contender that
+/// doesn't run the row has a dash.
+fn measure(row: &Row, heads: &[&str]) -> String {
     let substeps = check(row);
     let mut all = contenders(row);
     let best = times(&mut all);
-    print!("{:33}{substeps:>8}", row.name);
-    for time in &best {
-        print!("{:>14.0}", substeps as f64 / time);
-    }
-    println!();
     let time = |name: &str| {
         let found = all.iter().zip(&best).find(|((contender, _), _)| *contender == name);
-        found.map_or(f64::NAN, |(_, time)| *time)
+        found.map(|(_, time)| *time)
     };
-    let ratios = RATIOS.map(|(ours, other)| format!(" {:.2} |", time(other) / time(ours)));
+    print!("{:WIDTH$}{substeps:>8}", row.name);
+    for head in heads {
+        let rate = time(head).map(|time| format!("{:.0}", substeps as f64 / time));
+        print!("{:>14}", rate.unwrap_or("-".into()));
+    }
+    println!();
+    let ratios = RATIOS.map(|(ours, other)| match (time(ours), time(other)) {
+        (Some(ours), Some(other)) => format!(" {:.2} |", other / ours),
+        _ => " - |".into(),
+    });
     format!("| {} | {substeps} |{}", row.name, ratios.concat())
 }
 
 /// A row's card and calls from a fresh battery on: the sheet is the judge's, and accepted.
 fn day(row: &Row) -> Day {
-    let card = oracle_battery(&row.start).card;
+    let card = oracle_battery(&row.start, false).card;
     let calls = oracle_calls(row);
     let mut day = Day::new(&card, &calls);
     day.write();
@@ -223,8 +240,8 @@ fn day(row: &Row) -> Day {
 fn measure_audit(row: &Row) {
     let audited = day(row);
     let mut written = day(row);
-    let fresh = Battery::fresh(&oracle_battery(&row.start).card);
-    let mut engine = Engine::new(&fresh, &oracle_calls(row));
+    let fresh = Battery::fresh(&oracle_battery(&row.start, false).card);
+    let mut engine = Engine::new(version(), &fresh, &oracle_calls(row));
     let lines = audited.lines();
     let best = times(&mut [
         ("audit", rounds_of(move || black_box(&audited).audit() as f64)),
@@ -233,7 +250,7 @@ fn measure_audit(row: &Row) {
     ]);
     let rates: Vec<f64> = best.iter().map(|time| lines as f64 / time).collect();
     println!(
-        "\n{:33}{:>8}{:>14}{:>14}{:>14}\n{:33}{lines:>8}{:>14.0}{:>14.0}{:>14.0}",
+        "\n{:WIDTH$}{:>8}{:>14}{:>14}{:>14}\n{:WIDTH$}{lines:>8}{:>14.0}{:>14.0}{:>14.0}",
         "lines per second",
         "lines",
         "audit",
@@ -263,12 +280,14 @@ fn main() {
     }
     let chosen = |row: &&Row| words.first().is_none_or(|name| row.name.starts_with(name.as_str()));
     let rows: Vec<&Row> = rows.iter().filter(chosen).collect();
-    print!("{:33}{:>8}", "substeps per second", "substeps");
-    for (name, _) in rows.first().map_or(vec![], |row| contenders(row)) {
+    print!("{:WIDTH$}{:>8}", "substeps per second", "substeps");
+    let names = |row: &&Row| contenders(row).iter().map(|(name, _)| *name).collect();
+    let heads: Vec<&str> = rows.iter().map(names).max_by_key(Vec::len).unwrap_or_default();
+    for name in &heads {
         print!("{name:>14}");
     }
     println!();
-    let lines: Vec<String> = rows.iter().map(|row| measure(row)).collect();
+    let lines: Vec<String> = rows.iter().map(|row| measure(row, &heads)).collect();
     let heads = RATIOS.map(|(ours, other)| format!(" {ours} / {other} |"));
     println!("\n| row | substeps |{}\n|{}", heads.concat(), "---|".repeat(2 + RATIOS.len()));
     for line in lines {

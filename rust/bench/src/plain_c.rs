@@ -6,7 +6,7 @@ use std::ptr::NonNull;
 enum Battery {}
 
 extern "C" {
-    fn plain_c_new(start: *const f64) -> *mut Battery;
+    fn plain_c_new(start: *const f64, floor: bool) -> *mut Battery;
     fn plain_c_free(battery: *mut Battery);
     fn plain_c_list(battery: *mut Battery, calls: *const f64, count: usize) -> f64;
 }
@@ -14,11 +14,11 @@ extern "C" {
 pub struct PlainC(NonNull<Battery>);
 
 impl PlainC {
-    /// From a card's 23 numbers, five totals and 64 zones.
-    pub fn new(start: &[f64]) -> Self {
+    /// From a card's 23 numbers, five totals and 64 zones, and its floor.
+    pub fn new(start: &[f64], floor: bool) -> Self {
         assert_eq!(start.len(), 23 + 5 + 64);
         // SAFETY: as many numbers as it reads.
-        PlainC(NonNull::new(unsafe { plain_c_new(start.as_ptr()) }).expect("memory"))
+        PlainC(NonNull::new(unsafe { plain_c_new(start.as_ptr(), floor) }).expect("memory"))
     }
 
     /// The list from the start on: the sum of energies and the first zone.
@@ -35,15 +35,17 @@ impl Drop for PlainC {
     }
 }
 
-/// The plain C gives the judge's sums on random lists of kinds 1 to 5, up to the first refusal.
+/// The plain C gives the judge's sums on random lists of kinds 1 to 5, up to the first refusal, with
+/// and without a floor.
 #[cfg(test)]
 mod tests {
     use super::PlainC;
-    use crate::engine::version;
+    use crate::engine::version_with;
     use crate::{oracle_battery, oracle_call, oracle_list};
+    use heat_battery::Version;
     use oracle::entries::BEST;
     use oracle::generate;
-    use oracle::model::{Battery, Call, Demand, Hydronic};
+    use oracle::model::{Battery, Call, Card, Demand, Hydronic, Services};
     use oracle::random::Random;
 
     fn start(battery: &Battery) -> Vec<f64> {
@@ -79,17 +81,15 @@ mod tests {
         Some(std::array::from_fn(|k| numbers.get(k).copied().unwrap_or(0.0)))
     }
 
-    /// A list without refusals from a battery on.
-    fn list(random: &mut Random, from: &Battery) -> (Vec<Call>, Vec<[f64; 10]>) {
+    /// A list without refusals from a battery on, of types 0 to 3.
+    fn list(random: &mut Random, version: Version, from: &Battery) -> (Vec<Call>, Vec<[f64; 10]>) {
         let mut battery = from.clone();
         let (mut calls, mut rows) = (vec![], vec![]);
         for _ in 0..generate::list_length(random) {
-            let Some(row) = numbers(&generate::next_call(random, version().number(), &battery))
-            else {
-                continue;
-            };
+            let next = generate::next_call(random, Version::Two.number(), &battery);
+            let Some(row) = numbers(&next) else { continue };
             let call = oracle_call(&row);
-            let (answer, after) = BEST(version().number(), &battery, &call);
+            let (answer, after) = BEST(version.number(), &battery, &call);
             if answer.refusal != 0 {
                 break;
             }
@@ -103,17 +103,22 @@ mod tests {
     #[test]
     fn random_lists() {
         let mut random = Random::new(1);
-        let mut count = 0;
+        let (mut count, mut losses) = (0, 0);
         while count < 100_000 {
-            let card = generate::card(&mut random);
-            let battery = generate::battery(&mut random, &card);
-            let (calls, rows) = list(&mut random, &battery);
+            let card = generate::card_of(&mut random, Version::Four.number());
+            let card = Card { services: Services::default(), ..card };
+            let (floor, battery) = (card.floor == 1, generate::battery(&mut random, &card));
+            let version = version_with(floor);
+            let (calls, rows) = list(&mut random, version, &battery);
             let start = start(&battery);
-            assert_eq!(start, self::start(&oracle_battery(&start)));
-            let (sum, _) = oracle_list(BEST, &battery, &calls);
-            let got = PlainC::new(&start).list(&rows);
+            assert_eq!(start, self::start(&oracle_battery(&start, floor)));
+            let (sum, _) = oracle_list(version, BEST, &battery, &calls);
+            let got = PlainC::new(&start, floor).list(&rows);
             assert!(got.to_bits() == sum.to_bits() || got.is_nan() && sum.is_nan(), "{calls:?}");
             count += calls.len();
+            let is_loss = |call: &&Call| matches!(call, Call::StandingLoss);
+            losses += calls.iter().filter(is_loss).filter(|_| floor).count();
         }
+        assert!(losses > 10_000, "{losses} losses with a floor");
     }
 }

@@ -5,6 +5,8 @@ pub struct Row {
     pub name: &'static str,
     /// 23 numbers of the card, five totals, 64 zones.
     pub start: Vec<f64>,
+    /// Whether standing losses stop at 16 °C, which the published Rust doesn't have.
+    pub floor: bool,
     pub calls: Vec<[f64; 10]>,
 }
 
@@ -49,7 +51,19 @@ fn spread(layers: f64) -> impl Fn(usize) -> f64 {
 }
 
 fn one(name: &'static str, start: Vec<f64>, call: [f64; 10]) -> Row {
-    Row { name, start, calls: vec![call] }
+    Row { name, start, floor: false, calls: vec![call] }
+}
+
+fn with_floor(name: &'static str, start: Vec<f64>) -> Row {
+    Row { floor: true, ..one(name, start, kind(4.0)) }
+}
+
+/// Eight zones from 12 °C upward: three that are at the floor or under it and stay, five whose losses
+/// would end under it.
+fn at_floor() -> Vec<f64> {
+    let losses = 20.0;
+    let card = [&card(8.0, 0.0, 80.0)[..20], &[losses, 80.0, 5.6]].concat();
+    battery(card, |k| 12.0 + 2.0 * (k as f64))
 }
 
 /// 48 half-hours, three services, a charge at night, losses and the end of each timestep.
@@ -85,6 +99,8 @@ pub fn rows() -> Vec<Row> {
         one("hydronic charge, 8 layers", cold(8.0), hydronic(70.0, 0.6, 50.0)),
         one("standing loss, 8 layers", eight(), kind(4.0)),
         one("standing loss, 64 layers", most(), kind(4.0)),
-        Row { name: "winter day, 8 layers", start: eight(), calls: winter_day() },
+        with_floor("standing loss with the floor, 8 layers", eight()),
+        with_floor("standing loss at the floor, 8 layers", at_floor()),
+        Row { name: "winter day, 8 layers", start: eight(), floor: false, calls: winter_day() },
     ]
 }

@@ -49,11 +49,43 @@ impl Numbered {
     }
 }
 
+/// Zones of answered standing losses with the floor: those that stop there, that end above it, and
+/// that were at it or under it before.
+#[derive(Debug, Default)]
+struct Floored {
+    stopped: u64,
+    above: u64,
+    stayed: u64,
+}
+
+impl Floored {
+    fn add(&mut self, card: &Card, before: &[f64], call: &Call, answer: &Answer) {
+        if !card.floor || *call != Call::StandingLoss || answer.refusal.is_some() {
+            return;
+        }
+        const FLOOR: f64 = Card::FLOOR_TEMPERATURE;
+        for (before, after) in before.iter().zip(answer.zones.iter()) {
+            match (*before > FLOOR, *after > FLOOR) {
+                (true, true) => self.above += 1,
+                (true, false) => self.stopped += u64::from(*after == FLOOR),
+                (false, _) => self.stayed += u64::from(before.to_bits() == after.to_bits()),
+            }
+        }
+    }
+
+    /// Each of them occurred, if there were many lists.
+    fn end(&self) {
+        let least = [self.stopped, self.above, self.stayed].into_iter().min();
+        assert!(least > Some(lists() / 200), "{self:?}");
+    }
+}
+
 /// Lists from fresh batteries and from ones handed in: every answer, zone and total.
 #[test]
 fn answers_are_the_oracles() {
     let mut random = Random::new(1);
     let mut numbered = Numbered::default();
+    let mut floored = Floored::default();
     for _ in 0..lists() {
         let version = version(&mut random);
         let drawn = generate::card_of(&mut random, version.number());
@@ -67,10 +99,12 @@ fn answers_are_the_oracles() {
             assert_same(&given, &answer, &next);
             assert_eq!(ours.as_bytes(), sheet::battery_bytes(version.number(), &after));
             numbered.add(ours.card(), &call, &given);
+            floored.add(ours.card(), &theirs.state.zones, &call, &given);
             theirs = after;
         }
     }
     numbered.end();
+    floored.end();
 }
 
 /// Lists from fresh batteries on sheets: every byte, and the audit of what is written.
@@ -98,7 +132,8 @@ fn sheets_are_the_oracles() {
 }
 
 /// One list of types 0 to 3 in all versions: the answers differ in the time of answered hydronic
-/// charges only, which version 1 shows as 0; that a card lists services in version 3 plays no part.
+/// charges only, which version 1 shows as 0; that a card lists services from version 3 on plays no
+/// part, nor does the flag of version 4 where it is 0.
 #[test]
 fn versions_differ_in_the_time_of_hydronic_charges() {
     let mut random = Random::new(7);
@@ -109,17 +144,18 @@ fn versions_differ_in_the_time_of_hydronic_charges() {
         let [mut old, mut new] = [Version::One, Version::Two].map(|one| battery(one, &theirs));
         let services = generate::services(&mut random);
         let listing = model::Battery { card: model::Card { services, ..drawn }, ..theirs.clone() };
-        let mut listing = battery(Version::Three, &listing);
+        let mut later = [Version::Three, Version::Four].map(|one| battery(one, &listing));
         for _ in 0..generate::list_length(&mut random) {
             let next = generate::next_call(&mut random, Version::Two.number(), &theirs);
             theirs = plain::step(new.version().number(), &theirs, &next).1;
             let call = call(Version::Two, &next);
-            let [one, two, three] =
-                [&mut old, &mut new, &mut listing].map(|battery| battery.answer(&call).unwrap());
+            let [one, two] = [&mut old, &mut new].map(|battery| battery.answer(&call).unwrap());
             let is_timed = call.kind() == Kind::Hydronic && two.refusal.is_none();
             let time = if is_timed { 0.0 } else { two.time };
             assert_eq!(one, Answer { time, ..two }, "{call}");
-            assert_eq!(three, two, "{call}");
+            for battery in &mut later {
+                assert_eq!(battery.answer(&call), Ok(two), "{call}");
+            }
             assert_eq!(old.as_bytes(), new.as_bytes());
             timed += u64::from(is_timed && two.time > 0.0);
         }
@@ -131,7 +167,7 @@ fn versions_differ_in_the_time_of_hydronic_charges() {
 #[test]
 fn cards_are_refused_and_explained() {
     let mut random = Random::new(3);
-    let mut bad_services = 0;
+    let (mut bad_services, mut bad_flags) = (0, 0);
     for _ in 0..100_000 {
         let version = version(&mut random);
         let drawn = generate::any_card_of(&mut random, version.number());
@@ -145,8 +181,11 @@ fn cards_are_refused_and_explained() {
         });
         assert_eq!(found.err(), refusal);
         bad_services += u32::from(refusal == Some(Refusal::BadServices));
+        let is_flag = plain::card_refusal(&model::Card { floor: 0, ..drawn }) != 1;
+        bad_flags += u32::from(refusal == Some(Refusal::CardOutOfRange) && is_flag);
     }
     assert!(bad_services > 1000, "{bad_services} cards with 61");
+    assert!(bad_flags > 1000, "{bad_flags} cards with 1 for their flag");
 }
 
 /// Refusal 10 of calls, and the words for it; a refused call changes nothing.
@@ -233,8 +272,8 @@ fn explained(bytes: &[u8], verdict: Verdict) -> Verdict {
 fn a_sheet_without_room_refuses() {
     let drawn = card(Version::NEWEST, &generate::points_card());
     let open = |most| Sheet::open_within(Version::NEWEST, &drawn, most);
-    assert_eq!(open(161).err(), Some(Refusal::NoRoom));
-    let mut ours = open(162 + 81 + 80).expect("room to open");
+    assert_eq!(open(162).err(), Some(Refusal::NoRoom));
+    let mut ours = open(163 + 81 + 80).expect("room to open");
     assert!(ours.call(&Call::StandingLoss).is_ok());
     let before = ours.clone();
     let bad = Call::Electric { power: -1.0, target: 1.0 };

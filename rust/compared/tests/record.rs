@@ -4,7 +4,7 @@
 use compared::{battery, bits, version};
 use heat_battery::{ffi, Answer, Battery, Call, Record, Refusal, Version};
 use oracle::random::Random;
-use oracle::{generate, raw, reading, sheet};
+use oracle::{generate, model, raw, reading, sheet};
 use std::collections::BTreeMap;
 
 /// A number that a variable sets.
@@ -71,7 +71,8 @@ fn own(version: u8, bytes: &[u8]) -> Option<ffi::Battery> {
     if bytes.len() != sheet::record_length(front) {
         return None;
     }
-    let (services, listed, classes) = own_services(&front[sheet::CARD_BYTES..]);
+    let (behind, floor) = own_floor(version, &front[sheet::CARD_BYTES..]);
+    let (services, listed, classes) = own_services(behind);
     let numbers = [&bytes[6..sheet::CARD_BYTES], &bytes[front.len()..]].concat();
     let mut numbers = numbers.chunks_exact(8).map(number_at);
     let mut next = || numbers.next().expect("a number");
@@ -85,7 +86,17 @@ fn own(version: u8, bytes: &[u8]) -> Option<ffi::Battery> {
     let above = |k: usize| f64::from_bits(ABOVE[k % ABOVE.len()]);
     let zones = std::array::from_fn(|k| if k < usize::from(layers) { next() } else { above(k) });
     let totals = std::array::from_fn(|_| next());
-    Some(ffi::Battery { card, zones, count: layers, totals, services, numbers: listed, classes })
+    let (count, numbers) = (layers, listed);
+    Some(ffi::Battery { card, zones, count, totals, services, numbers, classes, floor })
+}
+
+/// What stands before the floor's flag behind a card's fields, and the flag; what no version reads may
+/// be anything.
+fn own_floor(version: u8, bytes: &[u8]) -> (&[u8], u8) {
+    match bytes.split_last() {
+        Some((flag, rest)) if model::has_floor_flag(version) => (rest, *flag),
+        _ => (bytes, 3),
+    }
 }
 
 type OwnServices = (u8, [u16; ffi::MOST_SERVICES], [u8; ffi::MOST_SERVICES]);
@@ -108,10 +119,11 @@ fn record_bits(battery: &ffi::Battery) -> Vec<u64> {
     let ffi::Card { layers, units, simultaneous, budget, numbers } = battery.card;
     let counts = [layers.into(), units.into(), simultaneous.into(), budget.into()];
     let floats = numbers.iter().chain(&battery.zones).chain(&battery.totals).map(|x| x.to_bits());
-    let ffi::Battery { count, services, numbers, classes, .. } = battery;
+    let ffi::Battery { count, services, numbers, classes, floor, .. } = battery;
     let listed = numbers.iter().map(|number| u64::from(*number));
     let classes = classes.iter().map(|class| u64::from(*class));
-    let counts = counts.into_iter().chain([count, services].map(|count| u64::from(*count)));
+    let bytes = [count, services, floor].map(|byte| u64::from(*byte));
+    let counts = counts.into_iter().chain(bytes);
     counts.chain(floats).chain(listed).chain(classes).collect()
 }
 
@@ -177,7 +189,7 @@ fn the_two_entries_agree_on_any_bytes() {
 fn another_count_is_refused() {
     let card = generate::points_card();
     for version in Version::ALL.map(|version| version.number()) {
-        let bytes = sheet::battery_bytes(version, &oracle::model::Battery::fresh(&card));
+        let bytes = sheet::battery_bytes(version, &model::Battery::fresh(&card));
         for count in (0..=255).filter(|count| *count != card.layers) {
             let mut battery = own(version, &bytes).expect("a record");
             battery.count = count;
@@ -235,7 +247,7 @@ fn a_record_answers_as_a_battery() {
 }
 
 /// `clone_from` leaves what `clone` gives, in all 64 places and all 32 of the services, whatever the
-/// layers and services of either record.
+/// layers, services and floor of either record.
 #[test]
 fn a_record_goes_back() {
     let mut random = random();

@@ -55,16 +55,17 @@ fn lists_go_there_and_back() {
     }
 }
 
-/// Any list of services comes back from text, accepted or not; one that is refused is said.
+/// Any list of services comes back from text, accepted or not, with or without a floor behind it; one
+/// that is refused is said.
 #[test]
 fn services_go_there_and_back() {
     let mut random = Random::new(13);
-    let (mut accepted, mut refused) = (0, 0);
-    for _ in 0..20_000 {
-        let version = Version::Three;
+    let (mut accepted, mut refused, mut floored) = (0, 0, 0);
+    for at in 0..40_000 {
+        let version = [Version::Three, Version::Four][at % 2];
         let drawn = generate::any_card_of(&mut random, version.number());
         let bytes = oracle::sheet::card_bytes(version.number(), &drawn);
-        // An unknown class has no name.
+        // An unknown class has no name, a flag is 0 or 1.
         let Ok(card) = Card::from_bytes(version, &bytes) else { continue };
         let listed = text::card(&card.to_string());
         if card.faults().iter().any(|fault| fault.refusal.number() == 1) {
@@ -76,11 +77,15 @@ fn services_go_there_and_back() {
         let refusal = listed.card.check().err();
         assert_eq!(listed.faults().refusal(), refusal);
         match refusal {
-            None => accepted += usize::from(!card.services.is_empty()),
+            None => {
+                accepted += usize::from(!card.services.is_empty());
+                floored += usize::from(card.floor);
+            }
             Some(refusal) => refused += usize::from(refusal.number() == 61),
         }
     }
     assert!(accepted > 1000 && refused > 300, "{accepted} accepted, {refused} refused with 61");
+    assert!(floored > 1000, "{floored} with a floor");
 }
 
 /// Any bits of a number but a NaN's payload come back from text.

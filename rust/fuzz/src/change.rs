@@ -4,7 +4,7 @@
 use crate::input::{Called, Input, MOST_CALLS};
 use oracle::fields;
 use oracle::generate;
-use oracle::model::{is_known, lists_services, Battery, Card, Services};
+use oracle::model::{has_floor_flag, is_known, lists_services, Battery, Card, Services};
 use oracle::plain;
 use oracle::random::Random;
 use oracle::ranges;
@@ -41,12 +41,14 @@ pub fn battery(version: u8, card: &[u8]) -> Battery {
 pub fn turn(input: &mut Input, version: u8) {
     let before = input.version;
     input.version = version;
-    if !is_known(before) || !is_known(version) || lists_services(before) == lists_services(version)
-    {
+    if !is_known(before) || !is_known(version) {
         return;
     }
     if let Some(card) = reading::card(before, &input.card) {
         input.card = sheet::card_bytes(version, &card);
+    }
+    if lists_services(before) == lists_services(version) {
+        return;
     }
     for called in &mut input.calls {
         let call = &mut called.call;
@@ -69,20 +71,44 @@ fn in_place(bytes: &mut Vec<u8>) {
     }
 }
 
-/// Changes one field of a card or its services, or takes another card.
+/// Changes one field of a card, its services or its flag, or takes another card.
 pub fn card(random: &mut Random, version: u8, card: &mut Vec<u8>) {
-    match random.below(8) {
+    match random.below(10) {
         0 => *card = sheet::card_bytes(version, &generate::card_of(random, version)),
         1 => *card = sheet::card_bytes(version, &generate::any_card_of(random, version)),
         2 => *card = crate::mutated(card, card.len() + 4),
         3 => in_place(card),
         4 | 5 if lists_services(version) => services(random, version, card),
+        6 if has_floor_flag(version) => flag(random, version, card),
+        7 if lists_services(version) => near_floor(random, version, card),
         _ if card.len() >= CARD_BYTES => {
             let at = random.below(19) as usize;
             fields::put_number(card, 6 + 8 * at, random.within(ranges::CARD[at]));
         }
         _ => card.resize(sheet::card_length(version, 0), 0),
     }
+}
+
+/// Takes another flag: most often the other of 0 and 1.
+fn flag(random: &mut Random, version: u8, card: &mut Vec<u8>) {
+    let whole = sheet::card_in_front(version, card).is_some_and(|front| front.len() == card.len());
+    match card.last_mut() {
+        Some(flag) if whole => {
+            *flag = match random.below(4) {
+                0 => generate::refused_floor(random),
+                _ => u8::from(*flag == 0),
+            }
+        }
+        _ => *card = sheet::card_bytes(version, &generate::card_of(random, version)),
+    }
+}
+
+/// Takes salt, start and losses of another card, which often come to the floor.
+fn near_floor(random: &mut Random, version: u8, card: &mut Vec<u8>) {
+    let drawn = generate::card_of(random, version);
+    let read = reading::card(version, card).unwrap_or(drawn);
+    let taken = Card { layers: read.layers, services: read.services, floor: read.floor, ..drawn };
+    *card = sheet::card_bytes(version, &taken);
 }
 
 /// Takes another list of services, or changes bytes of this one.
@@ -166,7 +192,10 @@ fn record(random: &mut Random, version: u8, record: &mut Vec<u8>, battery: &Batt
         1 => *record = crate::mutated(record, record.len() + 2),
         2 => in_place(record),
         3 if lists_services(version) && random.one_in(2) => {
-            let listing = Card { services: generate::refused_services(random), ..*card };
+            let listing = match has_floor_flag(version) && random.one_in(2) {
+                true => Card { floor: generate::refused_floor(random), ..*card },
+                false => Card { services: generate::refused_services(random), ..*card },
+            };
             *record = sheet::battery_bytes(version, &Battery::fresh(&listing));
         }
         _ if record.len() >= front + 8 => {

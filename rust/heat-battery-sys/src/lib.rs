@@ -68,6 +68,9 @@ pub struct Battery {
     pub numbers: [u16; MOST_SERVICES],
     /// Their classes: 1 regular, 2 space, 3 direct.
     pub classes: [u8; MOST_SERVICES],
+    /// The card's flag: 1 sets a floor of 16 °C for standing losses, 0 sets none. Read from version 4
+    /// on; before, it may hold anything. No call writes it.
+    pub floor: u8,
 }
 
 /// `struct heat_battery_shown`: what a call answers, as its line would show it.
@@ -108,7 +111,7 @@ const _: () = {
     assert!(offset_of!(Battery, card) == 0 && offset_of!(Battery, zones) == 160);
     assert!(offset_of!(Battery, count) == 672 && offset_of!(Battery, totals) == 680);
     assert!(offset_of!(Battery, services) == 720 && offset_of!(Battery, numbers) == 722);
-    assert!(offset_of!(Battery, classes) == 786);
+    assert!(offset_of!(Battery, classes) == 786 && offset_of!(Battery, floor) == 818);
     assert!(size_of::<Shown>() == 32 && align_of::<Shown>() == 8);
     assert!(offset_of!(Shown, refusal) == 0 && offset_of!(Shown, mark) == 1);
     assert!(offset_of!(Shown, substeps) == 4 && offset_of!(Shown, energy) == 8);

@@ -71,8 +71,8 @@ impl Battery {
         Battery::open_as(Version::NEWEST, card)
     }
 
-    /// A fresh battery of a version. Refusals 1 to 4 and 61, the latter also for a card that lists
-    /// services in version 1 or 2.
+    /// A fresh battery of a version. Refusals 1 to 4 and 61: 1 also for a card with a floor before
+    /// version 4, 61 also for one that lists services before version 3.
     ///
     /// ```
     /// use heat_battery::{Battery, Call, Card, Refusal, Version};
@@ -99,10 +99,11 @@ impl Battery {
         card: &Card,
         sheet: &mut [u8],
     ) -> Result<Battery, Refusal> {
-        if !card.services.is_empty() && !version.has_services() {
-            // The fields are tested before the services.
+        if let Err(refusal) = card.stands_in(version) {
+            // What is tested before: for a floor the other fields, for services 2 to 4 too.
             let fields = Card { services: Vec::new(), ..card.clone() };
-            return Err(fields.check().err().unwrap_or(Refusal::VersionWithoutServices));
+            let before = fields.check().err().filter(|first| first.number() <= refusal.number());
+            return Err(before.unwrap_or(refusal));
         }
         let mut record = Buffer::zeros(card.bytes(version) + state_bytes(card.layers));
         let refusal = ffi::open(version.number(), &card.line(version), record.as_mut(), sheet);

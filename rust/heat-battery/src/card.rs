@@ -10,7 +10,8 @@ use crate::service::{Service, ServiceClass, ServiceType};
 use crate::version::Version;
 
 /// A battery as its maker describes it. [`Card::FIELDS`] has each field's unit and range; behind
-/// them a card lists services, which sheets have from version 3 on.
+/// them a card lists services, which sheets have from version 3 on, and says whether standing losses
+/// have a floor, which sheets have from version 4 on.
 ///
 /// ```
 /// use heat_battery::{Card, Refusal};
@@ -42,6 +43,19 @@ use crate::version::Version;
 /// };
 /// assert!(battery.call(&demand(700))?.totals.direct_hours > 0.0);
 /// assert_eq!(battery.call(&demand(13)), Err(Refusal::NoService)); // it isn't listed
+/// # Ok::<(), Refusal>(())
+/// ```
+///
+/// A card with a floor, and a loss that stops there:
+///
+/// ```
+/// use heat_battery::{Battery, Call, Card, Refusal};
+///
+/// let card = Card { losses: 1000.0, floor: true, ..Card::example() };
+/// let mut battery = Battery::open(&card)?;
+/// battery.call(&Call::StandingLoss)?;
+/// assert_eq!(*battery.zones(), [Card::FLOOR_TEMPERATURE; 8]);
+/// assert_eq!(battery.call(&Call::StandingLoss)?.energy, 0.0); // nothing is left to lose
 /// # Ok::<(), Refusal>(())
 /// ```
 #[derive(Clone, Debug, PartialEq)]
@@ -95,6 +109,9 @@ pub struct Card {
     /// Services with numbers above 3, at most 32, the numbers rising. A card that lists any opens
     /// no battery of version 1 or 2.
     pub services: Vec<Service>,
+    /// Whether a standing loss stops at [`Card::FLOOR_TEMPERATURE`]. A card with a floor opens no
+    /// battery before version 4.
+    pub floor: bool,
 }
 
 /// Document 01's epsilon of refusal 4.
@@ -109,8 +126,15 @@ impl Card {
     /// Bytes of a card's fields: of the whole card in versions 1 and 2.
     pub const BYTES: usize = 158;
 
-    /// The most bytes of an accepted card: its fields, a count and 32 services.
-    pub(crate) const MOST_BYTES: usize = Card::BYTES + 1 + SERVICE_BYTES * Service::MOST;
+    /// The most bytes of an accepted card: its fields, a count, 32 services and the floor's flag.
+    pub(crate) const MOST_BYTES: usize = length_with(Version::NEWEST, Service::MOST);
+
+    /// Where a standing loss stops if the card has a floor, °C.
+    pub const FLOOR_TEMPERATURE: f64 = 16.0;
+
+    /// The floor, a card's last byte from version 4 on. In text it may be left out: then there is none.
+    pub const FLOOR: Field =
+        Field::flag("floor", "standing losses stop at 16 °C, from version 4 on");
 
     /// The fields in the order of the sheet's line 0.
     pub const FIELDS: [Field; 23] = [
@@ -166,11 +190,12 @@ impl Card {
             start: 58.0,
             power: 0.0,
             services: Vec::new(),
+            floor: false,
         }
     }
 
     /// Refusal 1 to 4 or 61 where the engine opens no battery of the newest version with this
-    /// card. Without services the older versions open the same cards.
+    /// card. Without services and a floor the older versions open the same cards.
     pub fn check(&self) -> Result<(), Refusal> {
         Battery::open(self).map(|_| ())
     }
@@ -315,8 +340,8 @@ impl Card {
         values
     }
 
-    /// The card of values in the order of [`Card::FIELDS`], without services; None where a shape is
-    /// another.
+    /// The card of values in the order of [`Card::FIELDS`], without services and without a floor; None
+    /// where a shape is another.
     pub fn from_values(values: &[Value]) -> Option<Card> {
         let (counts, rest) = values.split_at_checked(4)?;
         let [Value::Byte(layers), Value::Short(units), Value::Flag(simultaneous), Value::Short(budget)] =
@@ -330,7 +355,7 @@ impl Card {
     }
 
     /// The card of its four counts and flags and its numbers, in the order of [`Card::FIELDS`],
-    /// without services.
+    /// without services and without a floor.
     pub(crate) fn of(
         layers: u8,
         units: u16,
@@ -345,15 +370,23 @@ impl Card {
 
     /// Its bytes on a sheet of a version.
     pub fn bytes(&self, version: Version) -> usize {
-        match version.has_services() {
-            true => with_services(self.services.len().min(MOST_COUNTED)),
-            false => Card::BYTES,
+        length_with(version, self.services.len().min(MOST_COUNTED))
+    }
+
+    /// Whether what the card has besides its fields can stand on a sheet of a version.
+    pub(crate) fn stands_in(&self, version: Version) -> Result<(), Refusal> {
+        if self.floor && !version.has_floor() {
+            return Err(Refusal::VersionWithoutFloor);
+        }
+        match self.services.is_empty() || version.has_services() {
+            true => Ok(()),
+            false => Err(Refusal::VersionWithoutServices),
         }
     }
 
-    /// The card as line 0 of a version has it, what has no place there left out: services before
-    /// version 3, and those beyond the 255 that a count can say, of which the engine refuses each
-    /// beyond 32.
+    /// The card as line 0 of a version has it, what has no place there left out: a floor before
+    /// version 4, services before version 3, and those beyond the 255 that a count can say, of which
+    /// the engine refuses each beyond 32.
     pub(crate) fn line(&self, version: Version) -> Vec<u8> {
         let mut fields = Buffer::<{ Card::BYTES }>::new();
         for value in self.values() {
@@ -368,11 +401,15 @@ impl Card {
                 bytes.push(class.number());
             }
         }
+        if version.has_floor() {
+            bytes.push(u8::from(self.floor));
+        }
         bytes
     }
 
-    /// The card as in line 0 of a sheet of a version. Refusal 61 for what can't stand there:
-    /// services before version 3, or more than 255 of them; [`Card::check`] has the rest.
+    /// The card as in line 0 of a sheet of a version. An error for what can't stand there: a floor
+    /// before version 4 with refusal 1, services before version 3, or more than 255 of them, with 61;
+    /// [`Card::check`] has the rest.
     ///
     /// ```
     /// use heat_battery::{Card, Refusal, Service, ServiceClass, Version};
@@ -384,13 +421,16 @@ impl Card {
     /// let card = Card { services, ..card };
     /// assert_eq!(card.to_bytes(Version::Three)?[158..], [1, 0, 12, 2]);
     /// assert_eq!(card.to_bytes(Version::Two), Err(Refusal::VersionWithoutServices));
+    /// let card = Card { floor: true, ..card };
+    /// assert_eq!(card.to_bytes(Version::Four)?[158..], [1, 0, 12, 2, 1]);
+    /// assert_eq!(card.to_bytes(Version::Three), Err(Refusal::VersionWithoutFloor));
     /// # Ok::<(), Refusal>(())
     /// ```
     pub fn to_bytes(&self, version: Version) -> Result<Vec<u8>, Refusal> {
+        self.stands_in(version)?;
         match self.services.len() {
-            1.. if !version.has_services() => Err(Refusal::VersionWithoutServices),
-            count if count > MOST_COUNTED => Err(Refusal::BadServices),
-            _ => Ok(self.line(version)),
+            ..=MOST_COUNTED => Ok(self.line(version)),
+            _ => Err(Refusal::BadServices),
         }
     }
 
@@ -410,7 +450,11 @@ impl Card {
             Card::FIELDS.iter().map(|field| field.read(version, &mut cursor)).collect();
         let card = Card::from_values(&values.map_err(bad)?);
         let mut card = card.ok_or_else(|| bad("no card".into()))?;
-        // The count, which the length agrees with.
+        if let (true, Some((last, _))) = (version.has_floor(), bytes.split_last()) {
+            let flag = Card::FLOOR.read(version, &mut Cursor(&[*last])).map_err(bad)?;
+            card.floor = flag == Value::Flag(true);
+        }
+        // The count, which the length agrees with; a flag is too short to be a service.
         cursor.byte();
         while let (Some(number), Some(class)) = (cursor.short(), cursor.byte()) {
             let Some(class) = ServiceClass::from_number(class) else {
@@ -427,23 +471,22 @@ impl Card {
     /// bytes to say.
     pub(crate) fn length(version: Version, record: &[u8]) -> Option<usize> {
         match version.has_services() {
-            true => record.get(Card::BYTES).map(|count| with_services(usize::from(*count))),
+            true => record.get(Card::BYTES).map(|count| length_with(version, usize::from(*count))),
             false => Some(Card::BYTES),
         }
     }
 
     /// Whether a card of a version can have so many bytes.
     pub(crate) fn has_length(version: Version, length: usize) -> bool {
-        match version.has_services() {
-            true => (0..=MOST_COUNTED).any(|count| with_services(count) == length),
-            false => length == Card::BYTES,
-        }
+        (0..=MOST_COUNTED).any(|count| length_with(version, count) == length)
     }
 }
 
-/// Bytes of a card with so many services, the count among them.
-const fn with_services(count: usize) -> usize {
-    Card::BYTES + 1 + SERVICE_BYTES * count
+/// Bytes of a card of a version with so many services, where it has places for them: the count and
+/// the floor's flag are among them.
+const fn length_with(version: Version, count: usize) -> usize {
+    let services = if version.has_services() { 1 + SERVICE_BYTES * count } else { 0 };
+    Card::BYTES + services + version.has_floor() as usize
 }
 
 /// Whether the bytes of a card are as many as its version and its count of services say; if not,
@@ -456,6 +499,8 @@ fn test_length(version: Version, bytes: &[u8]) -> Result<(), String> {
             Err(format!("a card with {count} services has {right} bytes, not {length}"))
         }
         (Some(right), _) => Err(format!("a card has {right} bytes, not {length}")),
-        (None, _) => Err(format!("a card has at least {} bytes, not {length}", with_services(0))),
+        (None, _) => {
+            Err(format!("a card has at least {} bytes, not {length}", length_with(version, 0)))
+        }
     }
 }

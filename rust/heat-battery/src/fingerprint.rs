@@ -5,8 +5,9 @@ use crate::version::Version;
 use std::fmt;
 
 /// CRC-32 over a card's bytes, shown as eight hexadecimal digits: enough to tell cards apart at a
-/// glance, and no seal. The bytes are the 158 of its fields and, where it lists services, their count
-/// and list behind them: a card without services has one fingerprint in every version.
+/// glance, and no seal. The bytes are those of the first version that has what the card has: the 158
+/// of its fields; where it lists services, their count and list behind them; where it has a floor,
+/// count, list and flag. So a card has one fingerprint in every version.
 ///
 /// ```
 /// use heat_battery::Card;
@@ -27,8 +28,8 @@ impl fmt::Display for Fingerprint {
 impl Card {
     /// The fingerprint of the card's bytes.
     pub fn fingerprint(&self) -> Fingerprint {
-        let version = if self.services.is_empty() { Version::One } else { Version::Three };
-        Fingerprint(crc_32(&self.line(version)))
+        let first = Version::ALL.into_iter().find(|version| self.stands_in(*version).is_ok());
+        Fingerprint(crc_32(&self.line(first.unwrap_or_default())))
     }
 }
 

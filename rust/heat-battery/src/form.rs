@@ -10,6 +10,8 @@ use crate::slips::Slip;
 #[derive(Clone, Copy, PartialEq)]
 enum Place {
     Empty,
+    /// Nothing stands there, and this is meant.
+    Default(Value),
     /// Something stood there that is no value.
     Slip,
     /// A value and the line that it stands on.
@@ -26,12 +28,18 @@ impl<'a> Form<'a> {
         Form(fields.iter().map(|field| (field, Place::Empty)).collect())
     }
 
+    /// The form with one more field, which may be left out; then it has the value.
+    pub fn with(mut self, field: &'a Field, default: Value) -> Form<'a> {
+        self.0.push((field, Place::Default(default)));
+        self
+    }
+
     /// Fills a field from a line of the text.
     pub fn fill(&mut self, line: usize, name: &str, text: &str) -> Result<(), Slip> {
         let slip = |words, refusal| Slip { line: Some(line), words, refusal };
         let found = self.0.iter_mut().find(|(field, _)| field.name == name);
         let Some((field, place)) = found else { return Err(slip(self.unknown(name), None)) };
-        if *place != Place::Empty {
+        if matches!(place, Place::Slip | Place::Filled(..)) {
             return Err(slip(format!("{name} stands twice"), None));
         }
         *place = Place::Slip;
@@ -65,12 +73,16 @@ impl<'a> Form<'a> {
     pub fn filled(&self) -> impl Iterator<Item = (&'a Field, Value, usize)> + '_ {
         self.0.iter().filter_map(|(field, place)| match place {
             Place::Filled(value, line) => Some((*field, *value, *line)),
-            Place::Empty | Place::Slip => None,
+            Place::Empty | Place::Default(_) | Place::Slip => None,
         })
     }
 
-    /// The values, in the order of the fields.
+    /// The values that stand there or are meant, in the order of the fields.
     pub fn values(&self) -> Vec<Value> {
-        self.filled().map(|(_, value, _)| value).collect()
+        let value = |place: &Place| match place {
+            Place::Filled(value, _) | Place::Default(value) => Some(*value),
+            Place::Empty | Place::Slip => None,
+        };
+        self.0.iter().filter_map(|(_, place)| value(place)).collect()
     }
 }

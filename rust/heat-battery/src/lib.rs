@@ -14,7 +14,8 @@
 //! - [`Version`] is a sheet's version: the newest unless another is asked for (`open_as`); a sheet
 //!   that is read keeps its own.
 //! - [`Service`] is one that a card lists by number, from version 3 on, beside the four of
-//!   [`ServiceType`] that have names.
+//!   [`ServiceType`] that have names. A card's `floor` stops standing losses at 16 °C, from version 4
+//!   on.
 //! - [`text`] has cards and lists of calls as plain text, [`ffi`] the C entries as they stand.
 //!
 //! # Refusals

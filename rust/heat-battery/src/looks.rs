@@ -52,7 +52,8 @@ pub fn looks(bytes: &[u8]) -> Option<Looks> {
     let (_, line) = bare_lines(text).next()?;
     let is_kind = |word: &str| Kind::ALL.iter().any(|kind| kind.name() == word);
     let is_field = |word: &str| {
-        number_text(word).is_some() || Card::FIELDS.iter().any(|field| field.name == word)
+        let mut fields = Card::FIELDS.iter().chain([&Card::FLOOR]);
+        number_text(word).is_some() || fields.any(|field| field.name == word)
     };
     match line.split_once('=') {
         Some((name, _)) if is_field(name.trim()) => Some(Looks::Card),

@@ -49,7 +49,7 @@ impl Clone for Record {
     /// by number, as the engine reads it: the quick way back to a kept state.
     #[inline]
     fn clone_from(&mut self, source: &Record) {
-        let ffi::Battery { card, zones, count, totals, services, numbers: listed, classes } =
+        let ffi::Battery { card, zones, count, totals, services, numbers: listed, classes, floor } =
             &source.battery;
         let ffi::Card { layers, units, simultaneous, budget, numbers } = *card;
         self.version = source.version;
@@ -60,6 +60,7 @@ impl Clone for Record {
         battery.card.budget = budget;
         battery.card.numbers = numbers;
         battery.totals = *totals;
+        battery.floor = *floor;
         // Without services their places are 0.
         if battery.services > 0 || *services > 0 {
             battery.services = *services;
@@ -93,8 +94,8 @@ impl Record {
         Record::open_as(Version::NEWEST, card)
     }
 
-    /// A fresh battery of a version. Refusals 1 to 4 and 61, the latter also for a card that lists
-    /// services in version 1 or 2.
+    /// A fresh battery of a version. Refusals 1 to 4 and 61: 1 also for a card with a floor before
+    /// version 4, 61 also for one that lists services before version 3.
     pub fn open_as(version: Version, card: &Card) -> Result<Record, Refusal> {
         Battery::open_as(version, card).map(|battery| Record::from(&battery))
     }
@@ -107,7 +108,8 @@ impl Record {
     /// The card.
     pub fn card(&self) -> Card {
         let ffi::Card { layers, units, simultaneous, budget, numbers } = self.battery.card;
-        let mut card = Card::of(layers, units, simultaneous == 1, budget, numbers);
+        let card = Card::of(layers, units, simultaneous == 1, budget, numbers);
+        let mut card = Card { floor: self.battery.floor == 1, ..card };
         let listed = self.battery.numbers.iter().zip(&self.battery.classes);
         for (number, class) in listed.take(usize::from(self.battery.services)) {
             let class = ServiceClass::from_number(*class);
@@ -219,7 +221,7 @@ impl From<&Battery> for Record {
             *number = service.number;
             *class = service.class.number();
         }
-        let services = card.services.len() as u8;
+        let (services, floor) = (card.services.len() as u8, u8::from(card.floor));
         let card = ffi::Card {
             layers: card.layers,
             units: card.units,
@@ -229,7 +231,8 @@ impl From<&Battery> for Record {
         };
         let (count, totals) = (card.layers, battery.totals().numbers());
         let version = battery.version();
-        let battery = ffi::Battery { card, zones, count, totals, services, numbers, classes };
+        let battery =
+            ffi::Battery { card, zones, count, totals, services, numbers, classes, floor };
         Record { version, battery }
     }
 }

@@ -18,6 +18,8 @@ use std::fmt;
 pub enum Refusal {
     /// 1, a card.
     CardOutOfRange,
+    /// 1 too: a card with a floor, for a sheet of version 1, 2 or 3.
+    VersionWithoutFloor,
     /// 2, a card.
     LowerAboveUpper,
     /// 3, a card.
@@ -61,8 +63,11 @@ pub enum Refusal {
 }
 
 /// Each refusal with its number, its name in the C header and in the definitions, and its meaning.
-const REFUSALS: [(Refusal, u8, &str, &str); 20] = [
+const REFUSALS: [(Refusal, u8, &str, &str); 21] = [
     (Refusal::CardOutOfRange, 1, "CARD_OUT_OF_RANGE", "a card field is not finite or out of range"),
+    (Refusal::VersionWithoutFloor, 1, "CARD_OUT_OF_RANGE",
+        "the card has a floor for standing losses, which sheets have from version 4 on",
+    ),
     (Refusal::LowerAboveUpper, 2, "LOWER_ABOVE_UPPER", "lower is above upper"),
     (Refusal::MaxTooLow, 3, "MAX_TOO_LOW", "max is at most 20 °C"),
     (Refusal::NothingToStore, 4, "NOTHING_TO_STORE", "max is below ref or nearly equal to it"),
@@ -97,8 +102,9 @@ const REFUSALS: [(Refusal, u8, &str, &str); 20] = [
 ];
 
 impl Refusal {
-    /// The refusal of a number; None for 0, which is no refusal. 10 is read as that of a call,
-    /// though the C entries give it for a bad battery too; 61 as that of a list of services.
+    /// The refusal of a number; None for 0, which is no refusal. 1 is read as that of a field, 10 as
+    /// that of a call, though the C entries give it for a bad battery too; 61 as that of a list of
+    /// services.
     pub fn from_number(number: u8) -> Option<Refusal> {
         if number == 0 {
             return None;

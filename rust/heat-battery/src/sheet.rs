@@ -39,7 +39,8 @@ impl Sheet {
     }
 
     /// Opens a battery and a sheet of a version, which every call is then given. Refusals 1 to 4
-    /// and 61, the latter also for a card that lists services in version 1 or 2.
+    /// and 61: 1 also for a card with a floor before version 4, 61 also for one that lists services
+    /// before version 3.
     pub fn open_as(version: Version, card: &Card) -> Result<Sheet, Refusal> {
         Sheet::open_within(version, card, usize::MAX)
     }

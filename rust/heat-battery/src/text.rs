@@ -1,7 +1,8 @@
 //! Cards and calls as plain text.
 //!
 //! A card has one `name = value` on each line, the fields in any order, and a line `service 12 =
-//! space` for each service that it lists, their numbers rising. A list of calls has one call on each
+//! space` for each service that it lists, their numbers rising. A line `floor = yes` may be left out:
+//! then there is no floor. A list of calls has one call on each
 //! line: its kind, then each of its fields as `name=value`, in any order; a service is a name or a
 //! number. What follows `#` is a comment. Numbers are written so that they read back exactly, bit for
 //! bit.
@@ -13,6 +14,8 @@
 //! assert_eq!(card.to_string().parse(), Ok(card.clone()));
 //! let listed: Card = format!("{card}service 12 = space\n").parse().unwrap();
 //! assert_eq!(listed.services, [Service::new(12, ServiceClass::Space)]);
+//! let floored: Card = card.to_string().replace("floor = no", "floor = yes").parse().unwrap();
+//! assert!(floored.floor && !card.floor);
 //!
 //! let list = "# night\nelectric power=3 target=1\nclose_timestep\n";
 //! let calls = text::calls(list).unwrap();
@@ -23,6 +26,7 @@
 
 use crate::call::{Call, Kind};
 use crate::card::Card;
+use crate::field::Value;
 use crate::form::Form;
 use crate::listed_services::{meant_service, number_text, ListedServices, WORD};
 pub use crate::nearest::{hint, nearest};
@@ -77,7 +81,7 @@ impl ListedCard {
 /// );
 /// ```
 pub fn card(text: &str) -> Result<ListedCard, Slips> {
-    let mut form = Form::new(&Card::FIELDS);
+    let mut form = Form::new(&Card::FIELDS).with(&Card::FLOOR, Value::Flag(false));
     let mut services = ListedServices::default();
     let mut slips = Slips::default();
     let unread = |line, words| Slip { line, words, refusal: None };
@@ -110,9 +114,14 @@ pub fn card(text: &str) -> Result<ListedCard, Slips> {
         services.faults().for_each(|slip| slips.add(slip));
         return Err(slips);
     }
-    let lines = form.filled().map(|(_, _, line)| line).collect();
+    let lines = form.filled().map(|(_, _, line)| line).take(Card::FIELDS.len()).collect();
     let ListedServices { services, lines: service_lines, .. } = services;
-    let card = Card::from_values(&form.values()).map(|card| Card { services, ..card });
+    let card = match form.values().split_last() {
+        Some((Value::Flag(floor), fields)) => {
+            Card::from_values(fields).map(|card| Card { services, floor: *floor, ..card })
+        }
+        _ => None,
+    };
     card.map(|card| ListedCard { card, lines, services: service_lines }).ok_or(slips)
 }
 
@@ -130,7 +139,8 @@ impl fmt::Display for Card {
     fn fmt(&self, f: &mut fmt::Formatter<'_>) -> fmt::Result {
         writeln!(f, "# A heat battery's card: one name = value on each line.")?;
         writeln!(f, "# lower is not above upper; max is above 20 °C and above reference.")?;
-        for (field, value) in Card::FIELDS.iter().zip(self.values()) {
+        let floor = (&Card::FLOOR, Value::Flag(self.floor));
+        for (field, value) in Card::FIELDS.iter().zip(self.values()).chain([floor]) {
             let setting = format!("{} = {value}", field.name);
             writeln!(f, "{setting:<27} # {}: {}", field.about, field.range())?;
         }

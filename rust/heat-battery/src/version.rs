@@ -13,6 +13,7 @@ use std::fmt;
 /// assert_eq!(Version::from_number(0), None);
 /// assert_eq!(Version::Two.to_string(), "2");
 /// assert!(Version::Three.has_services() && !Version::Two.has_services());
+/// assert!(Version::Four.has_floor() && !Version::Three.has_floor());
 /// ```
 #[derive(Clone, Copy, Debug, PartialEq, Eq, PartialOrd, Ord, Hash)]
 pub enum Version {
@@ -22,11 +23,13 @@ pub enum Version {
     Two,
     /// 3: a card lists services by number, and a demand's type has two bytes.
     Three,
+    /// 4: a card may set a floor of 16 °C for standing losses.
+    Four,
 }
 
 impl Version {
     /// Every known one, the oldest first.
-    pub const ALL: [Version; 3] = [Version::One, Version::Two, Version::Three];
+    pub const ALL: [Version; 4] = [Version::One, Version::Two, Version::Three, Version::Four];
 
     /// The last of them.
     pub const NEWEST: Version = Version::ALL[Version::ALL.len() - 1];
@@ -41,7 +44,7 @@ impl Version {
         Version::ALL.into_iter().find(|version| version.number() == number)
     }
 
-    /// The numbers of all, for messages: `1, 2, 3`.
+    /// The numbers of all, for messages: `1, 2, 3, 4`.
     pub fn known() -> String {
         Version::ALL.map(|version| version.to_string()).join(", ")
     }
@@ -55,6 +58,12 @@ impl Version {
     #[inline]
     pub const fn has_services(&self) -> bool {
         *self as u8 >= Version::Three as u8
+    }
+
+    /// Whether its cards say if standing losses have a floor; else they have none.
+    #[inline]
+    pub const fn has_floor(&self) -> bool {
+        *self as u8 >= Version::Four as u8
     }
 }
 

@@ -40,9 +40,10 @@ fn the_figures_come_through_the_command() {
     for figure in figures() {
         let card = folder.write("card", figure.card().to_string().as_bytes());
         let calls = folder.write("calls", figure.wet.call().to_string().as_bytes());
-        for (version, time) in [("1", 0.0), ("2", figure.time), ("3", figure.time)] {
-            let out = folder.path("sheet");
-            run(&["run", &card, &calls, "--version", version, "-o", &out]).assert_fine("run");
+        for version in Version::ALL {
+            let time = if version.shows_hydronic_time() { figure.time } else { 0.0 };
+            let (version, out) = (version.to_string(), folder.path("sheet"));
+            run(&["run", &card, &calls, "--version", &version, "-o", &out]).assert_fine("run");
             let shown = run(&["show", "--json", &out]);
             shown.assert_fine("show");
             let line = lines(&shown.out)[0];

@@ -5,7 +5,8 @@ mod common {
 }
 
 use common::command::{example, examples, path_text, Folder};
-use heat_battery::{audit, read, text, Card, Refusal, Sheet, Verdict, Version};
+use heat_battery::{audit, read, text, Answer, Battery, Call, Card};
+use heat_battery::{Refusal, Sheet, Verdict, Version};
 use std::fs;
 use std::process::Command;
 
@@ -30,6 +31,10 @@ fn charging_loop() -> Vec<u8> {
 
 fn services() -> Vec<u8> {
     sheet(Version::Three, "services.card", "services.calls")
+}
+
+fn floor() -> Vec<u8> {
+    sheet(Version::Four, "floor.card", "floor.calls")
 }
 
 #[test]
@@ -64,6 +69,26 @@ fn the_sheet_of_services_is_stored() {
         .collect();
     let (listed, refused) = ((None, false), (Some(Refusal::NoService), true));
     assert_eq!(shown, [listed, listed, listed, (None, true), refused, listed]);
+}
+
+/// Five days: two losses above the floor, one that stops there, two that take nothing.
+#[test]
+fn the_sheet_with_a_floor_is_stored() {
+    let bytes = floor();
+    assert!(bytes == fs::read(example("floor.sheet")).unwrap());
+    assert_eq!((bytes.len(), audit(&bytes)), (1345, Verdict::Accepted(14)));
+    let (_, card, lines) = read(&bytes).unwrap();
+    assert!(card.floor);
+    let lines: Vec<_> = lines.map(|line| line.unwrap()).collect();
+    let losses: Vec<_> = lines.iter().filter(|line| line.call == Call::StandingLoss).collect();
+    let floor = Card::FLOOR_TEMPERATURE;
+    let shown: Vec<(bool, bool)> = losses
+        .iter()
+        .map(|line| (line.answer.energy > 0.0, line.answer.zones[0] > floor))
+        .collect();
+    let (above, stopped, nothing) = ((true, true), (true, false), (false, false));
+    assert_eq!(shown, [above, above, stopped, nothing, nothing]);
+    assert!(losses[2..].iter().all(|line| *line.answer.zones == [floor]));
 }
 
 #[test]
@@ -132,6 +157,25 @@ fn the_format_page_shows_a_demand_line_of_version_3() {
     assert_eq!(annotated("Services and a demand line of version 3"), shown);
 }
 
+/// The front of line 0, the card's service and its flag, and line 5.
+#[test]
+fn the_format_page_shows_a_standing_loss_of_version_4() {
+    let bytes = floor();
+    let line_5 = 166 + 4 * 81;
+    let shown = [&bytes[..9], &bytes[161..166], &bytes[line_5..line_5 + 81]].map(hex).concat();
+    assert_eq!(annotated("The floor and a standing loss of version 4"), shown);
+    // What the page says of the same day without a floor.
+    let (_, card, lines) = read(&bytes).unwrap();
+    let mut battery = Battery::open(&Card { floor: false, ..card }).unwrap();
+    let answers: Vec<Answer> =
+        lines.take(5).map(|line| battery.call(&line.unwrap().call).unwrap()).collect();
+    let page = fs::read_to_string(examples().join("../docs/FORMAT.md")).unwrap();
+    let (before, after) = (answers[3].zones[0], answers[4]);
+    let (energy, zone) = (after.energy, after.zones[0]);
+    let start = format!("The zone is at {before} °C. Without a floor it would lose {energy} kWh");
+    assert!(page.contains(&format!("{start} and end at\n{zone} °C;")), "{start}, {zone}");
+}
+
 /// The hex digits at the front of an indented line, without blanks.
 fn hex_column(line: &str) -> Option<String> {
     let line = line.strip_prefix("    ")?;
@@ -147,6 +191,7 @@ fn the_format_page_is_right_about_lengths_and_damage() {
     assert_eq!(fields(Version::One), [28, 16, 72, 0, 0, 0, 17]);
     assert_eq!(fields(Version::Two), fields(Version::One));
     assert_eq!(fields(Version::Three), [29, 16, 72, 0, 0, 0, 17]);
+    assert_eq!(fields(Version::Four), fields(Version::Three));
     let mut bytes = fs::read(example("two-lines.sheet")).unwrap();
     let zone = bytes.len() - 41;
     assert_eq!(bytes[zone], 0x72);
@@ -169,6 +214,17 @@ fn the_format_page_is_right_about_lengths_and_damage() {
         (163, 0x03, "refused 41 line 0"),
         (161, 0x02, "refused 41 line 0"),
         (175, 0x0d, "refused 43 line 1"),
+    ] {
+        assert_eq!(audit(&with(at, byte)).to_string(), verdict, "byte {at}");
+    }
+
+    let bytes = floor();
+    let with = |at: usize, byte: u8| [&bytes[..at], &[byte], &bytes[at + 1..]].concat();
+    for (at, byte, verdict) in [
+        (165, 0x00, "refused 43 line 5"),
+        (165, 0x02, "refused 41 line 0"),
+        (161, 0x00, "refused 41 line 0"),
+        (0, 0x03, "refused 41 line 0"),
     ] {
         assert_eq!(audit(&with(at, byte)).to_string(), verdict, "byte {at}");
     }

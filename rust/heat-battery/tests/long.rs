@@ -75,7 +75,7 @@ fn megabytes_are_audited_to_the_last_line() {
     assert_eq!((line, call, fields.len()), (LINES, Call::CloseTimestep, 1));
 }
 
-/// One line has 81 bytes: 162 + 807 × 81 is the last below the limit.
+/// One line has 81 bytes: 163 + 807 × 81 is the last below the limit.
 #[test]
 fn the_limit_is_the_programs_to_the_byte() {
     let card = Card { layers: 1, ..Card::example() };

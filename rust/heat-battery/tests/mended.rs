@@ -61,14 +61,14 @@ fn convert_agrees_with_the_audit_on_a_sign_of_zero() {
     sheet.call(&Call::CloseTimestep).unwrap();
     let mut bytes = sheet.into_bytes();
     // The energy, after length, kind and refusal.
-    assert_eq!(bytes[162 + 4], 0);
-    bytes[162 + 4] = 0x80;
+    assert_eq!(bytes[163 + 4], 0);
+    bytes[163 + 4] = 0x80;
     let (sheet, name) = (folder.write("sheet", &bytes), folder.path("x"));
     run(&["audit", &sheet]).assert_fine("audit");
     let ended = run(&["convert", &sheet, "-o", &name]);
     ended.assert_fine("convert");
     assert!(ended.err.contains("run will give the other sign of 1 zero"), "{}", ended.err);
-    bytes[162 + 5] = 1;
+    bytes[163 + 5] = 1;
     let ended = run(&["convert", &folder.write("sheet", &bytes), "-o", &name]);
     assert_eq!(ended.status, 1, "another number is another sheet");
 }
@@ -82,8 +82,8 @@ fn most_holds_the_sheet_and_says_once_that_it_is_full() {
     let out = folder.path("sheet");
     let ended = run(&["run", &salt(), &calls, "-o", &out, "--most", "2000"]);
     assert_eq!(ended.status, 1);
-    // 162 bytes, and 137 for each of 13 lines.
-    assert_eq!(fs::read(&out).unwrap().len(), 162 + 13 * 137);
+    // 163 bytes, and 137 for each of 13 lines.
+    assert_eq!(fs::read(&out).unwrap().len(), 163 + 13 * 137);
     assert!(ended.err.contains("call 14 (standing_loss): refused 11: "), "{}", ended.err);
     assert!(ended.err.contains("the sheet is full; not made besides: 4986 calls\n"));
     assert!(ended.err.lines().count() < 6, "{}", ended.err);
@@ -122,7 +122,7 @@ fn one_line_is_a_line() {
     let folder = Folder::new("one");
     let calls = folder.write("calls", b"standing_loss\n");
     let ended = run(&["run", &salt(), &calls, "-o", &folder.path("sheet")]);
-    assert!(ended.err.starts_with("1 call, 0 refused: 1 line, 299 bytes, "), "{}", ended.err);
+    assert!(ended.err.starts_with("1 call, 0 refused: 1 line, 300 bytes, "), "{}", ended.err);
 }
 
 #[test]

@@ -143,7 +143,7 @@ fn a_list_that_is_none_is_61_after_4() {
 #[test]
 fn the_record_has_the_services() {
     let card = card(&[(12, Space), (700, Direct)]);
-    let battery = Battery::open(&card).unwrap();
+    let battery = Battery::open_as(Version::Three, &card).unwrap();
     assert_eq!(battery.as_bytes().len(), 159 + 6 + 8 + 40);
     assert_eq!(battery.as_bytes()[158..165], [2, 0, 12, 2, 2, 0xbc, 3]);
     assert_eq!(Battery::from_bytes(Version::Three, battery.as_bytes()).as_ref(), Ok(&battery));
@@ -170,7 +170,7 @@ fn all_services_and_all_layers_have_room() {
     let all: Vec<(u16, ServiceClass)> =
         (0..32u16).map(|at| (4 + 2113 * at, ServiceClass::ALL[usize::from(at) % 3])).collect();
     let card = Card { layers: 64, ..card(&all) };
-    let battery = Battery::open(&card).unwrap();
+    let battery = Battery::open_as(Version::Three, &card).unwrap();
     assert_eq!((card.bytes(Version::Three), battery.as_bytes().len()), (255, 255 + 512 + 40));
     assert_eq!(Battery::from_bytes(Version::Three, battery.as_bytes()).as_ref(), Ok(&battery));
     for (number, class) in &all {
@@ -186,7 +186,7 @@ fn all_services_and_all_layers_have_room() {
 #[test]
 fn a_sheet_has_the_services() {
     let card = card(&[(12, Space), (700, Direct)]);
-    let mut sheet = Sheet::open(&card).unwrap();
+    let mut sheet = Sheet::open_as(Version::Three, &card).unwrap();
     assert_eq!(sheet.as_bytes()[..3], [3, 0, 165]);
     assert_eq!(sheet.as_bytes().len(), 3 + 165);
     sheet.call(&demand(ServiceType::Numbered(700), true)).unwrap();
@@ -301,7 +301,7 @@ fn a_demand_has_30_bytes() {
     assert_eq!(bytes, [&[1, 0x12, 0x34, 1, 0], &required[..], start, &[1], back].concat());
     assert_eq!(bytes.len(), 30);
     assert_eq!(Call::from_bytes(Version::Three, &bytes), Ok(call));
-    let mut battery = Battery::open(&card(&[])).unwrap();
+    let mut battery = Battery::open_as(Version::Three, &card(&[])).unwrap();
     for number in [0, 1, 255, 256, 65535] {
         let mut bytes = bytes.clone();
         bytes[1..3].copy_from_slice(&u16::to_be_bytes(number));
@@ -348,6 +348,7 @@ fn own(card: &Card) -> ffi::Battery {
         services: card.services.len() as u8,
         numbers,
         classes,
+        floor: 0,
     }
 }
 

@@ -86,14 +86,15 @@ fn run_tells_an_unlisted_number() {
     let folder = Folder::new("services-run");
     let out = folder.path("sheet");
     let (card, calls) = (example("services.card"), example("services.calls"));
-    for words in [&[][..], &["--version", "3"]] {
+    for (words, bytes, version) in [(&[][..], 803, 4), (&["--version", "3"], 802, 3)] {
         let ended = run(&[&["run", &card, &calls, "-o", &out], words].concat());
         assert_eq!(ended.status, 1);
         let refused = format!("\n  service 13 isn't on the card's list: {LISTED}\n");
         assert_has(&ended.err, &["line 7, call 5 (demand): refused 21: ", &refused]);
-        assert_has(&ended.err, &["6 calls, 1 refused: 6 lines, 802 bytes, version 3, card "]);
-        assert!(fs::read(&out).unwrap() == fs::read(example(SHEET)).unwrap());
+        let end = format!("6 calls, 1 refused: 6 lines, {bytes} bytes, version {version}, card ");
+        assert_has(&ended.err, &[&end]);
     }
+    assert!(fs::read(&out).unwrap() == fs::read(example(SHEET)).unwrap());
     // A card without a list.
     let ended = run(&["run", &example("two-lines.card"), &calls, "-o", &out]);
     assert_has(&ended.err, &["\n  service 700 isn't on the card's list: none\n"]);
@@ -163,7 +164,7 @@ fn json_has_numbers_and_classes() {
     assert!(!shown[5].contains("service"), "{}", shown[5]);
     // Named services, and a card that lists none.
     let json = run(&["show", "--json", &example("two-lines.sheet")]).out;
-    assert_has(&json, &["\"services\":[]}"]);
+    assert_has(&json, &["\"services\":[],\"floor\":false}"]);
     let line = lines(&json)[1];
     assert_eq!(
         (member(line, "service"), member(line, "service_class")),
@@ -223,12 +224,12 @@ fn convert_gives_the_services_again() {
     let (name, out) = (folder.path("x"), folder.path("again"));
     let ended = run(&["convert", &example(SHEET), "-o", &name]);
     ended.assert_fine("convert");
-    assert_eq!(ended.err, "", "the newest version needs no note");
+    assert_has(&ended.err, &["of version 3; run --version 3 gives it again\n"]);
     let (card, calls) = (format!("{name}.card"), format!("{name}.calls"));
     assert_has(
         &fs::read_to_string(&calls).unwrap(),
         &["# Of a sheet of version 3.\n", "demand service=700 "],
     );
-    assert_eq!(run(&["run", &card, &calls, "-o", &out]).status, 1);
+    assert_eq!(run(&["run", &card, &calls, "--version", "3", "-o", &out]).status, 1);
     assert!(fs::read(out).unwrap() == fs::read(example(SHEET)).unwrap());
 }

@@ -108,12 +108,12 @@ fn sheet(version: Version) -> Vec<u8> {
 const DEMAND: &str =
     "demand service=space commit=yes control_on=no required=0.01 start=0 return_temperature=10";
 
-/// Bytes of version and line 0 of a card without services.
+/// Bytes of version and line 0 of a card without services and without a floor.
 fn opening(version: u8) -> usize {
-    if version < 3 {
-        161
-    } else {
-        162
+    match version {
+        ..=2 => 161,
+        3 => 162,
+        _ => 163,
     }
 }
 
@@ -135,8 +135,8 @@ fn first_line(sheet: &[u8]) -> Vec<[String; 3]> {
 }
 
 #[test]
-fn versions_differ_in_the_first_byte_the_time_and_the_services() {
-    let [one, two, three] = Version::ALL.map(sheet);
+fn versions_differ_in_the_first_byte_the_time_the_services_and_the_floor() {
+    let [one, two, three, four] = Version::ALL.map(sheet);
     assert_eq!(with_time(one.clone(), 0.0), one);
     let mut other = with_time(one.clone(), 60.0);
     other[0] = 2;
@@ -148,7 +148,9 @@ fn versions_differ_in_the_first_byte_the_time_and_the_services() {
     let rest = &two[line_2 + 4..];
     let other = [&[3, 0, 159], card, &[0], line_1, &[0, 108, 1, 0, 2], rest].concat();
     assert_eq!(other, three);
-    for (version, sheet) in Version::ALL.into_iter().zip([one, two, three]) {
+    // The card's length and its flag.
+    assert_eq!([&[4, 0, 160], &three[3..162], &[0], &three[162..]].concat(), four);
+    for (version, sheet) in Version::ALL.into_iter().zip([one, two, three, four]) {
         assert_eq!(audit(&sheet), Verdict::Accepted(2));
         assert_eq!(explain(&sheet), Explanation::Agreement);
         assert_eq!(read(&sheet).unwrap().0, version);
@@ -157,14 +159,16 @@ fn versions_differ_in_the_first_byte_the_time_and_the_services() {
 
 #[test]
 fn a_wrong_time_is_refused_and_named() {
-    let [one, two, three] = Version::ALL.map(sheet);
+    let [one, two, later @ ..] = Version::ALL.map(sheet);
     let named = |shown: &str, given: &str| {
         [["time of the charging loop, s (0 in version 1)", shown, given].map(String::from)]
     };
     assert_eq!(first_line(&with_time(one.clone(), 60.0)), named("60.0", "0.0"));
     assert_eq!(first_line(&with_time(two.clone(), 0.0)), named("0.0", "60.0"));
     assert_eq!(first_line(&with_time(two.clone(), 40.0)), named("40.0", "60.0"));
-    assert_eq!(first_line(&with_time(three, 0.0)), named("0.0", "60.0"));
+    for sheet in later {
+        assert_eq!(first_line(&with_time(sheet, 0.0)), named("0.0", "60.0"));
+    }
     // The other version's first byte.
     assert_eq!(first_line(&[&[2], &one[1..]].concat()), named("0.0", "60.0"));
     assert_eq!(first_line(&[&[1], &two[1..]].concat()), named("60.0", "0.0"));
@@ -193,8 +197,8 @@ fn the_charging_loop_is_summed_apart() {
 #[test]
 fn the_newest_is_the_default() {
     let card = Card::example();
-    assert_eq!(Version::default(), Version::Three);
-    assert_eq!(Sheet::open(&card).unwrap().as_bytes()[0], 3);
+    assert_eq!(Version::default(), Version::Four);
+    assert_eq!(Sheet::open(&card).unwrap().as_bytes()[0], 4);
     assert_eq!(Sheet::open(&card).unwrap().version(), Version::NEWEST);
     assert_eq!(Battery::open(&card).unwrap().version(), Version::NEWEST);
     assert_eq!(Record::open(&card).unwrap().version(), Version::NEWEST);
@@ -217,17 +221,19 @@ fn a_version_is_kept() {
 
 #[test]
 fn batteries_of_two_versions_are_not_equal() {
-    let [one, two, three] = Version::ALL.map(|version| {
+    let all = Version::ALL.map(|version| {
         let battery = Battery::open_as(version, &Card::example()).unwrap();
         (Record::from(&battery), battery)
     });
-    assert_eq!(one.1.as_bytes(), two.1.as_bytes());
-    assert_ne!(two.1.as_bytes(), three.1.as_bytes());
-    for (one, other) in [(&one, &two), (&one, &three), (&two, &three)] {
-        assert!(one.1 != other.1 && one.0 != other.0);
-        let mut record = one.0.clone();
-        record.clone_from(&other.0);
-        assert!(record == other.0);
+    for (at, one) in all.iter().enumerate() {
+        for other in &all[at + 1..] {
+            assert!(one.1 != other.1 && one.0 != other.0);
+            let share = other.1.version() == Version::Two;
+            assert_eq!(one.1.as_bytes() == other.1.as_bytes(), share, "only 1 and 2 share them");
+            let mut record = one.0.clone();
+            record.clone_from(&other.0);
+            assert!(record == other.0);
+        }
     }
 }
 
@@ -246,7 +252,7 @@ fn unknown_versions_are_40() {
         }
     }
     assert_eq!(audit(&[]), refused);
-    assert_eq!(Version::known(), "1, 2, 3");
+    assert_eq!(Version::known(), "1, 2, 3, 4");
 }
 
 /// 40 goes before all else, and nothing is changed.
@@ -255,7 +261,7 @@ fn the_entries_refuse_unknown_versions() {
     let card = Card::example().to_bytes(Version::NEWEST).unwrap();
     let call = Call::StandingLoss.to_bytes(Version::NEWEST).unwrap();
     for version in [0, Version::NEWEST.number() + 1, 255] {
-        for (card, record, sheet) in [(&card[..], 263, 162), (&card[..9], 263, 162), (&[], 0, 0)] {
+        for (card, record, sheet) in [(&card[..], 264, 163), (&card[..9], 264, 163), (&[], 0, 0)] {
             let (mut record, mut sheet) = (vec![7; record], vec![7; sheet]);
             assert_eq!(ffi::open(version, card, &mut record, &mut sheet), 40);
             assert!(record.iter().chain(&sheet).all(|byte| *byte == 7));
@@ -289,7 +295,7 @@ fn own(count: u8) -> ffi::Battery {
     let mut zones = [0.0; heat_battery::MOST_LAYERS];
     zones[0] = next();
     let (totals, services, numbers, classes) = ([0.0; 5], 0, [0; 32], [0; 32]);
-    ffi::Battery { card, zones, count, totals, services, numbers, classes }
+    ffi::Battery { card, zones, count, totals, services, numbers, classes, floor: 0 }
 }
 
 #[test]

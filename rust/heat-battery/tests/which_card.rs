@@ -9,13 +9,14 @@ use heat_battery::{Card, Service, ServiceClass, Version};
 use std::fs;
 
 const DAY: &str = "winter-day.sheet";
-/// CRC-32 of bytes 3 to 160 of the example sheets, that of services 3 to 170, by another program
-/// (zlib).
-const FINGERPRINTS: [(&str, &str); 4] = [
+/// CRC-32 of bytes 3 to 160 of the example sheets, of services 3 to 170, of the floor 3 to 165, by
+/// another program (zlib).
+const FINGERPRINTS: [(&str, &str); 5] = [
     (DAY, "3ce57cdf"),
     ("two-lines.sheet", "49f80dbf"),
     ("charging-loop.sheet", "2ef770a9"),
     ("services.sheet", "421f0a52"),
+    ("floor.sheet", "aa5ed63f"),
 ];
 
 #[test]
@@ -29,7 +30,9 @@ fn the_fingerprint_stands_beside_the_verdict() {
         let json = run(&["show", "--json", &example(sheet)]).out;
         assert!(json.contains(&format!("\n\"fingerprint\":\"{fingerprint}\",\n")));
     }
-    for (card, fingerprint) in [("two-lines.card", "49f80dbf"), ("services.card", "421f0a52")] {
+    for (card, fingerprint) in
+        [("two-lines.card", "49f80dbf"), ("services.card", "421f0a52"), ("floor.card", "aa5ed63f")]
+    {
         let checked = run(&["card", "check", &example(card)]).out;
         assert!(checked.contains(&format!("\ncard {fingerprint}\n")), "{checked}");
     }
@@ -39,7 +42,9 @@ fn the_fingerprint_stands_beside_the_verdict() {
 #[test]
 fn the_pages_have_the_fingerprint() {
     let page = fs::read_to_string(examples().join("../docs/FORMAT.md")).unwrap();
-    assert!(page.contains("`49f80dbf`") && page.contains("`421f0a52`") && page.contains("CRC-32"));
+    for words in ["`49f80dbf`", "`421f0a52`", "`aa5ed63f`", "CRC-32"] {
+        assert!(page.contains(words), "no {words}");
+    }
     let page = include_str!("../README.md");
     assert!(page.contains("card 3ce57cdf") && page.contains("CRC-32"));
 }
@@ -49,7 +54,7 @@ fn the_pages_have_the_fingerprint() {
 fn another_card_has_another_fingerprint() {
     let card = Card::example();
     let services = vec![Service::new(12, ServiceClass::Space)];
-    let card = Card { services, ..card };
+    let card = Card { services, floor: true, ..card };
     let version = Version::NEWEST;
     let bytes = card.to_bytes(version).unwrap();
     for bit in 0..8 * bytes.len() {

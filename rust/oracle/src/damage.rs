@@ -4,7 +4,7 @@ use crate::auditor::{Verdict, MOST_BYTES};
 use crate::entries;
 use crate::fields::{self, Line};
 use crate::generate;
-use crate::model::{is_known, lists_services, shows_hydronic_time, Card, VERSIONS};
+use crate::model::{has_floor_flag, is_known, lists_services, shows_hydronic_time, Card, VERSIONS};
 use crate::plain;
 use crate::random::Random;
 use crate::raw::garbage;
@@ -116,7 +116,7 @@ fn version_known(before: u8, bytes: &[u8], lines: &[Line]) -> Known {
     let (shown, due) = (shows_hydronic_time(before), shows_hydronic_time(bytes[0]));
     if !is_known(bytes[0]) {
         refused(40, 0)
-    } else if lists_services(before) != lists_services(bytes[0]) {
+    } else if sheet::card_length(before, 0) != sheet::card_length(bytes[0], 0) {
         refused(41, 0) // no card's length is one of both
     } else if shown == due {
         accepted
@@ -330,6 +330,11 @@ impl Copy<'_> {
         fields::opening_end(&self.bytes)
     }
 
+    /// Another length of line 0.
+    fn put_length(&mut self, length: usize) {
+        self.bytes[1..3].copy_from_slice(&(length as u16).to_be_bytes());
+    }
+
     /// In the place of line 0.
     fn put_card(&mut self, card: &Card) {
         let opening = sheet::opening(self.bytes[0], card);
@@ -342,7 +347,7 @@ impl Copy<'_> {
     }
 }
 
-/// Damage to the list of services, in version 3: its count, its length, its entries.
+/// Damage to the list of services, from version 3 on: its count, its length, its entries.
 fn damage_services(mut copy: Copy) -> Option<Sheet> {
     if !lists_services(copy.bytes[0]) {
         return None;
@@ -356,18 +361,17 @@ fn damage_services(mut copy: Copy) -> Option<Sheet> {
             copy.done("count", refused(41, 0))
         }
         1 => {
-            // A byte of the card less, and its length with it: 158 + 3 × count.
+            // A byte of the card less, and its length with it: 158 + 3 × count, or in version 4
+            // the card of version 3.
             let end = copy.opening_end();
             copy.bytes.remove(end - 1);
-            let length = (end - 4) as u16;
-            copy.bytes[1..3].copy_from_slice(&length.to_be_bytes());
-            copy.done("length 158 and services", refused(41, 0))
+            copy.put_length(end - 4);
+            copy.done("a byte of the card less", refused(41, 0))
         }
         2 => {
             // A service more, made of the first line's bytes.
-            let length = (copy.opening_end() - 3 + 3) as u16;
             copy.bytes[3 + CARD_BYTES] = count.checked_add(1)?;
-            copy.bytes[1..3].copy_from_slice(&length.to_be_bytes());
+            copy.put_length(copy.opening_end() - 3 + 3);
             copy.done("count and length", Known::From(0))
         }
         3 | 4 => {
@@ -383,7 +387,32 @@ fn damage_services(mut copy: Copy) -> Option<Sheet> {
     }
 }
 
-/// Damage to a demand's type, in version 3: its bytes exchanged, or another one. Any is in range.
+/// Damage to the floor flag: another one, none, or one that no version has.
+fn damage_flag(mut copy: Copy) -> Option<Sheet> {
+    let end = copy.opening_end();
+    match (has_floor_flag(copy.bytes[0]), copy.random.below(6)) {
+        (true, 0..=2) => {
+            copy.bytes[end - 1] ^= 1;
+            let lines = copy.lines.len() as u64;
+            let loss = copy.lines.iter().find(|line| line.kind == 4);
+            let known =
+                loss.map_or(Known::Exactly(Verdict::Accepted(lines)), |l| Known::From(l.index));
+            copy.done("flag turned", known)
+        }
+        (true, 3 | 4) => {
+            copy.bytes[end - 1] = generate::refused_floor(copy.random);
+            copy.done("refused flag", refused(41, 0))
+        }
+        _ => {
+            let flag = copy.random.below(3) as u8;
+            copy.bytes.insert(end, flag);
+            copy.put_length(end - 3 + 1);
+            copy.done("a flag more", refused(41, 0))
+        }
+    }
+}
+
+/// Damage to a demand's type, from version 3 on: its bytes exchanged, or another one. Any is in range.
 fn damage_type(mut copy: Copy) -> Option<Sheet> {
     let line = copy.line().filter(|line| line.kind == 1 && lists_services(line.version))?;
     let (high, low) = (line.call() + 1, line.call() + 2);
@@ -417,10 +446,10 @@ fn damage_ends(mut copy: Copy) -> Option<Sheet> {
     match copy.random.below(8) {
         0 => turned(copy),
         1 => {
-            let right = copy.opening_end() as u16 - 3;
+            let right = copy.opening_end() - 3;
             let lengths = [0, 1, 157, right - 1, right + 1, right + 3, 0x9e00, 0xffff];
             let length = copy.random.pick(&lengths);
-            copy.bytes[1..3].copy_from_slice(&length.to_be_bytes());
+            copy.put_length(length);
             copy.done("card's length", refused(41, 0))
         }
         2 | 3 => {
@@ -509,12 +538,13 @@ fn damage_two(mut copy: Copy, timestep: f64) -> Option<Sheet> {
 
 /// A damaged copy of an accepted sheet; None where the sheet has no place for the damage drawn.
 pub fn damaged(random: &mut Random, sheet: &[u8]) -> Option<Sheet> {
-    let which = random.below(12);
+    let which = random.below(13);
     let copy = Copy { random, bytes: sheet.to_vec(), lines: fields::lines(sheet) };
     let timestep = copy.card().timestep;
     match which {
         10 => damage_services(copy),
         11 => damage_type(copy),
+        12 => damage_flag(copy),
         0..=2 => damage_ends(copy),
         3..=8 => damage_line(copy, timestep),
         _ => damage_two(copy, timestep),

@@ -4,13 +4,13 @@ use crate::auditor::{self, Fields, Verdict};
 use crate::entries::Step;
 use crate::library::{Independent, Library};
 use crate::model::{
-    is_known, lists_services, shows_hydronic_time, Answer, Battery, Call, Card, Demand, Service,
-    Services, VERSIONS,
+    has_floor_flag, is_known, lists_services, shows_hydronic_time, Answer, Battery, Call, Card,
+    Demand, Service, Services, VERSIONS,
 };
 use crate::own::{self, Record, Shown};
-use crate::plain::{self, HydronicEnd};
+use crate::plain::{self, HydronicEnd, Lowered, Salt, FLOOR};
 use crate::reading;
-use crate::sheet;
+use crate::sheet::{self, CARD_BYTES};
 use std::borrow::Cow;
 
 #[derive(Clone, Copy, Debug, PartialEq, Eq)]
@@ -54,12 +54,44 @@ pub enum Fault {
     UnlistedServed,
     /// A trial of a type that isn't listed refused with 21.
     UnlistedTrial,
+    /// A floor flag of 2 accepted, as 1.
+    Flag2,
+    /// The floor flag before the services.
+    FlagFirst,
+    /// The floor in version 3.
+    FloorEarly,
+    /// The floor with the flag 0.
+    FloorAlways,
+    /// No floor with the flag 1.
+    FloorNever,
+    /// The floor in a demand.
+    FloorInDemand,
+    /// A zone under the floor raised to it.
+    FloorRaises,
+    /// The whole energy counted at the floor.
+    FloorWhole,
+    /// The energy minus the rest counted.
+    FloorRest,
+    /// What the zone holds over the floor counted, where the energy is less.
+    FloorHeld,
+    /// What the zone holds over the card's ref counted.
+    FloorRef,
+    /// What zones give up to the floor summed in plain f64.
+    FloorPlainSum,
     /// The own record's services read in every version.
     OwnServicesEarly,
     /// More services than 32 in the own record taken for 32.
     OwnServices33,
     /// The own record's services stored to.
     OwnServicesStored,
+    /// Another floor of the own record than 0 and 1 refused in every version.
+    OwnFloorEarly,
+    /// A floor of 1 in the own record taken for the card's in every version.
+    OwnFloorTaken,
+    /// A floor of 2 in the own record taken for 1.
+    OwnFloor2,
+    /// The own record's floor stored to.
+    OwnFloorStored,
     /// Every sheet accepted.
     PassesAll,
     /// No sheet accepted.
@@ -105,7 +137,7 @@ pub const IN_AUDIT: [(&str, Fault); 7] = [
 ];
 
 /// Faults of what the entries and the audit share: steps, layout and card.
-pub const IN_BOTH: [(&str, Fault); 10] = [
+pub const IN_BOTH: [(&str, Fault); 22] = [
     ("time-always", Fault::TimeAlways),
     ("time-product", Fault::TimeProduct),
     ("services-33", Fault::Services33),
@@ -116,13 +148,29 @@ pub const IN_BOTH: [(&str, Fault); 10] = [
     ("type-exchanged", Fault::TypeExchanged),
     ("unlisted-served", Fault::UnlistedServed),
     ("unlisted-trial", Fault::UnlistedTrial),
+    ("flag-2", Fault::Flag2),
+    ("flag-first", Fault::FlagFirst),
+    ("floor-early", Fault::FloorEarly),
+    ("floor-always", Fault::FloorAlways),
+    ("floor-never", Fault::FloorNever),
+    ("floor-in-demand", Fault::FloorInDemand),
+    ("floor-raises", Fault::FloorRaises),
+    ("floor-whole", Fault::FloorWhole),
+    ("floor-rest", Fault::FloorRest),
+    ("floor-held", Fault::FloorHeld),
+    ("floor-ref", Fault::FloorRef),
+    ("floor-plain-sum", Fault::FloorPlainSum),
 ];
 
 /// Faults of the entry on the caller's own record.
-pub const IN_OWN: [(&str, Fault); 3] = [
+pub const IN_OWN: [(&str, Fault); 7] = [
     ("own-services-early", Fault::OwnServicesEarly),
     ("own-services-33", Fault::OwnServices33),
     ("own-services-stored", Fault::OwnServicesStored),
+    ("own-floor-early", Fault::OwnFloorEarly),
+    ("own-floor-taken", Fault::OwnFloorTaken),
+    ("own-floor-2", Fault::OwnFloor2),
+    ("own-floor-stored", Fault::OwnFloorStored),
 ];
 
 /// Faults that end the program, as a page that can't be read is read.
@@ -133,7 +181,7 @@ pub struct Faulty {
     pub fault: Fault,
 }
 
-/// The plain steps with the newest version's answers.
+/// The plain steps with the newest version's answers; a card of another has no floor in them.
 fn time_always(_: u8, battery: &Battery, call: &Call) -> (Answer, Battery) {
     plain::step(VERSIONS[VERSIONS.len() - 1], battery, call)
 }
@@ -190,6 +238,123 @@ fn unlisted_trial(version: u8, battery: &Battery, call: &Call) -> (Answer, Batte
     }
 }
 
+// ---- The floor
+
+/// The plain steps on the card with another flag, in version 4; the card stays.
+fn flagged(version: u8, battery: &Battery, call: &Call, floor: u8) -> (Answer, Battery) {
+    let card = Card { floor, ..battery.card };
+    let (answer, after) = plain::step(version, &Battery { card, ..battery.clone() }, call);
+    (answer, Battery { card: battery.card, ..after })
+}
+
+fn floor_early(version: u8, battery: &Battery, call: &Call) -> (Answer, Battery) {
+    match (version, call) {
+        (3, Call::StandingLoss) => flagged(4, battery, call, 1),
+        _ => plain::step(version, battery, call),
+    }
+}
+
+/// The floor in every version.
+fn floor_taken(version: u8, battery: &Battery, call: &Call) -> (Answer, Battery) {
+    match call {
+        Call::StandingLoss => flagged(4, battery, call, 1),
+        _ => plain::step(version, battery, call),
+    }
+}
+
+fn floor_always(version: u8, battery: &Battery, call: &Call) -> (Answer, Battery) {
+    flagged(version, battery, call, 1)
+}
+
+fn floor_never(version: u8, battery: &Battery, call: &Call) -> (Answer, Battery) {
+    flagged(version, battery, call, 0)
+}
+
+/// A committed demand that leaves no zone under the floor that wasn't.
+fn floor_in_demand(version: u8, battery: &Battery, call: &Call) -> (Answer, Battery) {
+    let (mut answer, mut after) = plain::step(version, battery, call);
+    if battery.card.floor == 1 && matches!(call, Call::Demand(_)) {
+        for (zone, before) in answer.state.zones.iter_mut().zip(&battery.state.zones) {
+            *zone = zone.max(before.min(FLOOR));
+        }
+        after.state = answer.state.clone();
+    }
+    (answer, after)
+}
+
+/// A standing loss with the floor by another update of a zone, of a salt and a card, with its loss and
+/// what the right update makes of both; and with another sum.
+fn floored(
+    version: u8,
+    battery: &Battery,
+    call: &Call,
+    update: impl Fn(&Salt, &Card, f64, f64, Lowered) -> (f64, f64),
+    sum: fn(&[f64]) -> f64,
+) -> (Answer, Battery) {
+    let (right, after) = plain::step(version, battery, call);
+    if !battery.has_floor(version, call) || right.refusal == 10 {
+        return (right, after);
+    }
+    let card = &battery.card;
+    let salt = plain::salt(card);
+    let mut state = battery.state.clone();
+    let mut counted = Vec::new();
+    for zone in &mut state.zones {
+        let loss = plain::zone_loss(card, *zone, card.timestep * 3600.0, card.losses);
+        let lowered = plain::calculate_new_zone_temperature_with_lowest(&salt, *zone, FLOOR, loss);
+        let (temperature, count) = update(&salt, card, *zone, loss, lowered);
+        *zone = temperature;
+        counted.push(count);
+    }
+    let answer = Answer::plain(sum(&counted) / 3600.0, 1, state).or_23(&battery.state);
+    let state = answer.state.clone();
+    (answer, Battery { card: *card, state })
+}
+
+fn floor_raises(version: u8, battery: &Battery, call: &Call) -> (Answer, Battery) {
+    let update = |_: &Salt, _: &Card, _, _, l: Lowered| (l.temperature.max(FLOOR), l.taken);
+    floored(version, battery, call, update, plain::sum2)
+}
+
+fn floor_whole(version: u8, battery: &Battery, call: &Call) -> (Answer, Battery) {
+    let update = |_: &Salt, _: &Card, _, loss, l: Lowered| (l.temperature, loss);
+    floored(version, battery, call, update, plain::sum2)
+}
+
+fn floor_rest(version: u8, battery: &Battery, call: &Call) -> (Answer, Battery) {
+    let update = |_: &Salt, _: &Card, _, loss: f64, l: Lowered| (l.temperature, loss - l.rest);
+    floored(version, battery, call, update, plain::sum2)
+}
+
+/// Whether the right update ends at the floor, in the place of under it.
+fn stops(salt: &Salt, zone: f64, loss: f64) -> bool {
+    zone > FLOOR && plain::calculate_new_zone_temperature(salt, zone, loss) < FLOOR
+}
+
+fn floor_held(version: u8, battery: &Battery, call: &Call) -> (Answer, Battery) {
+    let update = |salt: &Salt, _: &Card, zone, loss, l: Lowered| match stops(salt, zone, loss) {
+        true => (FLOOR, plain::calculate_layer_energy_stored(salt, zone, FLOOR)),
+        false => (l.temperature, l.taken),
+    };
+    floored(version, battery, call, update, plain::sum2)
+}
+
+fn floor_ref(version: u8, battery: &Battery, call: &Call) -> (Answer, Battery) {
+    let update = |salt: &Salt, card: &Card, zone, loss, l: Lowered| match stops(salt, zone, loss) {
+        true => {
+            let held = plain::calculate_layer_energy_stored(salt, zone, card.reference);
+            (FLOOR, plain::min(loss, held))
+        }
+        false => (l.temperature, l.taken),
+    };
+    floored(version, battery, call, update, plain::sum2)
+}
+
+fn floor_plain_sum(version: u8, battery: &Battery, call: &Call) -> (Answer, Battery) {
+    let update = |_: &Salt, _: &Card, _, _, l: Lowered| (l.temperature, l.taken);
+    floored(version, battery, call, update, |counted| counted.iter().sum())
+}
+
 impl Faulty {
     /// The fault of that name; none for another name.
     pub fn named(name: &str) -> Self {
@@ -206,6 +371,16 @@ impl Faulty {
             Fault::TypeExchanged => type_exchanged,
             Fault::UnlistedServed => unlisted_served,
             Fault::UnlistedTrial => unlisted_trial,
+            Fault::FloorEarly => floor_early,
+            Fault::FloorAlways => floor_always,
+            Fault::FloorNever => floor_never,
+            Fault::FloorInDemand => floor_in_demand,
+            Fault::FloorRaises => floor_raises,
+            Fault::FloorWhole => floor_whole,
+            Fault::FloorRest => floor_rest,
+            Fault::FloorHeld => floor_held,
+            Fault::FloorRef => floor_ref,
+            Fault::FloorPlainSum => floor_plain_sum,
             _ => plain::step,
         }
     }
@@ -238,13 +413,21 @@ impl Faulty {
                 taken.count = 0;
             }
             Fault::OwnServices33 => taken.services = taken.services.min(most),
+            Fault::OwnFloorEarly if taken.floor > 1 => taken.count = 0,
+            Fault::OwnFloor2 if taken.floor == 2 => taken.floor = 1,
             _ => {}
         }
-        let shown = own::advance(self.step(), version, &mut taken, call);
+        let step = match self.fault {
+            Fault::OwnFloorTaken if taken.floor == 1 => floor_taken,
+            _ => self.step(),
+        };
+        let shown = own::advance(step, version, &mut taken, call);
         if shown.refusal == 0 {
             (record.zones, record.totals) = (taken.zones, taken.totals);
-            if self.fault == Fault::OwnServicesStored {
-                record.services = 0;
+            match self.fault {
+                Fault::OwnServicesStored => record.services = 0,
+                Fault::OwnFloorStored => record.floor = 0,
+                _ => {}
             }
         }
         shown
@@ -290,7 +473,16 @@ impl Faulty {
         if self.fault == Fault::ServicesLength {
             return Cow::Owned([card, &[0]].concat());
         }
+        if self.fault == Fault::FlagFirst && has_floor_flag(version) && card.len() > CARD_BYTES {
+            // Its bytes behind the fields, with the first of them at the end.
+            let mut taken = card.to_vec();
+            taken[CARD_BYTES..].rotate_left(1);
+            return Cow::Owned(taken);
+        }
         match reading::card(version, card) {
+            Some(read) if self.fault == Fault::Flag2 && read.floor == 2 => {
+                Cow::Owned(sheet::card_bytes(version, &Card { floor: 1, ..read }))
+            }
             Some(read) if plain::card_refusal(&read) == 61 => {
                 let services = self.mended(&read.services);
                 Cow::Owned(sheet::card_bytes(version, &Card { services, ..read }))

@@ -1,10 +1,10 @@
 //! Random cards, batteries and calls, weighted to every edge of document 01's ranges.
 
 use crate::model::{
-    is_known, lists_services, Battery, Call, Card, Demand, Hydronic, Service, Services, State,
-    Totals, VERSIONS,
+    has_floor_flag, is_known, lists_services, Battery, Call, Card, Demand, Hydronic, Service,
+    Services, State, Totals, VERSIONS,
 };
-use crate::plain::{self, MOST_SERVICES};
+use crate::plain::{self, FLOOR, MOST_SERVICES};
 use crate::random::Random;
 use crate::ranges::{self, Range};
 use std::collections::BTreeSet;
@@ -53,6 +53,7 @@ pub fn points_card() -> Card {
         start: 60.0,
         power: 0.0,
         services: Services::default(),
+        floor: 0,
     }
 }
 
@@ -85,6 +86,7 @@ fn ordinary_card(random: &mut Random) -> Card {
         start: random.between(20.0, 90.0).round(),
         power: random.pick(&[0.0, 1.0, 3.0, 20.0]),
         services: Services::default(),
+        floor: 0,
     }
 }
 
@@ -144,7 +146,7 @@ fn near_mark(random: &mut Random, card: &Card) -> f64 {
     random.near(mark)
 }
 
-/// An accepted card without services.
+/// An accepted card without services and floor.
 pub fn card(random: &mut Random) -> Card {
     loop {
         let mut card = ordinary_card(random);
@@ -157,16 +159,95 @@ pub fn card(random: &mut Random) -> Card {
     }
 }
 
-/// An accepted card of a version.
+/// An accepted card of a version. In half of the cases with services its losses come to the floor, and
+/// with the flag 1 more often; version 3 has none, which they must show.
 pub fn card_of(random: &mut Random, version: u8) -> Card {
-    let card = card(random);
-    match lists_services(version) {
-        true => Card { services: services(random), ..card },
-        false => card,
+    let mut card = card(random);
+    if has_floor_flag(version) {
+        card.floor = random.below(2) as u8;
+    }
+    if lists_services(version) {
+        card.services = services(random);
+        if random.below(4) < 2 + u64::from(card.floor) {
+            put_near_floor(random, &mut card);
+        }
+    }
+    card
+}
+
+/// A temperature at or about the floor, or one from which a loss comes to it in f64 in its own way.
+fn floor_zone(random: &mut Random) -> f64 {
+    let above = FLOOR + random.magnitude(1e-12, 100.0);
+    let below = FLOOR - random.magnitude(1e-12, 60.0);
+    let named = random.pick(&[FLOOR, 16.5, 16.000000001, 18.7, 56.3, 76.0, 76.3]);
+    let huge = random.magnitude(1e290, 1e308);
+    match random.below(10) {
+        0..=2 => random.near(FLOOR),
+        3..=5 => random.near(named),
+        6 => below,
+        7 => huge,
+        _ => above,
     }
 }
 
-/// A card of any kind without services: accepted ones, each range's both sides, each of 1 to 4.
+/// Losses that bring zones of one temperature to the floor, nearly so, or past it.
+fn losses_to_floor(random: &mut Random, card: &Card, zone: f64) -> f64 {
+    let salt = plain::salt(card);
+    let held = plain::calculate_layer_energy_stored(&salt, zone, FLOOR);
+    let rate = plain::zone_loss(card, zone, card.timestep * 3600.0, 1.0);
+    let losses = match random.below(6) {
+        0..=2 => random.near(held / rate),
+        3 => held / rate * random.between(0.5, 2.0),
+        4 => held / rate * random.magnitude(0.01, 100.0),
+        _ => random.magnitude(1.0, ranges::POWER.1),
+    };
+    let losses = random.near(losses);
+    match losses.is_nan() {
+        true => ranges::POWER.1,
+        false => losses.clamp(ranges::POWER.0, ranges::POWER.1),
+    }
+}
+
+/// Looks for a start and losses that end under the floor though they are less than what is held. That
+/// is a matter of last places; it is frequent with capacities of few bits and a small one below.
+fn put_less_than_held(random: &mut Random, card: &mut Card) {
+    let (seconds, layers) = (card.timestep * 3600.0, f64::from(card.layers));
+    (card.lower, card.upper) = (48.0, 56.0);
+    (card.during, card.above) = (32.0 * layers, 2.0 * layers);
+    for _ in 0..100 {
+        card.below = layers * random.between(0.5, 4.0);
+        card.start = card.upper + random.between(0.0, 8.0);
+        let salt = plain::salt(card);
+        let held = plain::calculate_layer_energy_stored(&salt, card.start, FLOOR);
+        let losses = held / plain::zone_loss(card, card.start, seconds, 1.0);
+        card.losses = random.near(losses).min(ranges::POWER.1);
+        let loss = plain::zone_loss(card, card.start, seconds, card.losses);
+        let ends = plain::calculate_new_zone_temperature(&salt, card.start, loss);
+        if loss < held && ends < FLOOR {
+            return;
+        }
+    }
+}
+
+/// A start at or about the floor, or from which losses come to it.
+fn put_near_floor(random: &mut Random, card: &mut Card) {
+    let (low, high) = ranges::TEMPERATURE;
+    match random.below(6) {
+        0 | 1 => return put_less_than_held(random, card),
+        2..=4 => card.start = floor_zone(random).clamp(low, high),
+        _ => {}
+    }
+    card.losses = losses_to_floor(random, card, card.start);
+}
+
+/// Another flag than 0 and 1.
+pub fn refused_floor(random: &mut Random) -> u8 {
+    let any = 2 + random.below(254) as u8;
+    random.pick(&[2, 2, 2, 3, 16, 128, 129, 255, any])
+}
+
+/// A card of any kind without services and floor: accepted ones, each range's both sides, each of 1
+/// to 4.
 pub fn any_card(random: &mut Random) -> Card {
     let mut card = card(random);
     match random.below(8) {
@@ -194,7 +275,8 @@ pub fn any_card(random: &mut Random) -> Card {
     card
 }
 
-/// A card of any kind, in version 3 with an accepted list or with one that 61 refuses.
+/// A card of any kind, from version 3 on with an accepted list or with one that 61 refuses, from
+/// version 4 on with any flag.
 pub fn any_card_of(random: &mut Random, version: u8) -> Card {
     let card = any_card(random);
     let services = match lists_services(version) {
@@ -202,7 +284,12 @@ pub fn any_card_of(random: &mut Random, version: u8) -> Card {
         true => services(random),
         false => Services::default(),
     };
-    Card { services, ..card }
+    let floor = match has_floor_flag(version) {
+        true if random.one_in(4) => refused_floor(random),
+        true => random.below(2) as u8,
+        false => 0,
+    };
+    Card { services, floor, ..card }
 }
 
 /// Service numbers whose bytes, ends or order can be got wrong.
@@ -357,10 +444,19 @@ fn any_totals(random: &mut Random, card: &Card) -> Totals {
     }
 }
 
-/// A fresh battery, or one handed in with ordinary or with any finite zones and totals.
+/// A fresh battery, or one handed in with ordinary or with any finite zones and totals; on a card with
+/// the floor often with zones about it.
 pub fn battery(random: &mut Random, card: &Card) -> Battery {
     let mut battery = Battery::fresh(card);
     let layers = usize::from(card.layers);
+    if card.floor == 1 && random.one_in(4) {
+        for zone in &mut battery.state.zones {
+            if random.one_in(2) {
+                *zone = floor_zone(random);
+            }
+        }
+        return battery;
+    }
     match random.below(20) {
         0..=9 => {}
         10..=16 => battery.state.zones = (0..layers).map(|_| zone(random, card)).collect(),
@@ -533,11 +629,15 @@ fn call(random: &mut Random, version: u8, battery: &Battery) -> Call {
     }
 }
 
-/// The next call of a list of a version: often closing a timestep whose time is used up.
+/// The next call of a list of a version: often closing a timestep whose time is used up; with the
+/// floor more often a standing loss, from the start above all.
 pub fn next_call(random: &mut Random, version: u8, battery: &Battery) -> Call {
     let used_up = battery.state.totals.running_hours >= battery.card.timestep;
+    let at_start = battery.state.zones[0] == battery.card.start;
     if used_up && !random.one_in(3) {
         Call::CloseTimestep
+    } else if battery.card.floor == 1 && random.one_in(if at_start { 2 } else { 4 }) {
+        Call::StandingLoss
     } else {
         call(random, version, battery)
     }

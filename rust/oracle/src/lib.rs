@@ -13,6 +13,8 @@ pub mod entries;
 pub mod faults;
 pub mod fields;
 pub mod generate;
+#[cfg(published)]
+pub mod judge;
 pub mod lent;
 pub mod library;
 pub mod own;
@@ -26,6 +28,4 @@ pub mod sheets;
 #[cfg(published)]
 pub mod vectors;
 
-#[cfg(published)]
-pub use published::judge;
 pub use published::{model, ranges, stand_ins};

@@ -4,12 +4,14 @@
 use crate::entries::Step;
 use crate::fields;
 use crate::model::{
-    is_known, lists_services, Answer, Battery, Card, Service, Services, State, Totals,
+    has_floor_flag, is_known, lists_services, Answer, Battery, Card, Service, Services, State,
+    Totals,
 };
 use crate::plain::{self, MOST_SERVICES};
 use crate::ranges;
 use crate::reading;
 use crate::sheet;
+use std::mem::offset_of;
 
 pub const MOST_LAYERS: usize = 64;
 
@@ -35,9 +37,12 @@ pub struct Record {
     pub services: u8,
     pub numbers: [u16; MOST_SERVICES],
     pub classes: [u8; MOST_SERVICES],
+    /// Read from version 4 on.
+    pub floor: u8,
 }
 
 const _: () = assert!(size_of::<OwnCard>() == 160 && size_of::<Record>() == 824);
+const _: () = assert!(offset_of!(Record, classes) == 786 && offset_of!(Record, floor) == 818);
 
 #[repr(C)]
 #[derive(Clone, Copy)]
@@ -73,6 +78,7 @@ impl From<&Battery> for Record {
             services: battery.card.services.listed().len() as u8,
             numbers: [0; MOST_SERVICES],
             classes: [0; MOST_SERVICES],
+            floor: battery.card.floor,
         };
         let places = record.numbers.iter_mut().zip(&mut record.classes);
         for ((number, class), service) in places.zip(battery.card.services.listed()) {
@@ -85,8 +91,8 @@ impl From<&Battery> for Record {
 
 impl Record {
     /// The record of a byte record, whether that is one or not; what its bytes lack is 0. Places above
-    /// the counts have NaNs and numbers of their own, and so have the services where the version
-    /// doesn't read them.
+    /// the counts have NaNs and numbers of their own, and so have services and floor where the version
+    /// doesn't read them: the floor is then 1 or what none may be, by the card's bytes.
     pub fn of_bytes(version: u8, bytes: &[u8]) -> Self {
         let mut whole = bytes.to_vec();
         whole.resize(bytes.len().max(sheet::card_length(version, 0)), 0);
@@ -110,6 +116,10 @@ impl Record {
         for at in listed..MOST_SERVICES {
             record.numbers[at] = at as u16;
             record.classes[at] = 0xff - at as u8;
+        }
+        if !has_floor_flag(version) {
+            let is_odd = whole[..front].iter().fold(0, |sum, byte| sum ^ byte) % 2 == 1;
+            record.floor = if is_odd { 1 } else { 0xe7 };
         }
         record
     }
@@ -139,6 +149,9 @@ impl Record {
         if lists_services(version) {
             card.services = self.listed()?;
         }
+        if has_floor_flag(version) {
+            card.floor = self.floor;
+        }
         if self.count != layers || plain::card_refusal(&card) != 0 {
             return None;
         }
@@ -154,10 +167,10 @@ impl Record {
         let OwnCard { layers, units, simultaneous, budget, numbers } = self.card;
         let whole = [layers.into(), units.into(), simultaneous.into(), budget.into()];
         let floats = numbers.iter().chain(&self.zones).chain(&self.totals).map(|x| x.to_bits());
-        let counts = [self.count, self.services].map(u64::from);
+        let bytes = [self.count, self.services, self.floor].map(u64::from);
         let numbers = self.numbers.iter().map(|number| u64::from(*number));
         let classes = self.classes.iter().map(|class| u64::from(*class));
-        whole.into_iter().chain(counts).chain(floats).chain(numbers).chain(classes).collect()
+        whole.into_iter().chain(bytes).chain(floats).chain(numbers).chain(classes).collect()
     }
 }
 

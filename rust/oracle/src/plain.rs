@@ -2,8 +2,8 @@
 //! file or the judge. Modules as document 01 numbers them.
 
 use crate::model::{
-    shows_hydronic_time, Answer, Battery, Call, Card, Demand, Derived, Hydronic, Service, Services,
-    State,
+    has_floor_flag, shows_hydronic_time, Answer, Battery, Call, Card, Demand, Derived, Hydronic,
+    Service, Services, State,
 };
 use crate::ranges;
 
@@ -15,6 +15,8 @@ const LN_2: f64 = 0.6931471805599453;
 #[allow(clippy::approx_constant)] // the digits of document 01
 const ROOT_2: f64 = 1.4142135623730951;
 const AMBIENT: f64 = 16.0;
+/// Where a standing loss stops, with the flag 1.
+pub const FLOOR: f64 = 16.0;
 
 pub fn nearly_equal(p: f64, q: f64, epsilon: f64, max_relative: f64) -> bool {
     let gap = (p - q).abs();
@@ -261,6 +263,34 @@ pub fn calculate_new_zone_temperature(salt: &Salt, zone: f64, energy: f64) -> f6
     }
 }
 
+/// What a zone becomes that may not fall under a lowest temperature, and its energy in two parts.
+#[derive(Clone, Copy, Debug, PartialEq)]
+pub struct Lowered {
+    pub temperature: f64,
+    pub taken: f64,
+    /// What it couldn't give.
+    pub rest: f64,
+}
+
+/// The same update with a lowest temperature. A zone at or under it stays and gives nothing.
+pub fn calculate_new_zone_temperature_with_lowest(
+    salt: &Salt,
+    zone: f64,
+    lowest: f64,
+    energy: f64,
+) -> Lowered {
+    if zone <= lowest {
+        return Lowered { temperature: zone, taken: 0.0, rest: energy };
+    }
+    let temperature = calculate_new_zone_temperature(salt, zone, energy);
+    if temperature < lowest {
+        let taken = min(energy, calculate_layer_energy_stored(salt, zone, lowest));
+        Lowered { temperature: lowest, taken, rest: energy - taken }
+    } else {
+        Lowered { temperature, taken: energy, rest: 0.0 }
+    }
+}
+
 /// Temperature fall of a zone that gives energy.
 fn giving(salt: &Salt, zone: f64, energy: f64) -> f64 {
     let Salt { lower, upper, below, during, above } = *salt;
@@ -433,8 +463,8 @@ impl Exchanger {
 pub enum Mode {
     /// Power in kW, and the level to charge to.
     ChargingAlone { power: f64, target: f64 },
-    /// Rated losses in kW.
-    Losses { rated: f64 },
+    /// Rated losses in kW, and the lowest temperature of a zone where there is a floor.
+    Losses { rated: f64, lowest: Option<f64> },
     /// Water through the exchanger, with the power of simultaneous charging.
     Normal { exchanger: Exchanger, reynolds: f64, inlet: f64, power: f64 },
 }
@@ -466,7 +496,7 @@ impl Substeps<'_> {
             Mode::ChargingAlone { power, target } => {
                 charging_alone(self.card, zones, seconds, power, target)
             }
-            Mode::Losses { rated } => losses(self.card, zones, seconds, rated),
+            Mode::Losses { rated, lowest } => losses(self.card, zones, seconds, rated, lowest),
             Mode::Normal { exchanger, reynolds, inlet, power } => {
                 let transfer =
                     heat_transfer(exchanger.a, exchanger.b, exchanger.flow, reynolds).ok_or(24)?;
@@ -515,16 +545,36 @@ fn charging_alone(
     Substep { outlet: 0.0, energies: Vec::new(), delivered: 0.0, charged: now.charged }
 }
 
-/// Every zone's share of the rated losses, by its temperature above the surroundings.
-fn losses(card: &Card, zones: &mut [f64], seconds: f64, rated: f64) -> Substep {
-    let salt = salt(card);
-    let rated_difference = card.max - 20.0;
+/// A zone's share of the rated losses, by its temperature above the surroundings, in kilojoules.
+pub fn zone_loss(card: &Card, zone: f64, seconds: f64, rated: f64) -> f64 {
     let all = rated * seconds / 3600.0 * 3600.0;
+    max_zero(all / f64::from(card.layers) * (zone - AMBIENT) / (card.max - 20.0))
+}
+
+/// Every zone loses its share, or with a lowest temperature what it can of it.
+fn losses(
+    card: &Card,
+    zones: &mut [f64],
+    seconds: f64,
+    rated: f64,
+    lowest: Option<f64>,
+) -> Substep {
+    let salt = salt(card);
     let mut energies = Vec::with_capacity(zones.len());
     for zone in zones.iter_mut() {
-        let energy = max_zero(all / f64::from(card.layers) * (*zone - AMBIENT) / rated_difference);
-        *zone = calculate_new_zone_temperature(&salt, *zone, energy);
-        energies.push(energy);
+        let energy = zone_loss(card, *zone, seconds, rated);
+        match lowest {
+            None => {
+                *zone = calculate_new_zone_temperature(&salt, *zone, energy);
+                energies.push(energy);
+            }
+            Some(lowest) => {
+                let after =
+                    calculate_new_zone_temperature_with_lowest(&salt, *zone, lowest, energy);
+                *zone = after.temperature;
+                energies.push(after.taken);
+            }
+        }
     }
     let delivered = sum2(&energies);
     Substep { outlet: 0.0, energies, delivered, charged: 0.0 }
@@ -580,9 +630,10 @@ fn charge_battery_electric(
     Ok(charged)
 }
 
-fn battery_heat_loss(steps: &mut Substeps, state: &mut State) -> Result<f64, u8> {
+fn battery_heat_loss(version: u8, steps: &mut Substeps, state: &mut State) -> Result<f64, u8> {
     let seconds = steps.card.timestep * 3600.0;
-    let mode = Mode::Losses { rated: steps.card.losses };
+    let has_floor = has_floor_flag(version) && steps.card.floor == 1;
+    let mode = Mode::Losses { rated: steps.card.losses, lowest: has_floor.then_some(FLOOR) };
     Ok(steps.run(&mut state.zones, seconds, mode)?.delivered / 3600.0)
 }
 
@@ -803,7 +854,7 @@ fn answer(version: u8, battery: &Battery, call: &Call) -> Result<Answer, u8> {
             charge_battery_electric(&mut steps, &mut state, *power, *target)?
         }
         Call::Hydronic(fields) => return hydronic(version, &mut steps, &mut state, fields),
-        Call::StandingLoss => battery_heat_loss(&mut steps, &mut state)?,
+        Call::StandingLoss => battery_heat_loss(version, &mut steps, &mut state)?,
         Call::CloseTimestep => {
             state.totals.running_hours = 0.0;
             state.totals.pump_hours = 0.0;

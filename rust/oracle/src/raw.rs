@@ -2,7 +2,7 @@
 
 use crate::fields;
 use crate::generate;
-use crate::model::{lists_services, Battery, Card};
+use crate::model::{has_floor_flag, lists_services, Battery, Card};
 use crate::plain;
 use crate::random::Random;
 use crate::ranges;
@@ -90,7 +90,7 @@ fn flip(random: &mut Random, bytes: &mut [u8]) {
 }
 
 /// A card that 1 to 4 refuse, or 61: with one number outside its range, a whole field, a relation, a
-/// list of services, or more of these.
+/// list of services, a flag, or more of these.
 fn refused_card(random: &mut Random, version: u8) -> Card {
     loop {
         let mut card = generate::any_card_of(random, version);
@@ -104,14 +104,25 @@ fn refused_card(random: &mut Random, version: u8) -> Card {
     }
 }
 
-/// An accepted card but for its services, which 61 refuses.
-fn badly_listed(random: &mut Random) -> Card {
-    Card { services: generate::refused_services(random), ..generate::card(random) }
+/// An accepted card of a version but for its services, which 61 refuses.
+fn badly_listed(random: &mut Random, version: u8) -> Card {
+    let services = generate::refused_services(random);
+    Card { services, ..generate::card_of(random, version) }
+}
+
+/// A card with a flag that 1 refuses, most often with nothing else wrong.
+fn badly_flagged(random: &mut Random, version: u8) -> Card {
+    let card = match random.below(4) {
+        0 => badly_listed(random, version),
+        1 => twice_refused(random, version),
+        _ => generate::card_of(random, version),
+    };
+    Card { floor: generate::refused_floor(random), ..card }
 }
 
 /// A card whose services 61 refuses too, after 2, 3 or 4 for a relation of its fields.
-fn twice_refused(random: &mut Random) -> Card {
-    let mut card = badly_listed(random);
+fn twice_refused(random: &mut Random, version: u8) -> Card {
+    let mut card = badly_listed(random, version);
     match random.below(4) {
         0 => card.lower = card.upper.next_up(),
         1 => card.max = random.pick(&[20.0, 19.0]),
@@ -155,11 +166,19 @@ fn raw_card(random: &mut Random, version: u8) -> (Vec<u8>, Option<u8>) {
             (bytes, Some(1))
         }
         8..=10 if lists_services(version) => {
-            (sheet::card_bytes(version, &badly_listed(random)), Some(61))
+            (sheet::card_bytes(version, &badly_listed(random, version)), Some(61))
         }
         11 if lists_services(version) => {
-            let refused = twice_refused(random);
+            let refused = twice_refused(random, version);
             (sheet::card_bytes(version, &refused), Some(plain::card_refusal(&refused)))
+        }
+        12 if has_floor_flag(version) => {
+            (sheet::card_bytes(version, &badly_flagged(random, version)), Some(1))
+        }
+        13 if lists_services(version) => {
+            // The same card laid out as in the other version with services.
+            let other = if has_floor_flag(version) { version - 1 } else { version + 1 };
+            (sheet::card_bytes(other, &card), Some(1))
         }
         _ => (bytes, Some(0)),
     }
@@ -193,11 +212,16 @@ pub fn opening(random: &mut Random) -> Opening {
     Opening { version, card, record, sheet, known }
 }
 
+/// Where the flag of a good record of version 4 stands.
+fn flag_at(record: &[u8]) -> usize {
+    sheet::card_length(4, record[CARD_BYTES]) - 1
+}
+
 /// A damaged record of a good battery, and whether 10 is certain.
 fn damaged_record(random: &mut Random, version: u8, battery: &Battery) -> (Vec<u8>, bool) {
     let record = &sheet::battery_bytes(version, battery);
     let mut damaged = record.to_vec();
-    match random.below(10) {
+    match random.below(12) {
         0 => {
             let length = wrong_length(random, record.len());
             (resized(random, record, length), true)
@@ -207,9 +231,10 @@ fn damaged_record(random: &mut Random, version: u8, battery: &Battery) -> (Vec<u
             (damaged, true)
         }
         2 | 3 => {
-            let card = match lists_services(version) && random.one_in(2) {
-                true => badly_listed(random),
-                false => refused_card(random, version),
+            let card = match random.below(4) {
+                0 | 1 if lists_services(version) => badly_listed(random, version),
+                2 if has_floor_flag(version) => badly_flagged(random, version),
+                _ => refused_card(random, version),
             };
             let mut damaged = sheet::card_bytes(version, &card);
             damaged.extend(vec![0; sheet::state_length(card.layers)]);
@@ -235,6 +260,17 @@ fn damaged_record(random: &mut Random, version: u8, battery: &Battery) -> (Vec<u
             let card = Card { services, ..battery.card };
             let other = Battery { card, state: battery.state.clone() };
             (sheet::battery_bytes(version, &other), false)
+        }
+        9 | 11 if has_floor_flag(version) => {
+            // The battery with another flag.
+            let floor = random.pick(&[0, 1, 2, 2, 2, 16, 255]);
+            damaged[flag_at(record)] = floor;
+            (damaged, floor > 1)
+        }
+        10 if lists_services(version) => {
+            // The battery with its card laid out as in the other version with services.
+            let other = if has_floor_flag(version) { version - 1 } else { version + 1 };
+            (sheet::battery_bytes(other, battery), true)
         }
         _ => (garbage(random, record.len()), false),
     }

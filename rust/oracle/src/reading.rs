@@ -1,7 +1,8 @@
 //! Card, battery record, call and answer read from bytes, as documents 01 and 02 lay them out.
 
 use crate::model::{
-    lists_services, Answer, Battery, Call, Card, Demand, Hydronic, Service, Services, State, Totals,
+    has_floor_flag, lists_services, Answer, Battery, Call, Card, Demand, Hydronic, Service,
+    Services, State, Totals,
 };
 use crate::plain;
 use crate::ranges;
@@ -132,6 +133,9 @@ pub fn card(version: u8, bytes: &[u8]) -> Option<Card> {
     }
     if lists_services(version) {
         card.services = cursor.services()?;
+    }
+    if has_floor_flag(version) {
+        card.floor = cursor.byte()?;
     }
     Some(card)
 }

@@ -6,7 +6,7 @@ use crate::model::{Answer, Battery, Call, Card, Demand, Hydronic};
 pub const NAN: u64 = 0x7ff8000000000000;
 /// The most words that a record has.
 pub const MOST_WORDS: usize = 480;
-/// A record that sets state and version and has no outputs.
+/// A record that sets state, version and floor and has no outputs.
 pub const START: u16 = 50;
 
 #[derive(Clone, Debug, PartialEq)]

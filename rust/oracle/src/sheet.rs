@@ -1,6 +1,6 @@
 //! The bytes of the sheet, written from documents 01 and 02: card, call, battery and line.
 
-use crate::model::{lists_services, Answer, Battery, Call, Card, State};
+use crate::model::{has_floor_flag, lists_services, Answer, Battery, Call, Card, State};
 
 /// A card's fields: all of a card before version 3.
 pub const CARD_BYTES: usize = 158;
@@ -11,12 +11,14 @@ const FIELD_BYTES: [usize; 7] = [28, 16, 72, 0, 0, 0, 17];
 /// Refusal, energy, outlet's mark, outlet, time, substeps.
 pub const ANSWER_HEAD_BYTES: usize = 1 + 8 + 1 + 8 + 8 + 4;
 
-/// A card that lists so many services; before version 3 it lists none.
+/// A card that lists so many services, whatever their count; before version 3 it lists none. From
+/// version 4 on the floor flag is its last byte.
 pub fn card_length(version: u8, services: u8) -> usize {
-    match lists_services(version) {
-        true => CARD_BYTES + 1 + SERVICE_BYTES * usize::from(services),
-        false => CARD_BYTES,
-    }
+    let services = match lists_services(version) {
+        true => 1 + SERVICE_BYTES * usize::from(services),
+        false => 0,
+    };
+    CARD_BYTES + services + usize::from(has_floor_flag(version))
 }
 
 /// The card at the front of these bytes, whose count says its length; None where they end before it.
@@ -95,6 +97,9 @@ pub fn card_bytes(version: u8, card: &Card) -> Vec<u8> {
             bytes.extend(service.number.to_be_bytes());
             bytes.push(service.class);
         }
+    }
+    if has_floor_flag(version) {
+        bytes.push(card.floor);
     }
     bytes
 }

@@ -1,12 +1,13 @@
 //! Vector files: inputs and expected outputs of single functions and of whole lists of calls.
-//! Functions of the published file are answered by the judge.
+//! Functions of the published file are answered by the judge, what it doesn't have by the plain
+//! implementation.
 
 mod stand_in_records;
 mod zone_records;
 
 use crate::generate;
 use crate::judge;
-use crate::model::VERSIONS;
+use crate::model::{Card, Services, VERSIONS};
 use crate::random::Random;
 use crate::record::{self, Record, START};
 use std::fs;
@@ -25,7 +26,7 @@ enum Content {
 use Content::{Lists, Records};
 
 /// A file's place settles its random numbers, so a new file is the last one.
-const FILES: [(&str, Content); 23] = [
+const FILES: [(&str, Content); 24] = [
     ("finite", Records(stand_in_records::finite)),
     ("nearly_equal", Records(stand_in_records::nearly_equal)),
     ("max_zero", Records(stand_in_records::max_zero)),
@@ -49,6 +50,7 @@ const FILES: [(&str, Content); 23] = [
     ("substep", Records(zone_records::substep)),
     ("lists", Lists),
     ("charge_energy_demand", Records(zone_records::charge_energy_demand)),
+    ("lowest", Records(zone_records::lowest)),
 ];
 
 /// Bytes of `count` records of one function.
@@ -67,9 +69,14 @@ fn lists_file(count: u64, mut random: Random) -> Vec<u8> {
     let mut left = count;
     while left > 0 {
         let version = generate::version(&mut random);
-        let card = generate::card(&mut random);
+        let card = generate::card_of(&mut random, version);
+        let card = Card { services: Services::default(), ..card };
         let mut battery = generate::battery(&mut random, &card);
-        Record::new(START).battery(&battery).word(u64::from(version)).write(&mut bytes);
+        Record::new(START)
+            .battery(&battery)
+            .word(u64::from(version))
+            .word(u64::from(card.floor))
+            .write(&mut bytes);
         let calls = generate::list_length(&mut random).min(left);
         for _ in 0..calls {
             let call = generate::next_call(&mut random, VERSIONS[0], &battery);

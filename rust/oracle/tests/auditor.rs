@@ -75,7 +75,7 @@ fn the_library_has_no_limit_and_the_c_audit_has() {
 #[test]
 fn flipped_everywhere_and_cut_everywhere() {
     let kinds = ["kind_demand", "kind_hydronic", "kind_charge_energy_demand"];
-    let others = ["zero_signs", "hydronic_times", "services", "opening_32_services"];
+    let others = ["zero_signs", "hydronic_times", "services", "opening_floor_32_services"];
     for name in kinds.into_iter().chain(others) {
         let bytes = named(name);
         let lines = fields::lines(&bytes);
@@ -91,7 +91,8 @@ fn flipped_everywhere_and_cut_everywhere() {
 /// A bit of every byte of a sheet with every kind and refusal, in every version.
 #[test]
 fn all_kinds_damaged_everywhere() {
-    for name in ["all_kinds", "all_kinds_version_2", "all_kinds_version_3"] {
+    for version in ["", "_version_2", "_version_3", "_version_4"] {
+        let name = &format!("all_kinds{version}");
         damage::everywhere(&mut Random::new(3), &named(name)).iter().for_each(assert_known);
     }
 }
@@ -150,7 +151,7 @@ fn versions_differ_in_hydronic_times() {
 }
 
 /// Another version in the first byte: accepted in 1 and 2 where no hydronic line has a time in
-/// either; no card of 3 is one of 1 or 2.
+/// either; no card of 3 is one of another version, nor one of 4.
 #[test]
 fn turned_versions() {
     let mut random = Random::new(19);
@@ -166,12 +167,33 @@ fn turned_versions() {
         }
     }
     let met: Vec<_> =
-        counts.iter().filter(|(_, count)| **count >= 20).map(|(met, _)| *met).collect();
+        counts.iter().filter(|(_, count)| **count >= 5).map(|(met, _)| *met).collect();
     let of = |version, refusals: &[u8]| -> Vec<_> {
         refusals.iter().map(|refusal| (Some(version), *refusal)).collect()
     };
-    let due = [vec![(None, 40)], of(1, &[0, 41, 43]), of(2, &[0, 41, 43]), of(3, &[41])].concat();
+    let shared = [1, 2].map(|version| of(version, &[0, 41, 43])).concat();
+    let due = [vec![(None, 40)], shared, of(3, &[41]), of(4, &[41])].concat();
     assert_eq!(met, due, "{counts:?}");
+}
+
+/// A flag turned: accepted where no loss shows it, else 43 on one that does. One more than the version
+/// has, or another than 0 and 1, is 41.
+#[test]
+fn turned_flags() {
+    let mut random = Random::new(29);
+    let mut counts = BTreeMap::new();
+    for index in 0..600 {
+        for sheet in damage::family(&mut random, index) {
+            if sheet.what.contains("flag") {
+                assert_known(&sheet);
+                let met = (sheet.what, audit(&sheet.bytes).refusal());
+                *counts.entry(met).or_insert(0u64) += 1;
+            }
+        }
+    }
+    let due = [("a flag more", 41), ("flag turned", 0), ("flag turned", 43), ("refused flag", 41)];
+    assert_eq!(counts.keys().copied().collect::<Vec<_>>(), due, "{counts:?}");
+    assert!(counts.values().all(|count| *count > 20), "{counts:?}");
 }
 
 /// However few bytes were free.
@@ -228,11 +250,15 @@ fn plain_and_judge_give_the_same_verdicts() {
     }
 }
 
+/// Most with the first seed; one that shows in the last places alone may take more.
 #[test]
 fn a_comparison_finds_every_fault() {
     for (name, fault) in IN_AUDIT.into_iter().chain(IN_BOTH) {
-        let report = compare::audit(&Faulty { fault }, plain::step, 8_000, 5);
-        assert!(report.disagreements > 0, "{name}");
-        assert_eq!(report.surprises, 0, "{name}");
+        let is_found = (5..13).any(|seed| {
+            let report = compare::audit(&Faulty { fault }, plain::step, 8_000, seed);
+            assert_eq!(report.surprises, 0, "{name}");
+            report.disagreements > 0
+        });
+        assert!(is_found, "{name}");
     }
 }

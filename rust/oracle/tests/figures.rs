@@ -483,7 +483,7 @@ fn line_lengths() {
             for step in steps() {
                 for version in VERSIONS {
                     let line = sheet::call_line(version, &call, &step(&start, &call).0);
-                    let later = usize::from(version == 3 && call.kind() == 1);
+                    let later = usize::from(version >= 3 && call.kind() == 1);
                     assert_eq!(line.len(), 2 + 71 + 8 * usize::from(layers) + fields + later);
                 }
             }

@@ -68,10 +68,16 @@ fn the_driver_links_agrees_and_finds_faults() {
         ("entries", "services-early"),
         ("entries", "equal-numbers"),
         ("entries", "unlisted-trial"),
+        ("entries", "flag-2"),
+        ("entries", "floor-never"),
+        ("entries", "floor-rest"),
         ("audit", "last-line"),
         ("audit", "time-always"),
         ("audit", "services-33"),
         ("audit", "type-exchanged"),
+        ("audit", "flag-first"),
+        ("audit", "floor-always"),
+        ("audit", "floor-plain-sum"),
         ("entries", "reads-behind"),
         ("entries", "reads-before"),
         ("audit", "reads-behind"),
@@ -91,6 +97,11 @@ fn the_driver_links_agrees_and_finds_faults() {
         "own-services-early",
         "own-services-33",
         "own-services-stored",
+        "floor-ref",
+        "own-floor-early",
+        "own-floor-taken",
+        "own-floor-2",
+        "own-floor-stored",
         "reads-behind",
         "reads-before",
     ] {
@@ -98,7 +109,8 @@ fn the_driver_links_agrees_and_finds_faults() {
         let ended = run.arg(&cases).env("HEAT_BATTERY_FAULT", fault).output().expect("it runs");
         assert_eq!(ended.status.success(), fault.is_empty(), "{fault}");
         // A record that is to be refused can't be written.
-        let is_ended = fault.starts_with("reads") || fault == "own-services-33";
+        let is_ended =
+            fault.starts_with("reads") || ["own-services-33", "own-floor-2"].contains(&fault);
         assert_eq!(ended.status.signal().is_some(), is_ended, "{fault}");
     }
 }

@@ -3,7 +3,7 @@
 use oracle::compare::{check_advance, Report};
 use oracle::faults::{Faulty, IN_OWN};
 use oracle::generate::{self, points_card};
-use oracle::model::{lists_services, Battery, VERSIONS};
+use oracle::model::{has_floor_flag, lists_services, Battery, Card, VERSIONS};
 use oracle::own::{self, Record, Shown};
 use oracle::random::Random;
 use oracle::raw::{self, Calling};
@@ -111,6 +111,28 @@ fn services_are_read_from_version_3_on() {
     }
 }
 
+/// Another floor than 0 and 1 is 10 from version 4 on; before, anything may stand there, and is neither
+/// read nor written.
+#[test]
+fn the_floor_is_read_from_version_4_on() {
+    let card = Card { start: 76.0, ..points_card() };
+    let good = Record::from(&Battery::fresh(&card));
+    for floor in 0..=255 {
+        for version in VERSIONS {
+            let mut record = Record { floor, ..good };
+            let shown = advance(version, &mut record, &[4]);
+            let (refusal, zone, energy) = match floor {
+                _ if !has_floor_flag(version) => (0, -103.0, 0.25),
+                0 => (0, -103.0, 0.25),
+                1 => (0, 16.0, 0.11777777777777777),
+                _ => (10, 76.0, 0.0),
+            };
+            assert_eq!((shown.refusal, shown.energy), (refusal, energy), "{version} {floor}");
+            assert_eq!((record.zones[0], record.floor), (zone, floor));
+        }
+    }
+}
+
 /// On records and calls as the entries on bytes get them, damaged ones among them.
 fn compared(faulty: &Faulty) -> Report {
     let (mut random, mut report) = (Random::new(23), Report::default());
@@ -141,7 +163,7 @@ fn a_comparison_finds_every_fault() {
 #[test]
 fn a_comparison_finds_faults() {
     let good = Record::from(&Battery::fresh(&points_card()));
-    let faults: [Advance; 7] = [
+    let faults: [Advance; 8] = [
         |version, record, call| Shown { substeps: 1, ..advance(version, record, call) },
         |version, record, call| Shown { energy: -0.0, ..advance(version, record, call) },
         |version, record, call| {
@@ -162,6 +184,10 @@ fn a_comparison_finds_faults() {
         },
         |version, record, call| {
             record.classes[31] = 1;
+            advance(version, record, call)
+        },
+        |version, record, call| {
+            record.floor = 1;
             advance(version, record, call)
         },
     ];

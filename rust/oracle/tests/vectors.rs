@@ -5,7 +5,7 @@ use oracle::model::{Answer, Battery, Call, Card, Demand, Derived, Hydronic, Stat
 use oracle::plain::{self, Charging, Exchanger, Mode, Salt, Substeps};
 use oracle::record::{read_all, Record};
 #[cfg(published)]
-use oracle::{model::VERSIONS, vectors};
+use oracle::vectors;
 use std::collections::{BTreeMap, BTreeSet};
 use std::fs;
 use std::path::{Path, PathBuf};
@@ -79,7 +79,8 @@ impl Words<'_> {
     fn start(&mut self) -> (u8, Battery) {
         let card = self.card();
         let state = State { zones: self.counted(), totals: self.totals() };
-        (self.word() as u8, Battery { card, state })
+        let (version, floor) = (self.word() as u8, self.word() as u8);
+        (version, Battery { card: Card { floor, ..card }, state })
     }
 
     fn call(&mut self) -> Call {
@@ -136,7 +137,7 @@ fn substep(w: &mut Words, out: Record) -> Option<Record> {
     let exchanger = Exchanger { velocity: 0.0, diameter: 0.0, a, b, flow };
     let mode = match mode {
         0 => Mode::ChargingAlone { power, target },
-        1 => Mode::Losses { rated: -power },
+        1 => Mode::Losses { rated: -power, lowest: None },
         _ => Mode::Normal { exchanger, reynolds, inlet, power },
     };
     // The published file takes a logarithm for each zone with water.
@@ -203,6 +204,13 @@ fn by_plain(record: &Record) -> Option<Record> {
                 refusal => out.word(refusal.into()).floats(&[0.0; 6]),
             }
         }
+        32 => {
+            let salt = w.salt();
+            let [zone, lowest, energy] = w.floats();
+            let after =
+                plain::calculate_new_zone_temperature_with_lowest(&salt, zone, lowest, energy);
+            out.floats(&[after.temperature, after.taken, after.rest])
+        }
         40 => return substep(w, out),
         41 => {
             let (card, zones, flow_maximum) = (w.card(), w.counted(), w.optional());
@@ -244,7 +252,7 @@ fn stored_functions_agree_with_plain() {
         !["altered", "cut", "energy", "logarithms", "long", "unknown"].contains(&name)
     };
     let compared = compared(files(&stored()).filter(sound));
-    for function in (1..=8).chain(20..=29).chain([31, 40, 41]) {
+    for function in (1..=8).chain(20..=29).chain([31, 32, 40, 41]) {
         assert!(compared[&function] >= 350, "function {function}: {}", compared[&function]);
     }
 }
@@ -255,7 +263,7 @@ fn functions_agree_with_plain() {
     let folder = folder("functions");
     vectors::write(&folder, COUNT, 11, None).expect("the folder is writable");
     let compared = compared(files(&folder));
-    for function in (1..=8).chain(20..=29).chain([31, 41]) {
+    for function in (1..=8).chain(20..=29).chain([31, 32, 41]) {
         assert_eq!(compared[&function], COUNT, "function {function}");
     }
     assert!(compared[&40] > COUNT / 2);
@@ -290,6 +298,51 @@ fn way(record: &Record) -> &'static str {
     }
 }
 
+/// Which way the update with a lowest temperature goes.
+#[cfg(published)]
+fn lowered(record: &Record) -> &'static str {
+    let mut w = Words(&record.words);
+    let salt = w.salt();
+    let [zone, lowest, energy, after, taken, rest] = w.floats();
+    let ends = plain::calculate_new_zone_temperature(&salt, zone, energy);
+    let held = plain::calculate_layer_energy_stored(&salt, zone, lowest);
+    if zone <= lowest {
+        assert_eq!((after, taken, rest), (zone, 0.0, energy));
+        match zone == lowest {
+            true => "at the lowest",
+            false => "under the lowest",
+        }
+    } else if ends >= lowest {
+        assert_eq!((after, taken, rest), (ends, energy, 0.0));
+        match (energy < 0.0, energy > held) {
+            (true, _) => "warmer",
+            (_, true) => "more than held",
+            _ => "above the lowest",
+        }
+    } else {
+        assert_eq!((after, taken, rest), (lowest, energy.min(held), energy - taken));
+        match energy < held {
+            true => "stopped, less than held",
+            false => "stopped",
+        }
+    }
+}
+
+#[cfg(published)]
+#[test]
+fn the_update_with_a_lowest_temperature_goes_every_way() {
+    let folder = folder("lowest");
+    vectors::write(&folder, COUNT, 16, Some(&["lowest"])).expect("the folder is writable");
+    let bytes = fs::read(folder.join("lowest.vec")).expect("the file is there");
+    let mut ways = BTreeMap::new();
+    for record in read_all(&bytes).expect("a vector file") {
+        assert!(record.words.iter().all(|word| !f64::from_bits(*word).is_nan()));
+        *ways.entry(lowered(&record)).or_insert(0u64) += 1;
+    }
+    assert_eq!(ways.len(), 7, "{ways:?}");
+    assert!(ways.values().all(|count| *count > COUNT / 200), "{ways:?}");
+}
+
 #[cfg(published)]
 #[test]
 fn the_energy_to_a_level_goes_every_way() {
@@ -306,8 +359,8 @@ fn the_energy_to_a_level_goes_every_way() {
 }
 
 /// A list's answers by the plain implementation, from its own state: how many, by refusal; and the
-/// versions of lists.
-fn listed(folder: &Path) -> (BTreeMap<u8, u64>, BTreeSet<u8>) {
+/// versions and floors of lists.
+fn listed(folder: &Path) -> (BTreeMap<u8, u64>, BTreeSet<(u8, u8)>) {
     let bytes = fs::read(folder.join("lists.vec")).expect("the file is there");
     let mut list: Option<(u8, Battery)> = None;
     let mut refusals = BTreeMap::new();
@@ -324,7 +377,7 @@ fn listed(folder: &Path) -> (BTreeMap<u8, u64>, BTreeSet<u8>) {
         let (answer, after) = plain::step(version, &before, &call);
         assert_eq!(words.0, Record::new(51).answer(&answer).words, "{before:?} {call:?}");
         *refusals.entry(answer.refusal).or_insert(0u64) += 1;
-        versions.insert(version);
+        versions.insert((version, before.card.floor));
         if matches!(call, Call::Hydronic(_)) {
             times.insert((version, answer.time > 0.0));
         }
@@ -332,18 +385,21 @@ fn listed(folder: &Path) -> (BTreeMap<u8, u64>, BTreeSet<u8>) {
     }
     assert_eq!(refusals.keys().copied().collect::<Vec<_>>(), [0, 20, 21, 22, 23, 24, 25]);
     // None in version 1, some in the others.
-    for version in &versions {
+    for (version, _) in &versions {
         assert!(times.contains(&(*version, false)));
         assert_eq!(times.contains(&(*version, true)), *version > 1);
     }
     (refusals, versions)
 }
 
+/// The versions with the floor flags that their lists have.
+const FLOORS: [(u8, u8); 5] = [(1, 0), (2, 0), (3, 0), (4, 0), (4, 1)];
+
 #[test]
 fn stored_lists_agree_with_plain() {
     let (refusals, versions) = listed(&stored());
     assert_eq!(refusals.values().sum::<u64>(), 2000);
-    assert!(versions.is_superset(&[1, 2].into()));
+    assert_eq!(versions, FLOORS.into());
 }
 
 #[cfg(published)]
@@ -353,7 +409,7 @@ fn lists_agree_with_plain() {
     vectors::write(&folder, COUNT, 12, Some(&["lists"])).expect("the folder is writable");
     let (refusals, versions) = listed(&folder);
     assert_eq!(refusals.values().sum::<u64>(), COUNT);
-    assert_eq!(versions, VERSIONS.into());
+    assert_eq!(versions, FLOORS.into());
 }
 
 #[cfg(published)]

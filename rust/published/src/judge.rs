@@ -353,8 +353,10 @@ fn answer(version: u8, battery: &Battery, call: &Call) -> anyhow::Result<Answer>
     Ok(answer)
 }
 
-/// One call on a battery in a known version: the answer, and the battery that it leaves.
+/// One call on a battery in a known version: the answer, and the battery that it leaves. Not for a
+/// standing loss with the floor, which the published file doesn't have.
 pub fn step(version: u8, battery: &Battery, call: &Call) -> (Answer, Battery) {
+    assert!(!battery.has_floor(version, call), "the published file has no floor");
     let before = &battery.state;
     let answer = if card_refusal(&battery.card) != 0
         || ranges::battery_refusal(battery)

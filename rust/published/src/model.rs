@@ -1,10 +1,10 @@
-//! Card, battery, call and answer of document 01, and the sheet's versions and services of document
-//! 02.
+//! Card, battery, call and answer of document 01, and the sheet's versions, services and floor flag
+//! of document 02.
 
 use std::fmt;
 
 /// The known versions, oldest first.
-pub const VERSIONS: [u8; 3] = [1, 2, 3];
+pub const VERSIONS: [u8; 4] = [1, 2, 3, 4];
 
 pub fn is_known(version: u8) -> bool {
     VERSIONS.contains(&version)
@@ -18,6 +18,11 @@ pub fn shows_hydronic_time(version: u8) -> bool {
 /// Whether a card lists services, and a service type has two bytes.
 pub fn lists_services(version: u8) -> bool {
     version >= 3
+}
+
+/// Whether a card ends with the flag that sets a floor for standing losses.
+pub fn has_floor_flag(version: u8) -> bool {
+    version >= 4
 }
 
 /// A listed service: its number, and 1 regular, 2 space or 3 direct.
@@ -89,6 +94,8 @@ pub struct Card {
     pub power: f64,
     /// None before version 3.
     pub services: Services,
+    /// 0 or 1; 0 before version 4.
+    pub floor: u8,
 }
 
 impl Card {
@@ -189,6 +196,11 @@ pub struct Battery {
 }
 
 impl Battery {
+    /// Whether a call has the floor: a standing loss, with the flag 1.
+    pub fn has_floor(&self, version: u8, call: &Call) -> bool {
+        has_floor_flag(version) && self.card.floor == 1 && matches!(call, Call::StandingLoss)
+    }
+
     pub fn fresh(card: &Card) -> Self {
         let zones = vec![card.start; usize::from(card.layers)];
         Battery { card: *card, state: State { zones, totals: Totals::default() } }

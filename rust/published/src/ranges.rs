@@ -1,4 +1,5 @@
-//! Document 01's ranges of card and call fields, both ends included, and refusal 10.
+//! Document 01's ranges of card and call fields, both ends included, document 02's of the floor flag,
+//! and refusal 10.
 
 use crate::model::{lists_services, Battery, Call, Card, Demand, Hydronic};
 
@@ -48,6 +49,7 @@ pub fn card_in_range(card: &Card) -> bool {
         && (1..=1000).contains(&card.units)
         && card.simultaneous <= 1
         && card.budget >= 1
+        && card.floor <= 1
         && card.numbers().iter().zip(CARD).all(|(x, range)| within(*x, range))
 }
 

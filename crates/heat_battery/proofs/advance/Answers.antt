@@ -15,8 +15,8 @@ use Rattle.card.proofs.Accepted.{accepted_layers}
 use Rattle.battery.specs.declared.Battery.{Battery}
 use Rattle.battery.specs.declared.Answer.{Answer}
 use Rattle.engine.specs.Steps.{advance_of}
-use Rattle.card.specs.Services.{Service}
-use Rattle.sheet_records.specs.Cards.{card_at, services_at}
+use Rattle.card.specs.Extension.{Extension}
+use Rattle.sheet_records.specs.Cards.{card_at, extension_at}
 use Rattle.sheet_records.proofs.CardLaws.{fields_accepted}
 use Rattle.sheet_records.specs.Records.{record_length, record_of, state_at}
 use Rattle.heat_battery.specs.Entries.{entry_read}
@@ -33,14 +33,14 @@ module _ (version : ℕ) where
   answer_is rec b a call e f = f ∙ ap (λ (x : Battery). advance_of version x call) e
 
   -- a call that is read fits a line
-  read_short : (services : List Service) (call : List ℕ) (c : Call) → call_of version services call ≡ Some c → length call < 65536
-  read_short services call c h = omega (arith, call_length_lem version services call c h, call_short version (get_or call 0 0))
+  read_short : (extension : Extension) (call : List ℕ) (c : Call) → call_of version extension call ≡ Some c → length call < 65536
+  read_short extension call c h = omega (arith, call_length_lem version extension call c h, call_short version (get_or call 0 0))
 
 pub returns-in_default : goal.returns-in_default
 unfolding entry_read
 returns-in_default c =
     let a = c.args in
-    rw (none_by_kind a.version (services_at a.version a.«record».now) a.call.now c.in_default.ensures) (record { code_is = refl; record_is = refl; sheet_is = refl })
+    rw (none_by_kind a.version (extension_at a.version a.«record».now) a.call.now c.in_default.ensures) (record { code_is = refl; record_is = refl; sheet_is = refl })
 
 pub invariant_of-listed : goal.invariant_of-listed
 invariant_of-listed c = record { fits = (record_laid_lem c.args.version c.args.«record».now c.requires.0).card_there }
@@ -63,7 +63,7 @@ enter-requires c =
     let l = record_laid_lem a.version rec c.requires.0 in
     let e = answer_card a.version rec a.battery c.advance-a.result _ c.requires.1 c.advance-a.ensures in (
       rw e (accepted_layers a.version (card_at a.version rec) (fields_accepted a.version rec l.card_accepted)).1,
-      read_short a.version (services_at a.version rec) a.call.now _ (sym (read_by_kind a.version (services_at a.version a.«record».now) a.call.now _ _ _ c.in-Some.ensures c.demand_class-class.ensures c.call_by.ensures) ∙ c.in-Some-call_by.is),
+      read_short a.version (extension_at a.version rec) a.call.now _ (sym (read_by_kind a.version (extension_at a.version a.«record».now) a.call.now _ _ _ _ c.in-Some.ensures c.demand_class-class.ensures c.has_floor-floor.ensures c.call_by.ensures) ∙ c.in-Some-call_by.is),
       rw e l.long,
     )
 
@@ -71,11 +71,11 @@ pub returns-in_default-call_by : goal.returns-in_default-call_by
 unfolding entry_read
 returns-in_default-call_by c =
     let a = c.args in
-    rw (← (read_by_kind a.version (services_at a.version a.«record».now) a.call.now _ _ _ c.in-Some.ensures c.demand_class-class.ensures c.call_by.ensures), c.in_default-call_by.is) (record { code_is = refl; record_is = refl; sheet_is = refl })
+    rw (← (read_by_kind a.version (extension_at a.version a.«record».now) a.call.now _ _ _ _ c.in-Some.ensures c.demand_class-class.ensures c.has_floor-floor.ensures c.call_by.ensures), c.in_default-call_by.is) (record { code_is = refl; record_is = refl; sheet_is = refl })
 
 pub returns : goal.returns
 unfolding entry_read
 returns c =
     let a = c.args in
-    rw (← (read_by_kind a.version (services_at a.version a.«record».now) a.call.now _ _ _ c.in-Some.ensures c.demand_class-class.ensures c.call_by.ensures), c.in-Some-call_by.is, ← (answer_is a.version a.«record».now a.battery c.advance-a.result _ c.requires.1 c.advance-a.ensures))
+    rw (← (read_by_kind a.version (extension_at a.version a.«record».now) a.call.now _ _ _ _ c.in-Some.ensures c.demand_class-class.ensures c.has_floor-floor.ensures c.call_by.ensures), c.in-Some-call_by.is, ← (answer_is a.version a.«record».now a.battery c.advance-a.result _ c.requires.1 c.advance-a.ensures))
     c.enter.ensures

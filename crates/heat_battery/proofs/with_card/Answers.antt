@@ -3,7 +3,7 @@ use mathlib.Core.Bool.{false}
 use native.Mathlib.Omega.{arith}
 use Rattle.card.proofs.Accepted.{accepted_layers}
 use Rattle.battery.specs.Battery.{battery_accepted}
-use Rattle.sheet_records.specs.Cards.{card_at, services_at}
+use Rattle.sheet_records.specs.Cards.{card_at, extension_at}
 use Rattle.sheet_records.proofs.CardLaws.{fields_accepted}
 use Rattle.sheet_records.specs.Records.{record_of, state_at}
 use Rattle.sheet_calls.specs.Calls.{call_of}
@@ -33,5 +33,5 @@ returns-then-not-record_accepted c =
     let a = c.args in
     let n : battery_accepted a.version (record_of a.version a.«record».now) ≡ false =
     rw (← c.read_record-b.ensures) (sym c.record_accepted.ensures ∙ c.if-not-record_accepted.true) in
-    rw (read_not_accepted a.version a.«record».now a.call.now a.sheet.now n (call_of a.version (services_at a.version a.«record».now) a.call.now))
+    rw (read_not_accepted a.version a.«record».now a.call.now a.sheet.now n (call_of a.version (extension_at a.version a.«record».now) a.call.now))
     (record { code_is = refl; record_is = refl; sheet_is = refl })

@@ -20,5 +20,5 @@ pub returns : goal.returns
 unfolding substep_from
 returns g c =
     let shared = c.zone_transfer-transfer.ensures in
-    let e = passed c.args.card c.args.pcm _ c.args.input c.args.zones _ _ _ _ (transfer_value _ _ _ _ shared) c.in-Some.is c.common_of-common.ensures (transfer_count _ _ _ _ shared) in
+    let e = passed c.args.card c.args.pcm _ c.args.input c.args.zones _ _ _ _ (transfer_value _ _ _ _ shared) c.in-Some.is c.common_of-common.ensures.value (transfer_count _ _ _ _ shared) in
     c.with_arrays.ensures ∙ (whole _ _ _ _ c.zones_in_place-o.ensures.0 (c.zones_in_place-o.ensures.1 refl) ∙ sym e)

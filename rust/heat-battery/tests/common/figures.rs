@@ -29,6 +29,7 @@ pub const POINTS: Card = Card {
     start: 76.0,
     power: 0.0,
     services: Vec::new(),
+    floor: false,
 };
 
 /// What a hydronic charge is given besides the figures that all here share.

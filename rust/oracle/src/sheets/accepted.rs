@@ -6,6 +6,7 @@ use super::{
 use crate::auditor::MOST_BYTES;
 use crate::fields;
 use crate::model::{Call, Card, Demand, Hydronic, Services};
+use crate::plain::FLOOR;
 use crate::sheet;
 
 const KINDS: [&str; 7] = [
@@ -24,12 +25,21 @@ pub fn all() -> Vec<Named> {
         Named::accepted("opening_version_2", written_in(2, &card(1), &[]), 0),
         Named::accepted("opening_version_3", written_in(3, &card(1), &[]), 0),
         Named::accepted("opening_32_services", written_in(3, &listing(many_services(32)), &[]), 0),
-        all_kinds(1, Services::default(), "all_kinds"),
-        all_kinds(2, Services::default(), "all_kinds_version_2"),
-        all_kinds(3, services(&[(4, 1), (256, 3), (65535, 2)]), "all_kinds_version_3"),
+        Named::accepted("opening_version_4", written_in(4, &card(1), &[]), 0),
+        Named::accepted("opening_floor_32_services", floor_32_services(), 0),
+        all_kinds(1, Services::default(), 0, "all_kinds"),
+        all_kinds(2, Services::default(), 0, "all_kinds_version_2"),
+        all_kinds(3, services(&[(4, 1), (256, 3), (65535, 2)]), 0, "all_kinds_version_3"),
+        all_kinds(4, services(&[(4, 1), (256, 3), (65535, 2)]), 1, "all_kinds_version_4"),
         hydronic_times(),
         listed_services(),
+        losses(3, 0, "losses_in_version_3"),
+        losses(4, 0, "losses_without_floor"),
+        losses(4, 1, "losses_with_floor"),
+        floor_by_layers(),
+        floor_in_other_kinds(),
     ];
+    sheets.extend(floors());
     for (name, call) in KINDS.iter().zip(one_of_each()) {
         sheets.push(Named::accepted(&format!("kind_{name}"), written(&card(1), &[call]), 1));
     }
@@ -43,6 +53,67 @@ pub fn all() -> Vec<Named> {
 /// The card of one layer with a list.
 fn listing(services: Services) -> Card {
     Card { services, ..card(1) }
+}
+
+fn floor_32_services() -> Vec<u8> {
+    written_in(4, &Card { floor: 1, ..listing(many_services(32)) }, &[])
+}
+
+/// The points card with a flag, a start and losses.
+fn losing(floor: u8, start: f64, losses: f64) -> Card {
+    Card { floor, start, losses, ..card(1) }
+}
+
+/// Point 76 °C, which loses three times. Without the floor it ends at -103 °C.
+fn losses(version: u8, floor: u8, name: &str) -> Named {
+    let bytes = written_in(version, &losing(floor, 76.0, 0.25), &[Call::StandingLoss; 3]);
+    let after = [(-103.0, 0.25), (FLOOR, 0.11777777777777777)][usize::from(floor)];
+    let lines = fields::lines(&bytes);
+    for (line, energy) in lines.iter().zip([after.1, 0.0, 0.0]) {
+        let shown = [line.state(), line.energy()].map(|at| fields::number_at(&bytes, at));
+        assert_eq!(shown, [after.0, energy]);
+    }
+    Named::accepted(name, bytes, 3)
+}
+
+/// Losses that end at the floor in their own ways.
+fn floors() -> [Named; 6] {
+    let below = Card { below: 1.3, ..losing(1, 56.3, 0.12332506203473946) };
+    let cards = [
+        ("floor_met", losing(1, 16.5, 0.06666666666666668), FLOOR, 0.0005555555555555557),
+        ("floor_nearly", losing(1, 16.000000001, 1.0), 16.000000001, 1.666666804567285e-11),
+        ("floor_holding_more", below, FLOOR, 0.08283333333333333),
+        ("floor_without_rest", losing(1, 18.7, 0.86), FLOOR, 0.002999999999999999),
+        ("floor_at_start", losing(1, FLOOR, 1000.0), FLOOR, 0.0),
+        ("floor_above_start", losing(1, -50.0, 1000.0), -50.0, 0.0),
+    ];
+    cards.map(|(name, card, zone, energy)| {
+        let bytes = written_in(4, &card, &[Call::StandingLoss]);
+        let line = fields::lines(&bytes)[0];
+        let shown = [line.state(), line.energy()].map(|at| fields::number_at(&bytes, at));
+        assert_eq!(shown, [zone, energy], "{name}");
+        Named::accepted(name, bytes, 1)
+    })
+}
+
+/// Eight layers, whose sum is Sum2's.
+fn floor_by_layers() -> Named {
+    let card = Card { layers: 8, ..losing(1, 76.3, 1.0) };
+    let bytes = written_in(4, &card, &[Call::StandingLoss]);
+    let energy = fields::number_at(&bytes, fields::lines(&bytes)[0].energy());
+    assert_eq!(energy, 0.11794444444444445);
+    Named::accepted("floor_by_layers", bytes, 1)
+}
+
+/// With the flag 1 a demand takes zones under the floor, and a loss leaves them there.
+fn floor_in_other_kinds() -> Named {
+    let card = Card { layers: 2, ..losing(1, 20.0, 0.25) };
+    let mut calls = vec![Call::Demand(demand(0.01)), Call::StandingLoss];
+    calls.extend(one_of_each());
+    let bytes = written_in(4, &card, &calls);
+    let first = |line: usize| fields::number_at(&bytes, fields::lines(&bytes)[line].state());
+    assert!(first(0) < FLOOR && first(0) == first(1), "{} {}", first(0), first(1));
+    Named::accepted("floor_in_other_kinds", bytes, calls.len() as u64)
 }
 
 /// Demands of listed numbers and of others: which hours they count to, what 21 refuses and what a
@@ -90,8 +161,8 @@ fn unbounded(hex_b: f64) -> Call {
 }
 
 /// All seven kinds, and each of 20 to 25.
-fn all_kinds(version: u8, services: Services, name: &str) -> Named {
-    let salt = Card { below: 400.0, during: 3200.0, above: 200.0, services, ..card(25) };
+fn all_kinds(version: u8, services: Services, floor: u8, name: &str) -> Named {
+    let salt = Card { below: 400.0, during: 3200.0, above: 200.0, services, floor, ..card(25) };
     let card = Card { budget: 60, max: 59.0, power: 3.0, simultaneous: 1, ..salt };
     let list = [
         (Call::StateOfCharge, 25),

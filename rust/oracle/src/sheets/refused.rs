@@ -12,6 +12,7 @@ pub fn all() -> Vec<Named> {
     sheets.extend(refused_43());
     sheets.extend(hydronic_times());
     sheets.extend(refused_services());
+    sheets.extend(refused_floors());
     sheets.extend(order());
     sheets.push(Named::refused("zeros_44", vec![0; 65_537], 44, 0));
     sheets
@@ -47,7 +48,7 @@ fn refused_40() -> Vec<Named> {
     vec![
         Named::refused("empty", Vec::new(), 40, 0),
         Named::refused("version_0", turned(1, 0), 40, 0),
-        Named::refused("version_4", turned(3, 4), 40, 0),
+        Named::refused("version_5", turned(4, 5), 40, 0),
         Named::refused("version_255", turned(2, 255), 40, 0),
     ]
 }
@@ -256,6 +257,64 @@ fn refused_services() -> Vec<Named> {
         Named::refused("service_of_another_class", retyped(300, 301), 43, 1),
         Named::refused("service_refused_though_listed", retyped(302, 300), 43, 1),
     ]
+}
+
+/// A sheet of version 4 with a loss from 76 °C whose card is then changed.
+fn reflagged(floor: u8, change: impl FnOnce(&mut Card)) -> Vec<u8> {
+    let mut card = Card { start: 76.0, floor, ..card(1) };
+    let mut bytes = written_in(4, &card, &[Call::StandingLoss]);
+    change(&mut card);
+    bytes.splice(..fields::opening_end(&bytes), sheet::opening(4, &card));
+    bytes
+}
+
+/// The flag and the length of version 4's card, and losses that answer otherwise.
+fn refused_floors() -> Vec<Named> {
+    let flag = |floor| reflagged(1, |card| card.floor = floor);
+    let opening = |card: Card| sheet::opening(4, &card);
+    let listing = |count, floor| Card { services: many_services(count), floor, ..card(2) };
+    let cut = |bytes: Vec<u8>| {
+        let (last, length) = (bytes.len() - 1, (bytes.len() - 4) as u16);
+        [&bytes[..1], &length.to_be_bytes(), &bytes[3..last]].concat()
+    };
+    // A flag of 1 in the place of the count, and the count behind it.
+    let mut first = opening(Card { floor: 1, ..card(2) });
+    first[3 + sheet::CARD_BYTES..].rotate_left(1);
+    vec![
+        Named::refused("version_4", turned(3, 4), 41, 0),
+        Named::refused("version_4_turned_to_3", turned(4, 3), 41, 0),
+        Named::refused("version_4_turned_to_2", turned(4, 2), 41, 0),
+        Named::refused("version_2_turned_to_4", turned(2, 4), 41, 0),
+        Named::refused("flag_2", flag(2), 41, 0),
+        Named::refused("flag_16", flag(16), 41, 0),
+        Named::refused("flag_255", flag(255), 41, 0),
+        Named::refused("flag_2_behind_33_services", opening(listing(33, 2)), 41, 0),
+        Named::refused("flag_1_behind_33_services", opening(listing(33, 1)), 41, 0),
+        Named::refused("flag_0_behind_255_services", opening(listing(255, 0)), 41, 0),
+        Named::refused("flag_missing_behind_32_services", cut(opening(listing(32, 1))), 41, 0),
+        Named::refused("flag_before_services", first, 41, 0),
+        Named::refused("flag_0_for_1", flag(0), 43, 1),
+        Named::refused("flag_1_for_0", reflagged(0, |card| card.floor = 1), 43, 1),
+        Named::refused("floor_whole_energy", with_energy(0.25), 43, 1),
+        Named::refused("floor_energy", with_energy(0.11777777777777777f64.next_up()), 43, 1),
+        Named::refused("floor_zone", with_zone(16f64.next_up()), 43, 1),
+    ]
+}
+
+/// A loss from 76 °C to the floor that shows another energy.
+fn with_energy(energy: f64) -> Vec<u8> {
+    let mut bytes = reflagged(1, |_| {});
+    let line = fields::lines(&bytes)[0];
+    fields::put_number(&mut bytes, line.energy(), energy);
+    bytes
+}
+
+/// The same with another zone.
+fn with_zone(zone: f64) -> Vec<u8> {
+    let mut bytes = reflagged(1, |_| {});
+    let line = fields::lines(&bytes)[0];
+    fields::put_number(&mut bytes, line.state(), zone);
+    bytes
 }
 
 fn zone_nan() -> Vec<u8> {

@@ -1,8 +1,10 @@
-//! Records of the published file's functions, answered by the judge.
+//! Records of the published file's functions, answered by the judge; and of the update with a lowest
+//! temperature, answered by the plain implementation.
 
 use crate::generate;
 use crate::judge::{self, Pass, Salt, Zone, ZoneFlow};
 use crate::model::Card;
+use crate::plain::{self, FLOOR};
 use crate::random::Random;
 use crate::ranges;
 use crate::record::Record;
@@ -168,6 +170,55 @@ pub fn new_temperature(random: &mut Random) -> Record {
     };
     let after = zone_of(&card, &salt).calculate_new_zone_temperature(zone, energy);
     Record::new(24).salt(&salt).floats(&[zone, energy]).float(after)
+}
+
+/// The floor, or another temperature.
+fn lowest_temperature(random: &mut Random, card: &Card) -> f64 {
+    match random.below(8) {
+        0 => generate::zone(random, card),
+        1 => random.within(ranges::TEMPERATURE),
+        _ => FLOOR,
+    }
+}
+
+/// An energy, most often about what the zone holds over the lowest temperature.
+fn energy_to_lowest(random: &mut Random, salt: &plain::Salt, zone: f64, lowest: f64) -> f64 {
+    let held = plain::calculate_layer_energy_stored(salt, zone, lowest);
+    let energy = match random.below(16) {
+        0 => random.pick(&[0.0, 1e-6, f64::MAX, f64::MIN_POSITIVE]),
+        1 => random.magnitude(1e-12, 1e-3),
+        2 => -random.magnitude(1e-9, 1e6),
+        3 => random.odd_number(),
+        4 | 5 => transfer(random).abs(),
+        6..=8 => held * random.between(0.0, 3.0),
+        _ => random.near(held),
+    };
+    random.near(energy)
+}
+
+/// On cards of version 4, which have losses that come to the floor.
+pub fn lowest(random: &mut Random) -> Record {
+    let card = generate::card_of(random, 4);
+    let salt = plain::salt(&card);
+    let lowest = lowest_temperature(random, &card);
+    let zone = match random.below(8) {
+        0 | 1 => random.near(lowest),
+        2 => lowest + random.magnitude(1e-12, 1.0),
+        3 => generate::any_zone(random, &card),
+        4 | 5 => card.start,
+        _ => generate::zone(random, &card),
+    };
+    let energy = match random.one_in(4) {
+        true => plain::zone_loss(&card, zone, card.timestep * 3600.0, card.losses),
+        false => energy_to_lowest(random, &salt, zone, lowest),
+    };
+    let energy = energy.clamp(f64::MIN, f64::MAX);
+    let after = plain::calculate_new_zone_temperature_with_lowest(&salt, zone, lowest, energy);
+    Record::new(32).salt(&salt_of(&card)).floats(&[zone, lowest, energy]).floats(&[
+        after.temperature,
+        after.taken,
+        after.rest,
+    ])
 }
 
 // ---- Module 3

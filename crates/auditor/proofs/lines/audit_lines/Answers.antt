@@ -9,7 +9,7 @@ use Rattle.card.proofs.Accepted.{accepted_layers}
 use Rattle.battery.specs.declared.Answer.{Answer}
 use Rattle.auditor.specs.Audit.{audit_lines}
 use Rattle.sheet_lines.specs.Answers.{same_number, agrees, answer_at}
-use Rattle.sheet_records.specs.Cards.{services_at}
+use Rattle.sheet_records.specs.Cards.{extension_at}
 use Rattle.sheet_records.specs.Records.{state_at}
 use Rattle.sheet_lines.specs.Front.{head_numbers}
 use Rattle.sheet_lines.proofs.Fronts.{headed}
@@ -35,15 +35,15 @@ pub returns-in_default : goal.returns-in_default
 returns-in_default c =
     let a = c.args in
     let l = c.loop-rest in
-    let read = no_head a.line0.version (services_at a.line0.version a.line0.bytes.now) a.card l.rest.now (ap head_numbers (sym c.in_default.is) ∙ c.line_head.ensures) in
-    sym (turn_bad same_number a.line0.version (services_at a.line0.version a.line0.bytes.now) a.card l.b l.k l.rest.now _ (some_left _ _ c.is_empty.ensures c.loop-rest-test.true) l.invariant.0.1 read)
+    let read = no_head a.line0.version (extension_at a.line0.version a.line0.bytes.now) a.card l.rest.now (ap head_numbers (sym c.in_default.is) ∙ c.line_head.ensures) in
+    sym (turn_bad same_number a.line0.version (extension_at a.line0.version a.line0.bytes.now) a.card l.b l.k l.rest.now _ (some_left _ _ c.is_empty.ensures c.loop-rest-test.true) l.invariant.0.1 read)
 
 pub returns-in_default-line_call : goal.returns-in_default-line_call
 returns-in_default-line_call c =
     let a = c.args in
     let l = c.loop-rest in
     let read = sym c.line_call.ensures ∙ c.in_default-line_call.is in
-    sym (turn_bad same_number a.line0.version (services_at a.line0.version a.line0.bytes.now) a.card l.b l.k l.rest.now _ (some_left _ _ c.is_empty.ensures c.loop-rest-test.true) l.invariant.0.1 read)
+    sym (turn_bad same_number a.line0.version (extension_at a.line0.version a.line0.bytes.now) a.card l.b l.k l.rest.now _ (some_left _ _ c.is_empty.ensures c.loop-rest-test.true) l.invariant.0.1 read)
 
 pub advance-own-requires : goal.advance-own-requires
 advance-own-requires c = c.loop-rest.invariant.1.good.accepted
@@ -54,7 +54,7 @@ returns-then-own-number c =
     let l = c.loop-rest in
     let own = c.advance-own in
     let read = sym c.line_call.ensures ∙ c.in-Some-line_call.is in
-    sym (turn_out same_number a.line0.version (services_at a.line0.version a.line0.bytes.now) a.card l.b l.k l.rest.now _ (some_left _ _ c.is_empty.ensures c.loop-rest-test.true) l.invariant.0.1 _ read own.result own.ensures (c.if-own-number.true ∙ c.number.ensures))
+    sym (turn_out same_number a.line0.version (extension_at a.line0.version a.line0.bytes.now) a.card l.b l.k l.rest.now _ (some_left _ _ c.is_empty.ensures c.loop-rest-test.true) l.invariant.0.1 _ read own.result own.ensures (c.if-own-number.true ∙ c.number.ensures))
 
 pub line_answer-seen-requires : goal.line_answer-seen-requires
 line_answer-seen-requires c =
@@ -103,9 +103,9 @@ loop-rest-preserved c =
     let own = c.advance-own in
     let read = sym c.line_call.ensures ∙ c.in-Some-line_call.is in
     let head = headed a.line0.version a.card l.rest.now _ (ap head_numbers (sym c.in-Some.is) ∙ c.line_head.ensures) in (
-      walked_on same_number a.line0.version (services_at a.line0.version a.line0.bytes.now) a.card a.bytes.now l.rest.now _ l.b _ l.k c.in-Some.head.size
+      walked_on same_number a.line0.version (extension_at a.line0.version a.line0.bytes.now) a.card a.bytes.now l.rest.now _ l.b _ l.k c.in-Some.head.size
           l.invariant.0 (omega (arith, head.inside)) head.inside.1 head.follows
-          (turn_next same_number a.line0.version (services_at a.line0.version a.line0.bytes.now) a.card l.b l.k l.rest.now _ (some_left _ _ c.is_empty.ensures c.loop-rest-test.true) l.invariant.0.1 _ read own.result own.ensures (λ e. c.if-own-number.false (e ∙ sym c.number.ensures))
+          (turn_next same_number a.line0.version (extension_at a.line0.version a.line0.bytes.now) a.card l.b l.k l.rest.now _ (some_left _ _ c.is_empty.ensures c.loop-rest-test.true) l.invariant.0.1 _ read own.result own.ensures (λ e. c.if-own-number.false (e ∙ sym c.number.ensures))
           (ap (λ (x : Answer). agrees same_number x own.result) (sym c.line_answer-seen.ensures) ∙ sym c.answers_agree.ensures ∙ c.if-not-answers_agree.false)),
       rw own.ensures (advanced_own a.line0.version a.card l.b l.invariant.1 _),
     )
@@ -117,11 +117,11 @@ returns-then-not-answers_agree c =
     let own = c.advance-own in
     let read = sym c.line_call.ensures ∙ c.in-Some-line_call.is in
     sym
-    (turn_differs same_number a.line0.version (services_at a.line0.version a.line0.bytes.now) a.card l.b l.k l.rest.now _ (some_left _ _ c.is_empty.ensures c.loop-rest-test.true) l.invariant.0.1 _ read own.result own.ensures (λ e. c.if-own-number.false (e ∙ sym c.number.ensures))
+    (turn_differs same_number a.line0.version (extension_at a.line0.version a.line0.bytes.now) a.card l.b l.k l.rest.now _ (some_left _ _ c.is_empty.ensures c.loop-rest-test.true) l.invariant.0.1 _ read own.result own.ensures (λ e. c.if-own-number.false (e ∙ sym c.number.ensures))
     (ap (λ (x : Answer). agrees same_number x own.result) (sym c.line_answer-seen.ensures) ∙ sym c.answers_agree.ensures ∙ c.if-not-answers_agree.true))
 
 pub returns : goal.returns
 returns c =
     let a = c.args in
     let l = c.loop-rest in
-    sym (at_end same_number a.line0.version (services_at a.line0.version a.line0.bytes.now) a.card l.b l.k l.rest.now _ (none_left _ _ c.is_empty.ensures c.loop-rest-test.false) l.invariant.0.1)
+    sym (at_end same_number a.line0.version (extension_at a.line0.version a.line0.bytes.now) a.card l.b l.k l.rest.now _ (none_left _ _ c.is_empty.ensures c.loop-rest-test.false) l.invariant.0.1)

@@ -10,5 +10,5 @@ unfolding heat_loss
 returns g c =
     let a = c.args in
     let w = c.battery_heat_loss-s.ensures in
-    let f = loss_leaves_finite (whole a.lent.ledger a.zones.now) in
+    let f = loss_leaves_finite (whole a.lent.ledger a.zones.now) a.floor in
     c.unless_refused.ensures a.lent.ledger _ _ (left_finite _ _ _ _ w f) ∙ cooled_with _ _ _ _ _ w _ c.run_reply-a.ensures

@@ -3,7 +3,9 @@ use Prim.Native.Nat.{ℕ}
 use native.Mathlib.Omega.{arith}
 use Rattle.std.proofs.Math.Nat.{le_refl}
 use Rattle.logic.proofs.Branch.{via_true, via_false}
-use Rattle.sheet_records.specs.Cards.{services_at}
+use mathlib.Core.Bool.{Bool}
+use Rattle.card.specs.Extension.{has_floor}
+use Rattle.sheet_records.specs.Cards.{extension_at}
 use Rattle.sheet_calls.specs.Kinds.{kind_number}
 use Rattle.sheet_calls.specs.Calls.{demand_class, call_by}
 use Rattle.sheet_lines.specs.Answers.{marks_ok}
@@ -70,14 +72,15 @@ unfolding line_call
 returns-then-marks_ok c =
     let a = c.args in
     let h = headed a.line0.version a.card a.bytes.now _ (ap head_numbers (sym c.in-Some.is) ∙ c.requires) in
-    let services = services_at a.line0.version a.line0.bytes.now in
+    let extension = extension_at a.line0.version a.line0.bytes.now in
     let part = call_part a.line0.version a.bytes.now in
-    let class = c.demand_class-class.ensures ∙ ap (demand_class a.line0.version services (kind_number c.in-Some.head.kind)) h.calls in
+    let class = c.demand_class-class.ensures ∙ ap (demand_class a.line0.version extension.services (kind_number c.in-Some.head.kind)) h.calls in
     let marks = ap (marks_ok a.line0.version) (sym h.answers) ∙ sym c.marks_ok.ensures ∙ c.if-marks_ok.true in
-    c.call_by.ensures ∙ ap (call_by a.line0.version (kind_number c.in-Some.head.kind) c.demand_class-class.result) h.calls
-    ∙ ap (λ (k : ℕ). call_by a.line0.version (kind_number c.in-Some.head.kind) k part) class
-    ∙ ap (λ (k : ℕ). call_by a.line0.version k (demand_class a.line0.version services k part) part) h.kind_is
-    ∙ sym (call_known a.line0.version a.card a.bytes.now services h.fits)
+    c.call_by.ensures ∙ ap (call_by a.line0.version (kind_number c.in-Some.head.kind) c.demand_class-class.result c.has_floor-floor.result) h.calls
+    ∙ ap (λ (k : ℕ). call_by a.line0.version (kind_number c.in-Some.head.kind) k c.has_floor-floor.result part) class
+    ∙ ap (λ (t : Bool). call_by a.line0.version (kind_number c.in-Some.head.kind) (demand_class a.line0.version extension.services (kind_number c.in-Some.head.kind) part) t part) c.has_floor-floor.ensures
+    ∙ ap (λ (k : ℕ). call_by a.line0.version k (demand_class a.line0.version extension.services k part) (has_floor extension) part) h.kind_is
+    ∙ sym (call_known a.line0.version a.card a.bytes.now extension h.fits)
     ∙ via_true _ _ h.ok (via_true _ _ marks refl)
 
 pub returns : goal.returns

@@ -18,10 +18,10 @@ common_of-common-requires g c = sym c.requires.1.0
 pub zones_in_place-requires : goal.zones_in_place-requires
 zones_in_place-requires g c =
     let p = c.requires in
-    (omega arith, (p.0, λ h j l. p.1.1 h j l ∙ sym (common_level _ _ _ _ _ _ c.common_of-common.ensures)))
+    (omega arith, (p.0, λ h j l. p.1.1 h j l ∙ sym (common_level _ _ _ _ _ _ c.common_of-common.ensures.value)))
 
 pub returns : goal.returns
 returns g c =
     let shared = c.zone_transfer-transfer.ensures in
     let t = transfer_value _ _ _ _ shared ∙ ap (λ (m : Mode). zone_transfer m c.args.card c.args.input) (sym c.requires.1.0) in
-    rw (passed c.args.card c.args.pcm _ c.args.input c.args.zones.now _ _ _ _ t c.in-Some.is c.common_of-common.ensures (transfer_count _ _ _ _ shared ∙ ap logarithms_of (sym c.requires.1.0))) c.zones_in_place.ensures.0
+    rw (passed c.args.card c.args.pcm _ c.args.input c.args.zones.now _ _ _ _ t c.in-Some.is c.common_of-common.ensures.value (transfer_count _ _ _ _ shared ∙ ap logarithms_of (sym c.requires.1.0))) c.zones_in_place.ensures.0

@@ -1,13 +1,13 @@
 //! `audit`: the verdict, which card it is of, and what lies behind it.
 
 use crate::arguments::Arguments;
-use crate::card::{accepted, count, listed, unlisted};
+use crate::card::{accepted, count, floor_words, listed, unlisted};
 use crate::failure::Failure;
 use crate::files;
 use crate::output::print;
 use heat_battery::{
-    explain, is_too_long, read, Call, Card, Difference, Explanation, Refusal, Verdict, Version,
-    MOST_AUDITED,
+    explain, is_too_long, read, Call, Card, Difference, Explanation, Refusal, Value, Verdict,
+    Version, MOST_AUDITED,
 };
 use std::ffi::OsStr;
 use std::fmt::Write;
@@ -86,7 +86,8 @@ fn other_card(card: &Card, expected: &Card, name: &str) -> Option<String> {
     let (ours, theirs) = (card.fingerprint(), expected.fingerprint());
     let mut words = format!("its card {ours} is not that of {name}, {theirs}");
     let values = card.values().into_iter().zip(expected.values());
-    for (field, (ours, theirs)) in Card::FIELDS.iter().zip(values) {
+    let floors = (&Card::FLOOR, (Value::Flag(card.floor), Value::Flag(expected.floor)));
+    for (field, (ours, theirs)) in Card::FIELDS.iter().zip(values).chain([floors]) {
         let [ours, theirs] = [ours, theirs].map(|value| value.to_string());
         if ours != theirs {
             let _ = write!(words, "\n  {}: the sheet says {ours}, the card {theirs}", field.name);
@@ -113,6 +114,9 @@ fn words(verdict: Verdict, bytes: &[u8], card: Option<&Card>) -> String {
             let unlisted = card.and_then(|card| unlisted(card, &call, Refusal::NoService));
             if let Some(words) = unlisted.filter(|_| fields.iter().any(is_refused)) {
                 let _ = writeln!(text, "  {words}");
+            }
+            if call == Call::StandingLoss && card.is_some_and(|card| card.floor) {
+                let _ = writeln!(text, "  the card has a floor: {}", floor_words());
             }
             text
         }

@@ -16,11 +16,12 @@ pub fn template(_: &Arguments) -> Result<(), Failure> {
 pub fn check(arguments: &Arguments) -> Result<(), Failure> {
     let card = accepted(arguments.place(0))?;
     print(&format!(
-        "accepted: {}, {}\n{}\n{}card {}\n",
+        "accepted: {}, {}\n{}\n{}{}card {}\n",
         size(&card),
         span(&card),
         Holds::of(&card),
         services(&card),
+        floor(&card),
         card.fingerprint()
     ))?;
     for words in warnings(&card) {
@@ -56,6 +57,19 @@ fn services(card: &Card) -> String {
         true => String::new(),
         false => format!("services: {}\n", listed(&card.services)),
     }
+}
+
+/// A line that says where standing losses stop; empty where the card has no floor.
+fn floor(card: &Card) -> String {
+    match card.floor {
+        true => format!("floor: {}\n", floor_words()),
+        false => String::new(),
+    }
+}
+
+/// What a floor does.
+pub fn floor_words() -> String {
+    format!("standing losses stop at {} °C", Card::FLOOR_TEMPERATURE)
 }
 
 /// Services in words: `12 space, 700 direct`

@@ -29,15 +29,21 @@ heat-battery card check FILE
 
 Reads a card (one name = value on each line, what follows # is a comment) and says whether the
 engine accepts it. If so: what the battery holds between empty and full, below, in and above the
-melting range, in kWh, the services that it lists and the card's fingerprint. If not, every field
-that is out of range is named with its line and its range, and every service that can't be listed.
+melting range, in kWh, the services that it lists, its floor and the card's fingerprint. If not, every
+field that is out of range is named with its line and its range, and every service that can't be
+listed.
 
 A card may list services by number, each on a line such as
 
   service 12 = space
 
 At most 32, their numbers rising from 4 to 65535; the classes are regular, space and direct. Only
-sheets from version 3 on have them.
+sheets from version 3 on have them. It may have a line
+
+  floor = yes
+
+Then standing losses stop at 16 °C: no zone is cooled below that by them, and their energy is what was
+taken. Only sheets from version 4 on have a floor. Without the line there is none.
 
 Warnings, on standard error, are of what is legal but odd: a start above max or below reference,
 losses that empty a full battery in a day, a melting capacity below the others or over 1000 times as
@@ -49,8 +55,8 @@ Status: 0 accepted; 1 refused; 2 the file can't be read or is no card.
 pub const CARD_TEMPLATE: &str = "\
 heat-battery card template
 
-Prints a card to start from, with each field's meaning, unit and range and, in a comment, a line
-that lists a service.
+Prints a card to start from, without a floor, with each field's meaning, unit and range and, in a
+comment, a line that lists a service.
 ";
 
 pub const RUN: &str = "\
@@ -76,10 +82,11 @@ Beyond twenty, refused calls are counted.
 A committed demand that got over 0.001 kWh less than it required is unmet; a refused one got
 nothing. How many are, and what they lack, is said at the end.
 
-  --version N    write a sheet of version N (1, 2, 3), not of the newest. From version 2 on an
+  --version N    write a sheet of version N (1, 2, 3, 4), not of the newest. From version 2 on an
                  answered hydronic charge shows how long its pump ran; in version 1 it shows 0 s.
-                 Numbered services are of version 3: with another, a card that lists some or a call
-                 for one is an error, and nothing is written
+                 Numbered services are of version 3 and later: before, a card that lists some or a
+                 call for one is an error, and nothing is written. So is a card with a floor before
+                 version 4
   --stop         end at the first refused call; the sheet so far is written
   --most BYTES   hold the sheet to so many bytes; the list ends at the first line that has no room
   --unmet-fails  status 3 where a demand is unmet
@@ -102,8 +109,9 @@ loop's hours are the sum of the latter; they are in none of the running totals.
 
 The table is rounded; --json has every number exactly (one that isn't finite is a string). Its energy
 and shortfall are 0 where there is none; trial_energy, state_of_charge, charge_energy_demand and
-outlet are then null, as is charging_loop in version 1. The card's services are a list; a demand's
-service is a name or a number, its service_class is null for combi and for a number that isn't listed.
+outlet are then null, as is charging_loop in version 1. The card's services are a list, its floor is
+true or false; a demand's service is a name or a number, its service_class is null for combi and for a
+number that isn't listed.
 
   --unmet-fails  status 3 where a demand is unmet, as 'run' has it
 
@@ -141,9 +149,10 @@ heat-battery plot SHEET -o FILE.svg [--from LINE] [--to LINE]
 
 Draws zone temperatures, state of charge and energies over hours; call lines stand along the top.
 Hours are those of closed timesteps; the calls of one share it in their order. A sheet that closes
-none is drawn over its call lines. Heat in points up, heat out points down; trials are hollow. Marked
-are refused lines, unmet demands and the line that the audit refuses; card, verdict and, from
-version 2 on, the hours of the charging loop stand under the title.
+none is drawn over its call lines. Heat in points up, heat out points down; trials are hollow. A
+card's floor is a broken line among the zones. Marked are refused lines, unmet demands and the line
+that the audit refuses; card, verdict and, from version 2 on, the hours of the charging loop stand
+under the title.
 
   --from, --to  only these call lines
 

@@ -59,7 +59,8 @@ fn card_object(card: &Card) -> String {
     let services: Vec<String> = card.services.iter().map(service_object).collect();
     let services = format!("[{}]", services.join(","));
     let values = card.values();
-    object(fields.zip(values.iter().map(value)).chain([("services", services)]))
+    let behind = [("services", services), (Card::FLOOR.name, card.floor.to_string())];
+    object(fields.zip(values.iter().map(value)).chain(behind))
 }
 
 fn service_object(service: &Service) -> String {

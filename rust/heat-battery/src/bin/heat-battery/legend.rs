@@ -2,7 +2,7 @@
 
 use crate::course::{Bar, Class, CLASSES};
 use crate::picture::{
-    is_refused, is_unmet, ramp, Picture, CHARGE, ENERGY, MARK, MARK_FILL, SMALL, ZONES,
+    is_refused, is_unmet, ramp, Picture, CHARGE, ENERGY, FLOOR, MARK, MARK_FILL, SMALL, ZONES,
 };
 use crate::svg::Hang;
 use heat_battery::Card;
@@ -42,8 +42,13 @@ impl Picture<'_> {
         y += 24.0;
         let style = "fill=\"#fde8c8\" stroke=\"#e5c48f\"";
         self.svg.rect((LEGEND, y - 11.0), (26.0, 12.0), style);
-        let Card { lower, upper, .. } = self.course.card;
+        let Card { lower, upper, floor, .. } = self.course.card;
         self.words(y, &format!("melting, {} to {} °C", hundredths(lower), hundredths(upper)));
+        if floor {
+            y += 22.0;
+            self.svg.line((LEGEND, y - 4.0), (LEGEND + 26.0, y - 4.0), FLOOR);
+            self.words(y, &format!("floor, {} °C", Card::FLOOR_TEMPERATURE));
+        }
         if self.course.lines().any(is_refused) {
             y += 22.0;
             self.svg.cross((LEGEND + 10.0, y - 8.0), 6.0, MARK);

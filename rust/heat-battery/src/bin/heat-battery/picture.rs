@@ -5,7 +5,7 @@ use crate::card::size;
 use crate::course::Course;
 use crate::show::pump;
 use crate::svg::{Hang, Svg};
-use heat_battery::{Line, Unmet, Verdict};
+use heat_battery::{Card, Line, Unmet, Verdict};
 
 const WIDTH: f64 = 1120.0;
 const HEIGHT: f64 = 900.0;
@@ -18,6 +18,7 @@ pub const ENERGY: (f64, f64) = (638.0, 838.0);
 const FRAME: &str = "fill=\"none\" stroke=\"#333\" stroke-width=\"1\"";
 const GRID: &str = "stroke=\"#ddd\" stroke-width=\"1\"";
 const CLOSING: &str = "stroke=\"#bbb\" stroke-width=\"0.6\" stroke-dasharray=\"2 3\"";
+pub const FLOOR: &str = "stroke=\"#444\" stroke-width=\"1.2\" stroke-dasharray=\"7 4\"";
 pub const SMALL: &str = "fill=\"#222\" font-size=\"13\"";
 pub const MARK: &str = "stroke=\"#d00\" stroke-width=\"1.5\"";
 const AUDIT: &str = "stroke=\"#d00\" stroke-width=\"1.5\" stroke-dasharray=\"5 4\"";
@@ -165,13 +166,17 @@ impl<'a> Picture<'a> {
         let layers = usize::from(course.card.layers);
         let melting = [course.card.lower, course.card.upper];
         let all = (0..layers).flat_map(|at| course.zone(at).map(|(_, zone)| zone));
-        let axis = Axis::new(all.chain(melting), 8);
+        let floor = course.card.floor.then_some(Card::FLOOR_TEMPERATURE);
+        let axis = Axis::new(all.chain(melting).chain(floor), 8);
         let high = self.y(&axis, ZONES, course.card.upper);
         let low = self.y(&axis, ZONES, course.card.lower);
         let size = (RIGHT - LEFT, (low - high).max(1.0));
         self.svg.rect((LEFT, high), size, "fill=\"#fde8c8\"");
         self.panel(ZONES, &axis, "zone temperature, °C");
         self.line_numbers();
+        if let Some(y) = floor.map(|floor| self.y(&axis, ZONES, floor)) {
+            self.svg.line((LEFT, y), (RIGHT, y), FLOOR);
+        }
         for at in 0..layers {
             let points: Vec<Option<(f64, f64)>> = course
                 .zone(at)

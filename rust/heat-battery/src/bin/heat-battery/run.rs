@@ -1,7 +1,7 @@
 //! `run`: a list of calls, made and written as a sheet.
 
 use crate::arguments::Arguments;
-use crate::card::{accepted, count, listed, unlisted};
+use crate::card::{accepted, count, floor_words, listed, unlisted};
 use crate::failure::Failure;
 use crate::files;
 use crate::output::{note, write};
@@ -48,6 +48,11 @@ fn test_version(
     calls_path: &OsStr,
     calls: &[ListedCall],
 ) -> Result<(), Failure> {
+    if card.floor && !version.has_floor() {
+        let later = format!("of version {} and later", Version::Four);
+        let words = format!("a sheet of version {version} has none, it is {later}");
+        return Err(files::refused(card_path, format!("has a floor ({}); {words}", floor_words())));
+    }
     let later = format!("of version {} and later", Version::Three);
     if !card.services.is_empty() && !version.has_services() {
         let services = listed(&card.services);
