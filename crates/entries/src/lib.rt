@@ -1,8 +1,6 @@
 // What A's entries read and write: the record that is handed in; the opening, a call's line and the record renewed.
 #![tactic(auto)]
 
-pub mod own_record;
-
 ghost use Rattle.std.specs.Prelude.{◌≡◌, ◌+◌, ◌≤◌, ◌<◌, length};
 ghost use Rattle.refusals.specs.Number.{refused_number};
 ghost use Rattle.sheet_records.specs.Cards.{card_length};

@@ -19,8 +19,8 @@ use Rattle.sheet_lines.specs.Lines.{line_bytes}
 use Rattle.entries.specs.Entry.{unchanged, open_of}
 use Rattle.entries.proofs.Entering.{code_of, unchanged_by}
 use Rattle.entries.proofs.Opening.{open_unknown}
-use Rattle.entries.specs.Record.{shown_of, advanced_by, advanced_of}
-use Rattle.entries.proofs.OwnRecordLaws.{own_unknown}
+use Rattle.own_record.specs.Record.{shown_of, advanced_by, advanced_of}
+use Rattle.own_record.proofs.OwnRecordLaws.{own_unknown}
 use Rattle.heat_battery.specs.Cases.{Opens}
 use Rattle.heat_battery.specs.Entries.{entry_of}
 use Rattle.heat_battery.proofs.Calling.{entry_unknown}

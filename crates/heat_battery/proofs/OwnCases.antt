@@ -29,9 +29,9 @@ use Rattle.engine.proofs.StepCases.{step_20, step_21, step_22, step_23, step_24,
 use Rattle.sheet_calls.specs.Calls.{call_of}
 use Rattle.sheet_calls.proofs.CallLaws.{same_call, no_call}
 use Rattle.sheet_calls.proofs.CallExact.{call_laid, laid_call}
-use Rattle.entries.specs.Record.{shown_of, advanced_by, advance_read, advanced_of}
-use Rattle.entries.proofs.Answered.{not_accepted_extended, accepted_extended}
-use Rattle.entries.proofs.OwnRecordLaws.{own_known}
+use Rattle.own_record.specs.Record.{shown_of, advanced_by, advance_read, advanced_of}
+use Rattle.own_record.proofs.Answered.{not_accepted_extended, accepted_extended}
+use Rattle.own_record.proofs.OwnRecordLaws.{own_known}
 use Rattle.heat_battery.specs.Cases.{GoodCall, GoodOwn, OwnCase10, bad_own, bad_own_call, OwnCase}
 use Rattle.heat_battery.proofs.CallCases.{not_ten}
 

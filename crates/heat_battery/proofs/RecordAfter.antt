@@ -8,8 +8,8 @@ use Rattle.refusals.specs.declared.Refusal.{Refusal}
 use Rattle.battery.specs.Ledger.{whole as whole_of, ledger_of}
 use Rattle.battery.specs.declared.Ledger.{Ledger}
 use Rattle.battery.specs.declared.Reply.{Reply}
-use Rattle.entries.specs.Record.{Advanced, answered_with, advanced_of, extension_of, with_battery, own_advanced}
-use Rattle.entries.specs.declared.own_record.OwnRecord.{OwnRecord}
+use Rattle.own_record.specs.Record.{Advanced, answered_with, advanced_of, extension_of, with_battery, own_advanced}
+use Rattle.own_record.specs.declared.OwnRecord.{OwnRecord}
 
 -- the record with its totals renewed, where the call is answered, and these zones
 abbrev pub after : OwnRecord → Result Reply Refusal → List Float → OwnRecord

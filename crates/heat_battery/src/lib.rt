@@ -10,14 +10,14 @@ ghost use Rattle.sheet_records.specs.Records.{record_of};
 ghost use Rattle.sheet_calls.specs.Calls.{call_of};
 ghost use Rattle.auditor.specs.Rules.{plain};
 ghost use Rattle.auditor.specs.Audit.{verdict_word, verdict_fields, audit_of, limited_audit_of};
-ghost use Rattle.entries.specs.Record.{own_advanced};
+ghost use Rattle.own_record.specs.Record.{own_advanced};
 ghost use Rattle.entries.specs.Entry.{WasAfter, shown_number, open_of, record_laid};
 ghost use Rattle.heat_battery.specs.Entries.{entry_read, entry_known, entry_of};
 
 use auditor::AuditVerdict;
 use battery::Battery;
 use card::Card;
-use entries::own_record::{OwnExtension, OwnRecord, Shown};
+use own_record::{OwnExtension, OwnRecord, Shown};
 use refusals::Refusal;
 use sheet_records::cards::CardBytes;
 
@@ -150,7 +150,7 @@ pub extern "C" fn heat_battery_advance(version: u8, own: &mut OwnRecord, call: &
         classes: &own.classes,
         floor: own.floor,
     };
-    match entries::own_record::advance_apart(l, extension, call, &mut own.battery.zones) {
+    match own_record::advance_apart(l, extension, call, &mut own.battery.zones) {
         Ok(reply) => {
             own.battery.set_totals(reply.totals);
             Shown::from(reply)

@@ -5,12 +5,12 @@
 ghost use Rattle.std.specs.Prelude.{◌≡◌};
 ghost use Rattle.auditor.specs.Rules.{plain};
 ghost use Rattle.auditor.specs.Audit.{verdict_word, verdict_fields, audit_of, limited_audit_of};
-ghost use Rattle.entries.specs.Record.{own_advanced};
+ghost use Rattle.own_record.specs.Record.{own_advanced};
 ghost use Rattle.entries.specs.Entry.{WasAfter, open_of};
 ghost use Rattle.heat_battery.specs.Entries.{entry_of};
 
 use auditor::AuditVerdict;
-use entries::own_record::{OwnRecord, Shown};
+use own_record::{OwnRecord, Shown};
 
 #[unsafe(no_mangle)]
 pub extern "C" fn heat_battery_open(

@@ -11,8 +11,8 @@ use Rattle.heat_battery.proofs.CallNumbers.{call_20, call_21, call_22, call_23, 
 use Rattle.heat_battery.proofs.OwnCases.{own_10, own_20, own_21, own_22, own_23, own_24, own_25}
 use Rattle.heat_battery.proofs.AnyVersion as any
 use Rattle.heat_battery.proofs.EqualSteps.{sheet_equal_to_steps}
-use Rattle.entries.specs.Record.{extension_of, own_advanced}
-use Rattle.entries.proofs.OwnRecordLaws.{refused_record_stays, places_above_stay}
+use Rattle.own_record.specs.Record.{extension_of, own_advanced}
+use Rattle.own_record.proofs.OwnRecordLaws.{refused_record_stays, places_above_stay}
 use Rattle.auditor.specs.Audit.{limited_audit_of}
 use Rattle.auditor.proofs.Exact.{exact}
 use Rattle.auditor.proofs.Refusals.{refused_40, refused_41, refused_42, refused_43, refused_44, refused_70, no_other}

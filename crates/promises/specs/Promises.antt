@@ -36,8 +36,8 @@ use Rattle.sheet_calls.specs.Calls.{call_of}
 use Rattle.sheet_lines.specs.Answers.{AcceptsItself}
 use Rattle.sheet_lines.specs.Lines.{line_bytes, opening_bytes}
 use Rattle.entries.specs.Entry.{unchanged, open_of}
-use Rattle.entries.specs.Record.{extension_of, own_advanced}
-use Rattle.entries.specs.declared.own_record.OwnRecord.{OwnRecord}
+use Rattle.own_record.specs.Record.{extension_of, own_advanced}
+use Rattle.own_record.specs.declared.OwnRecord.{OwnRecord}
 use Rattle.heat_battery.specs.Entries.{entry_of}
 use Rattle.heat_battery.specs.Cases.{OpenCase1, OpenCase2, OpenCase3, OpenCase4, OpenCase61, OpenCase10, OpenCase11, Opens, CallCase10, CallCase11, LineCase, OwnCase10, OwnCase}
 use Rattle.heat_battery.specs.Lists.{ListedCall, AllGiven, sheet_of, free_after_sheet, spared_of, step_lines, SheetOfSteps}

@@ -7,7 +7,7 @@ use lib.ListN.{length, get_or}
 use Rattle.card.specs.Version.{lists_services}
 use Rattle.card.specs.Services.{Service, listed}
 use Rattle.card.proofs.Listed.{listed_length, entry_if}
-use Rattle.entries.specs.Record.{own_service, own_services}
+use Rattle.own_record.specs.Record.{own_service, own_services}
 
 module _ (version count : ℕ) (numbers classes : List ℕ) where
   own_listed : lists_services version ≡ true → own_services version count numbers classes ≡ listed (own_service numbers classes) 0 count

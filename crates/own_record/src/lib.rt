@@ -1,9 +1,11 @@
 // A call on the caller's own battery: the first of its zones stored where they lie, and what is shown.
+#![tactic(auto)]
+
 ghost use Rattle.std.specs.Prelude.{◌≡◌, ◌+◌, ◌≤◌, true, length};
 ghost use Rattle.refusals.specs.Number.{number};
 ghost use Rattle.battery.specs.Answer.{settled};
 ghost use Rattle.battery.specs.Ledger.{whole};
-ghost use Rattle.entries.specs.Record.{reply_shown, refused_shown, answered_with, renewed_zones, lent_extension, advance_extended, answer_own, advanced_of};
+ghost use Rattle.own_record.specs.Record.{reply_shown, refused_shown, answered_with, renewed_zones, lent_extension, advance_extended, answer_own, advanced_of};
 
 use battery::lent::Lent;
 use battery::{Battery, Ledger, Reply};
@@ -40,7 +42,7 @@ impl<'a> Extended for OwnExtension<'a> {
 
     ghost room = { λ own. 32 };
 
-    #[tactic(auto, using(crate::proofs::OwnExtension::own_count, crate::proofs::OwnExtension::own_none))]
+    #[tactic(auto, using(crate::proofs::Extensions::own_count, crate::proofs::Extensions::own_none))]
     fn count(&self) -> usize {
         if card::version::lists_services(self.version) {
             return self.count as usize;
@@ -48,7 +50,7 @@ impl<'a> Extended for OwnExtension<'a> {
         0
     }
 
-    #[tactic(auto, unfolding(crate::specs::Record::own_service), using(crate::proofs::OwnExtension::own_entry))]
+    #[tactic(auto, unfolding(crate::specs::Record::own_service), using(crate::proofs::Extensions::own_entry))]
     fn service(&self, k: usize) -> Service {
         Service {
             number: self.numbers[k],

@@ -17,9 +17,9 @@ use Rattle.battery.specs.declared.Reply.{Reply}
 use Rattle.battery.specs.declared.Ledger.{Ledger}
 use Rattle.engine.specs.Steps.{advance_of}
 use Rattle.sheet_calls.specs.Calls.{call_of}
-use Rattle.entries.specs.declared.own_record.Shown.{Shown}
-use Rattle.entries.specs.declared.own_record.OwnRecord.{OwnRecord}
-use Rattle.entries.specs.declared.own_record.OwnExtension.{OwnExtension}
+use Rattle.own_record.specs.declared.Shown.{Shown}
+use Rattle.own_record.specs.declared.OwnRecord.{OwnRecord}
+use Rattle.own_record.specs.declared.OwnExtension.{OwnExtension}
 
 -- a battery after a call, and what the call answers
 pub record Advanced : Type 0 where

@@ -25,8 +25,8 @@ use Rattle.engine_replies.proofs.Settled.{settled_answer}
 use Rattle.engine.proofs.Promises.{refused_number}
 use Rattle.engine.proofs.AdvanceKeeps.{not_accepted_ten, advance_keeps_above, advance_answered_accepted}
 use Rattle.sheet_calls.specs.Calls.{call_of}
-use Rattle.entries.specs.Record.{renewed_zones, advance_read, advance_extended, answer_own}
-use Rattle.entries.proofs.Zones.{renewed_whole}
+use Rattle.own_record.specs.Record.{renewed_zones, advance_read, advance_extended, answer_own}
+use Rattle.own_record.proofs.Zones.{renewed_whole}
 use Rattle.battery.specs.declared.Call.{Call}
 
 -- a call that is answered has been read, and its battery accepted

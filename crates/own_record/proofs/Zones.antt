@@ -12,7 +12,7 @@ use lib.Ieee.{Float, nan}
 use Rattle.std.proofs.Math.Seq.{set-append_seam}
 use Rattle.std.proofs.lemmas.List.{length-take-le, take_more, drop_more, append_assoc}
 use Rattle.battery.specs.Places.{SameAbove}
-use Rattle.entries.specs.Record.{renewed_zones}
+use Rattle.own_record.specs.Record.{renewed_zones}
 
 module _ (zones own : List Float) where
   -- stored all at once

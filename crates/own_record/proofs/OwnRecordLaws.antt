@@ -13,9 +13,9 @@ use Rattle.battery.specs.declared.Battery.{Battery}
 use Rattle.battery.specs.Places.{SameAbove}
 use Rattle.engine.proofs.AdvanceKeeps.{advance_refused_keeps_state}
 use Rattle.sheet_calls.specs.Calls.{call_of}
-use Rattle.entries.specs.Record.{shown_of, advanced_by, advance_read, advance_extended, answer_own, advanced_of, extension_of, with_battery, own_advanced}
-use Rattle.entries.specs.declared.own_record.OwnRecord.{OwnRecord}
-use Rattle.entries.proofs.Answered.{own_leaves_above}
+use Rattle.own_record.specs.Record.{shown_of, advanced_by, advance_read, advance_extended, answer_own, advanced_of, extension_of, with_battery, own_advanced}
+use Rattle.own_record.specs.declared.OwnRecord.{OwnRecord}
+use Rattle.own_record.proofs.Answered.{own_leaves_above}
 use Rattle.battery.specs.declared.Call.{Call}
 
 -- the version, before all

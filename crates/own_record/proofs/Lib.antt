@@ -1,0 +1,4 @@
+pub mod Answered
+pub mod Extensions
+pub mod OwnRecordLaws
+pub mod Zones
