@@ -33,7 +33,7 @@ use Rattle.sheet_lines.specs.Answers.{same_number, agrees}
 use Rattle.auditor.specs.Rules.{Rules, plain, NoLooser}
 use Rattle.auditor.specs.Sheet.{Line, Laid, Sheet}
 use Rattle.promises.specs.Claims.{shown, zones_in, NoneWarmer, NoneCooler, NoneAltered, Directed, AllDirected, NoneUnder, AllFloored}
-use Rattle.promises.specs.Promises.{LossesStop}
+use Rattle.promises.specs.Requests.{LossesStop}
 use Rattle.auditor.proofs.Stepped.{Stepped}
 use Rattle.auditor.proofs.Walks.{Own, next_own}
 use Rattle.auditor.proofs.Opened.{fresh_own}

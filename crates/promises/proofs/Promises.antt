@@ -20,7 +20,8 @@ use Rattle.auditor.proofs.Words.{verdict_given, plain_given, same_verdict, word_
 use Rattle.auditor.proofs.Fields.{fields_accept, fields_refuse, fields_word}
 use Rattle.promises.proofs.Directions.{directions, losses_stop}
 use Rattle.promises.proofs.Charged.{charged_total}
-use Rattle.promises.specs.Promises.{OpeningNumbers, CallNumbers, OwnRecordNumbers, AuditVerdicts, AuditorVerdicts, RefusedOpeningChangesNothing, CallWithoutLineChangesNothing, RefusalLineLeavesTheRecord, RefusedOwnRecordStays, PlacesAboveTheCountStay, ExtensionStays, EqualToTheSteps, Opening, AcceptsAList, AcceptsAListByRules, ExactlyWhen, ExactlyWhenInC, WordTellsTheVerdict, ExactlyWhenOfAnyLength, FieldsTellTheVerdict, BothAuditsAgree, ZonesMoveTheRightWay, ChargedTotalAddsUp, OpeningRefusals, CallRefusals, OwnRecordRefusals, AuditRefusals, FortyExactlyWhenUnknown, LogarithmsCounted, HydronicTime, RunningTotalsStay, OnlyTheTimeDiffers, ServiceClasses, DemandsAreClassed, EqualAnswers, LossesStop, OnlyLossesHaveAFloor, EqualWithoutFloor}
+use Rattle.promises.specs.Promises.{OpeningNumbers, CallNumbers, OwnRecordNumbers, AuditVerdicts, AuditorVerdicts, RefusedOpeningChangesNothing, CallWithoutLineChangesNothing, RefusalLineLeavesTheRecord, RefusedOwnRecordStays, PlacesAboveTheCountStay, ExtensionStays, EqualToTheSteps, Opening, AcceptsAList, AcceptsAListByRules, ExactlyWhen, ExactlyWhenInC, WordTellsTheVerdict, ExactlyWhenOfAnyLength, FieldsTellTheVerdict, BothAuditsAgree, ZonesMoveTheRightWay, ChargedTotalAddsUp, OpeningRefusals, CallRefusals, OwnRecordRefusals, AuditRefusals, FortyExactlyWhenUnknown}
+use Rattle.promises.specs.Requests.{LogarithmsCounted, HydronicTime, RunningTotalsStay, OnlyTheTimeDiffers, ServiceClasses, DemandsAreClassed, EqualAnswers, LossesStop, OnlyLossesHaveAFloor, EqualWithoutFloor}
 use Rattle.promises.proofs.Numbers.{among_call, among_own}
 use Rattle.promises.proofs.AList.{a_list}
 use Rattle.promises.proofs.ServiceClasses.{service_classes, demands_are_classed}

@@ -22,7 +22,7 @@ use Rattle.battery.specs.declared.Call.TheVariants.{DemandEnergy, ChargeElectric
 use Rattle.battery.specs.Kinds.{kind_of}
 use Rattle.sheet_calls.specs.Calls.{commit_place, control_place, return_place, call_length, mark_ok, demand_class, demand_at, demand_call, call_by, call_of}
 use Rattle.sheet_calls.proofs.CallLaws.{test_good, call_kind}
-use Rattle.promises.specs.Promises.{ServiceClasses, DemandsAreClassed}
+use Rattle.promises.specs.Requests.{ServiceClasses, DemandsAreClassed}
 
 -- ---- by an accepted list
 

@@ -36,7 +36,7 @@ use Rattle.heat_battery.specs.Lists.{ListedCall, AllGiven, entry_to, no_line, fr
 use Rattle.heat_battery.proofs.Encodings.{lined, Entered, kept_10, kept_11, stepped, entry_on_encoding, read_not_ten, step_encoded, gets_line, line_taken_lem, free_rest_lem}
 use Rattle.heat_battery.proofs.EqualSteps.{given_is, nothing_used, fresh_encoded}
 use Rattle.promises.specs.TwoVersions.{Every, in_version, widened, NoEleven, Answered, answered_by, answers_of, opened_record, opened_rest}
-use Rattle.promises.specs.Promises.{EqualAnswers, EqualWithoutFloor}
+use Rattle.promises.specs.Requests.{EqualAnswers, EqualWithoutFloor}
 use Rattle.promises.proofs.Widened.{widened_read, same_layout}
 
 -- ---- the steps, the ranges and the answers' bytes are the same

@@ -16,7 +16,7 @@ use Rattle.card.specs.Extension.{Extension, has_floor}
 use Rattle.card.proofs.ServiceClass.{own_type}
 use Rattle.sheet_calls.specs.Calls.{commit_place, call_length, mark_ok, given_at, demand_class, demand_at, demand_call, hydronic_at, charge_demand_call, bare_call, call_by, call_of}
 use Rattle.promises.specs.TwoVersions.{widened}
-use Rattle.promises.specs.Promises.{OnlyLossesHaveAFloor}
+use Rattle.promises.specs.Requests.{OnlyLossesHaveAFloor}
 
 -- a demand's fields, one place further on
 fields_moved : (class : ℕ) (fields : List ℕ) → demand_call 3 class (1 ∷ 0 ∷ fields) ≡ demand_call 2 class (1 ∷ fields)

@@ -1,4 +1,5 @@
 pub mod Promises
+pub mod Requests
 pub mod Example
 pub mod Claims
 pub mod TwoVersions
