@@ -2,9 +2,11 @@
 
 mod common {
     pub mod figures;
+    pub mod opening;
 }
 
 use common::figures::{POINTS, WET};
+use common::opening::{listing, opened, rising};
 use heat_battery::{audit, explain, ffi, looks, read, text, Explanation, Looks, Verdict};
 use heat_battery::{Answer, Battery, Call, Card, Record, Refusal, Sheet, Totals, Version};
 use heat_battery::{Service, ServiceClass, ServiceType, Value};
@@ -183,37 +185,7 @@ fn without_a_floor_the_answers_are_version_3s() {
 
 /// The card's bytes in version 4 with a list of any numbers and classes and any flag.
 fn bytes(card: &Card, services: &[(u16, u8)], flag: u8) -> Vec<u8> {
-    let mut bytes = card.to_bytes(Version::Four).unwrap()[..Card::BYTES].to_vec();
-    bytes.push(services.len() as u8);
-    for (number, class) in services {
-        bytes.extend(number.to_be_bytes());
-        bytes.push(*class);
-    }
-    bytes.push(flag);
-    bytes
-}
-
-/// So many services, rising.
-fn rising(count: u16) -> Vec<(u16, u8)> {
-    (0..count).map(|at| (4 + at, 1 + (at % 3) as u8)).collect()
-}
-
-/// What opening says of a card's bytes; refused, it changes nothing. The crate says the same.
-fn opened(bytes: &[u8]) -> u8 {
-    let layers = bytes.first().copied().unwrap_or(0);
-    let (mut record, mut sheet) =
-        (vec![7; bytes.len() + 40 + 8 * usize::from(layers)], vec![7; bytes.len() + 3]);
-    let refusal = ffi::open(4, bytes, &mut record, &mut sheet);
-    if refusal != 0 {
-        assert!(record.iter().chain(&sheet).all(|byte| *byte == 7));
-    }
-    let read = Card::from_bytes(Version::Four, bytes).and_then(|card| {
-        let first = card.faults().first().map(|fault| fault.refusal);
-        assert_eq!(first, card.check().err());
-        card.check()
-    });
-    assert_eq!(read.err().map_or(0, |refusal| refusal.number()), refusal);
-    refusal
+    [listing(card, services), vec![flag]].concat()
 }
 
 #[test]
@@ -231,31 +203,37 @@ fn another_flag_is_1_before_all_else() {
             let listed = if is_good && list.len() <= 32 { 0 } else { 61 };
             let refusal = if expected == 0 { listed } else { expected };
             for flag in [0, 1] {
-                assert_eq!(opened(&bytes(card, list, flag)), refusal, "{list:?}");
+                assert_eq!(opened(Version::Four, &bytes(card, list, flag)), refusal, "{list:?}");
             }
             for flag in [2, 3, 128, 255] {
-                assert_eq!(opened(&bytes(card, list, flag)), 1, "{list:?}");
+                assert_eq!(opened(Version::Four, &bytes(card, list, flag)), 1, "{list:?}");
             }
         }
     }
     for flag in 2..=255 {
-        assert_eq!(opened(&bytes(&POINTS, &[], flag)), 1);
+        assert_eq!(opened(Version::Four, &bytes(&POINTS, &[], flag)), 1);
     }
 }
 
 #[test]
 fn other_lengths_are_1() {
     let right = bytes(&POINTS, &[(12, 2), (13, 1)], 1);
-    assert_eq!((right.len(), opened(&right)), (166, 0));
+    assert_eq!((right.len(), opened(Version::Four, &right)), (166, 0));
     for length in 0..right.len() {
-        assert_eq!(opened(&right[..length]), 1, "{length} bytes");
+        assert_eq!(opened(Version::Four, &right[..length]), 1, "{length} bytes");
     }
-    assert_eq!(opened(&[&right[..], &[0]].concat()), 1);
+    assert_eq!(opened(Version::Four, &[&right[..], &[0]].concat()), 1);
     // With a count above 32 the flag still stands behind the list.
     let many = bytes(&POINTS, &rising(33), 1);
-    assert_eq!((many.len(), opened(&many), opened(&many[..258])), (259, 61, 1));
+    assert_eq!(
+        (many.len(), opened(Version::Four, &many), opened(Version::Four, &many[..258])),
+        (259, 61, 1)
+    );
     let many = bytes(&POINTS, &rising(255), 1);
-    assert_eq!((many.len(), opened(&many), opened(&many[..924])), (925, 61, 1));
+    assert_eq!(
+        (many.len(), opened(Version::Four, &many), opened(Version::Four, &many[..924])),
+        (925, 61, 1)
+    );
 }
 
 /// The longest card and the longest record.

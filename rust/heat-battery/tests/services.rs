@@ -2,9 +2,11 @@
 
 mod common {
     pub mod figures;
+    pub mod opening;
 }
 
 use common::figures::POINTS;
+use common::opening::{listing, opened, rising};
 use heat_battery::{audit, explain, ffi, looks, read, text, Explanation, Looks, Verdict};
 use heat_battery::{Answer, Battery, Call, Card, Record, Refusal, Sheet, Version};
 use heat_battery::{Service, ServiceClass, ServiceType, Totals};
@@ -15,39 +17,6 @@ use ServiceClass::{Direct, Regular, Space};
 fn card(services: &[(u16, ServiceClass)]) -> Card {
     let services = services.iter().map(|(number, class)| Service::new(*number, *class)).collect();
     Card { services, start: 60.0, ..POINTS }
-}
-
-/// The card's bytes with a list of any numbers and classes behind the fields.
-fn listing(card: &Card, services: &[(u16, u8)]) -> Vec<u8> {
-    let fields = card.to_bytes(Version::Three).unwrap()[..Card::BYTES].to_vec();
-    let entries = services.iter().flat_map(|(number, class)| {
-        let [high, low] = number.to_be_bytes();
-        [high, low, *class]
-    });
-    fields.into_iter().chain([services.len() as u8]).chain(entries).collect()
-}
-
-/// So many services, rising.
-fn rising(count: u16) -> Vec<(u16, u8)> {
-    (0..count).map(|at| (4 + at, 1 + (at % 3) as u8)).collect()
-}
-
-/// What opening says of a card's bytes; refused, it changes nothing. The crate says the same.
-fn opened(bytes: &[u8]) -> u8 {
-    let layers = bytes.first().copied().unwrap_or(0);
-    let (mut record, mut sheet) =
-        (vec![7; bytes.len() + 40 + 8 * usize::from(layers)], vec![7; bytes.len() + 3]);
-    let refusal = ffi::open(3, bytes, &mut record, &mut sheet);
-    if refusal != 0 {
-        assert!(record.iter().chain(&sheet).all(|byte| *byte == 7));
-    }
-    let read = Card::from_bytes(Version::Three, bytes).and_then(|card| {
-        let first = card.faults().first().map(|fault| fault.refusal);
-        assert_eq!(first, card.check().err());
-        card.check()
-    });
-    assert_eq!(read.err().map_or(0, |refusal| refusal.number()), refusal);
-    refusal
 }
 
 fn demand(service: ServiceType, commit: bool) -> Call {
@@ -90,24 +59,24 @@ fn a_count_above_32_has_its_length_and_is_61() {
     let card = card(&[]);
     let bytes = listing(&card, &rising(33));
     assert_eq!(bytes.len(), 258);
-    assert_eq!(opened(&bytes), 61);
-    assert_eq!(opened(&bytes[..255]), 1);
+    assert_eq!(opened(Version::Three, &bytes), 61);
+    assert_eq!(opened(Version::Three, &bytes[..255]), 1);
     let no_layers = listing(&Card { layers: 0, ..card.clone() }, &rising(33));
-    assert_eq!((no_layers.len(), opened(&no_layers)), (258, 1));
-    assert_eq!(opened(&listing(&card, &rising(255))), 61);
-    assert_eq!(opened(&listing(&card, &rising(32))), 0);
-    assert_eq!(opened(&listing(&card, &[])), 0);
+    assert_eq!((no_layers.len(), opened(Version::Three, &no_layers)), (258, 1));
+    assert_eq!(opened(Version::Three, &listing(&card, &rising(255))), 61);
+    assert_eq!(opened(Version::Three, &listing(&card, &rising(32))), 0);
+    assert_eq!(opened(Version::Three, &listing(&card, &[])), 0);
 }
 
 #[test]
 fn other_lengths_are_1() {
     let bytes = listing(&card(&[]), &[(12, 2), (13, 1)]);
-    assert_eq!(opened(&bytes), 0);
+    assert_eq!(opened(Version::Three, &bytes), 0);
     for length in 0..bytes.len() {
-        assert_eq!(opened(&bytes[..length]), 1, "{length} bytes");
+        assert_eq!(opened(Version::Three, &bytes[..length]), 1, "{length} bytes");
     }
-    assert_eq!(opened(&[&bytes[..], &[0]].concat()), 1);
-    assert_eq!(opened(&[&bytes[..], &[0, 14, 1]].concat()), 1);
+    assert_eq!(opened(Version::Three, &[&bytes[..], &[0]].concat()), 1);
+    assert_eq!(opened(Version::Three, &[&bytes[..], &[0, 14, 1]].concat()), 1);
 }
 
 #[test]
@@ -125,8 +94,8 @@ fn a_list_that_is_none_is_61_after_4() {
         &[(4, 1), (70, 2), (71, 0)],
     ];
     for list in bad {
-        assert_eq!(opened(&listing(&card, list)), 61, "{list:?}");
-        let other = |card: Card| opened(&listing(&card, list));
+        assert_eq!(opened(Version::Three, &listing(&card, list)), 61, "{list:?}");
+        let other = |card: Card| opened(Version::Three, &listing(&card, list));
         assert_eq!(other(Card { max: f64::NAN, ..card.clone() }), 1);
         assert_eq!(other(Card { lower: 57.0, max: 15.0, ..card.clone() }), 2);
         assert_eq!(other(Card { max: 20.0, reference: 20.0, ..card.clone() }), 3);
@@ -135,9 +104,9 @@ fn a_list_that_is_none_is_61_after_4() {
     let good: [&[(u16, u8)]; 4] =
         [&[(4, 3)], &[(4, 1), (5, 1)], &[(65535, 2)], &[(32767, 1), (32768, 2)]];
     for list in good {
-        assert_eq!(opened(&listing(&card, list)), 0, "{list:?}");
+        assert_eq!(opened(Version::Three, &listing(&card, list)), 0, "{list:?}");
     }
-    assert_eq!(opened(&listing(&card, &[(32768, 2), (32767, 1)])), 61);
+    assert_eq!(opened(Version::Three, &listing(&card, &[(32768, 2), (32767, 1)])), 61);
 }
 
 #[test]

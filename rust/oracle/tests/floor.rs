@@ -2,20 +2,22 @@
 //! the figures hold for the plain implementation alone, the published file has no floor; with the flag
 //! 0 they hold for the judge too.
 
+mod common {
+    pub mod opening;
+}
+
+use common::opening::{many, opened};
 use oracle::auditor::{audit_by, Verdict};
-use oracle::entries::{self, call_by, STEPS};
+use oracle::entries::{self, STEPS};
 use oracle::fields;
 use oracle::generate::{self, points_card};
 #[cfg(published)]
 use oracle::judge;
-use oracle::model::{Answer, Battery, Call, Card, Demand, Service, Services};
-use oracle::own::{self, Record};
+use oracle::model::{Answer, Battery, Call, Card, Demand};
 use oracle::plain::{self, Lowered, FLOOR};
 use oracle::random::Random;
-use oracle::{reading, sheet};
+use oracle::sheet;
 use std::collections::BTreeMap;
-
-const UNTOUCHED: u8 = 0xee;
 
 /// The readings' card with a flag, a start and losses.
 fn card(floor: u8, start: f64, losses: f64) -> Card {
@@ -196,41 +198,8 @@ fn zones_at_and_under_the_floor_stay() {
 
 // ---- Cards
 
-/// So many services: 4, 5, 6 and so on.
-fn many(count: u16) -> Services {
-    let listed: Vec<Service> = (4..4 + count).map(|number| Service { number, class: 3 }).collect();
-    Services::new(&listed)
-}
-
 fn flagged(count: u16, floor: u8) -> Card {
     Card { services: many(count), ..card(floor, 76.0, 0.25) }
-}
-
-/// What an opening in version 4 gives, after all else that 1 counts with has said the same: 10 of a
-/// record, 41 of the audit, 10 of the caller's own record. A refused one changes nothing.
-fn opened(card: &[u8]) -> u8 {
-    let (length, room) = (sheet::record_length(card), sheet::opening_length(card));
-    let (mut record, mut lent) = (vec![UNTOUCHED; length], vec![UNTOUCHED; room]);
-    let refusal = entries::open(4, card, &mut record, &mut lent);
-    let line_0 = [&[4], &(card.len() as u16).to_be_bytes()[..], card].concat();
-    let due = if refusal == 0 { (0, Verdict::Accepted(0)) } else { (10, Verdict::refused(41, 0)) };
-    if refusal == 0 {
-        assert_eq!((&record[..card.len()], &lent), (card, &line_0));
-    } else {
-        assert!(record.iter().chain(&lent).all(|byte| *byte == UNTOUCHED));
-        record = [card, &vec![0; length - card.len()]].concat();
-    }
-    for step in STEPS {
-        let (mut after, mut line) = (record.clone(), vec![UNTOUCHED; 900]);
-        assert_eq!(call_by(step, 4, &mut after, &[5], &mut line), due.0);
-        assert_eq!(after, record);
-        assert_eq!(audit_by(step, &line_0), due.1);
-        if let Some(card) = reading::card(4, card).filter(|card| card.layers <= 64) {
-            let mut own = Record::from(&Battery::fresh(&card));
-            assert_eq!(own::advance(step, 4, &mut own, &[5]).refusal, due.0);
-        }
-    }
-    refusal
 }
 
 /// 160 + 3 × count, whatever the count; the flag is the last byte.
@@ -241,18 +210,18 @@ fn lengths_by_the_count() {
             let bytes = sheet::card_bytes(4, &flagged(count, floor));
             let length = 160 + 3 * usize::from(count);
             assert_eq!((bytes.len(), bytes[length - 1]), (length, floor));
-            assert_eq!(opened(&bytes), refusal);
+            assert_eq!(opened(4, &bytes), refusal);
             assert_eq!(bytes[..length - 1], sheet::card_bytes(3, &flagged(count, 0)));
             // As version 3 lays it out, and a byte longer.
-            assert_eq!(opened(&bytes[..length - 1]), 1);
-            assert_eq!(opened(&[&bytes[..], &[0]].concat()), 1);
-            assert_eq!(opened(&bytes[..length - 3]), 1);
+            assert_eq!(opened(4, &bytes[..length - 1]), 1);
+            assert_eq!(opened(4, &[&bytes[..], &[0]].concat()), 1);
+            assert_eq!(opened(4, &bytes[..length - 3]), 1);
             assert_eq!(entries::open(3, &bytes, &mut [], &mut []), 1);
         }
     }
     let good = sheet::card_bytes(4, &flagged(2, 1));
     for length in 0..good.len() {
-        assert_eq!(opened(&good[..length]), 1);
+        assert_eq!(opened(4, &good[..length]), 1);
     }
 }
 
@@ -268,7 +237,7 @@ fn other_flags_are_1() {
             assert_eq!(judge::card_refusal(&card), 1);
         }
         for floor in [2, 16, 128, 255] {
-            assert_eq!(opened(&sheet::card_bytes(4, &flagged(count, floor))), 1);
+            assert_eq!(opened(4, &sheet::card_bytes(4, &flagged(count, floor))), 1);
         }
     }
     for (floor, due) in [(1, [2, 3, 4, 61]), (2, [1; 4])] {
@@ -280,7 +249,7 @@ fn other_flags_are_1() {
             flagged(33, floor),
         ];
         for (card, refusal) in cards.iter().zip(due) {
-            assert_eq!(opened(&sheet::card_bytes(4, card)), refusal);
+            assert_eq!(opened(4, &sheet::card_bytes(4, card)), refusal);
         }
     }
     // 1, then 10 and 11.

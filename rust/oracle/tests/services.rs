@@ -1,30 +1,26 @@
 //! Request Four of document 02: services with numbers of their own, from version 3 on. Its figures
 //! hold for the plain implementation and, with the published file, for the judge.
 
+mod common {
+    pub mod opening;
+}
+
+use common::opening::{many, opened, UNTOUCHED};
 use oracle::auditor::{audit_by, Verdict};
-use oracle::entries::{self, call_by, Step, STEPS};
+use oracle::entries::{self, Step, STEPS};
 use oracle::fields;
 use oracle::generate::{self, points_card};
 #[cfg(published)]
 use oracle::judge;
 use oracle::model::{Answer, Battery, Call, Card, Demand, Service, Services};
-use oracle::own::{self, Record};
 use oracle::random::Random;
 use oracle::{plain, reading, sheet};
 use std::collections::BTreeMap;
-
-const UNTOUCHED: u8 = 0xee;
 
 fn services(listed: &[(u16, u8)]) -> Services {
     let listed: Vec<Service> =
         listed.iter().map(|&(number, class)| Service { number, class }).collect();
     Services::new(&listed)
-}
-
-/// So many services: 4, 5, 6 and so on, all of one class.
-fn many(count: u16) -> Services {
-    let listed: Vec<(u16, u8)> = (4..4 + count).map(|number| (number, 3)).collect();
-    services(&listed)
 }
 
 /// The readings' card with a list.
@@ -48,33 +44,6 @@ fn demand(service_type: u16, commit: u8) -> Demand {
     }
 }
 
-/// What an opening in version 3 gives, after all else that 61 counts with has said the same: 10 of a
-/// record, 41 of the audit, 10 of the caller's own record. A refused one changes nothing.
-fn opened(card: &[u8]) -> u8 {
-    let (length, room) = (sheet::record_length(card), sheet::opening_length(card));
-    let (mut record, mut lent) = (vec![UNTOUCHED; length], vec![UNTOUCHED; room]);
-    let refusal = entries::open(3, card, &mut record, &mut lent);
-    let line_0 = [&[3], &(card.len() as u16).to_be_bytes()[..], card].concat();
-    let due = if refusal == 0 { (0, Verdict::Accepted(0)) } else { (10, Verdict::refused(41, 0)) };
-    if refusal == 0 {
-        assert_eq!((&record[..card.len()], &lent), (card, &line_0));
-    } else {
-        assert!(record.iter().chain(&lent).all(|byte| *byte == UNTOUCHED));
-        record = [card, &vec![0; length - card.len()]].concat();
-    }
-    for step in STEPS {
-        let (mut after, mut line) = (record.clone(), vec![UNTOUCHED; 900]);
-        assert_eq!(call_by(step, 3, &mut after, &[5], &mut line), due.0);
-        assert_eq!(after, record);
-        assert_eq!(audit_by(step, &line_0), due.1);
-        if let Some(card) = reading::card(3, card).filter(|card| card.layers <= 64) {
-            let mut own = Record::from(&Battery::fresh(&card));
-            assert_eq!(own::advance(step, 3, &mut own, &[5]).refusal, due.0);
-        }
-    }
-    refusal
-}
-
 // ---- Cards
 
 #[test]
@@ -83,7 +52,7 @@ fn lengths_by_the_count() {
         let card = card(many(count));
         let length = 159 + 3 * usize::from(count);
         assert_eq!(bytes(&card).len(), length);
-        assert_eq!(opened(&bytes(&card)), 0);
+        assert_eq!(opened(3, &bytes(&card)), 0);
         assert_eq!(sheet::opening(3, &card).len(), 3 + length);
         let record = sheet::battery_bytes(3, &Battery::fresh(&card));
         assert_eq!(record.len(), length + 8 + 40);
@@ -96,15 +65,15 @@ fn lengths_by_the_count() {
 fn a_count_of_33() {
     let right = bytes(&card(many(33)));
     assert_eq!(right.len(), 258);
-    assert_eq!(opened(&right), 61);
-    assert_eq!(opened(&right[..255]), 1);
+    assert_eq!(opened(3, &right), 61);
+    assert_eq!(opened(3, &right[..255]), 1);
     let no_layers = Card { layers: 0, ..card(many(33)) };
-    assert_eq!(opened(&bytes(&no_layers)), 1);
+    assert_eq!(opened(3, &bytes(&no_layers)), 1);
     for count in [34, 40, 128, 255] {
         let right = bytes(&card(many(count)));
-        assert_eq!(opened(&right), 61);
-        assert_eq!(opened(&right[..right.len() - 1]), 1);
-        assert_eq!(opened(&right[..right.len() - 3]), 1);
+        assert_eq!(opened(3, &right), 61);
+        assert_eq!(opened(3, &right[..right.len() - 1]), 1);
+        assert_eq!(opened(3, &right[..right.len() - 3]), 1);
     }
 }
 
@@ -113,15 +82,15 @@ fn every_other_length_is_1() {
     let good = bytes(&card(many(2)));
     assert_eq!(good.len(), 165);
     for length in 0..good.len() {
-        assert_eq!(opened(&good[..length]), 1);
+        assert_eq!(opened(3, &good[..length]), 1);
     }
     for more in [1, 2, 3, 8] {
-        assert_eq!(opened(&[&good[..], &vec![0; more]].concat()), 1);
+        assert_eq!(opened(3, &[&good[..], &vec![0; more]].concat()), 1);
     }
     for count in (0..=255).filter(|count| *count != 2) {
         let mut other = good.clone();
         other[158] = count;
-        assert_eq!(opened(&other), 1);
+        assert_eq!(opened(3, &other), 1);
     }
 }
 
@@ -150,7 +119,7 @@ fn lists_that_61_refuses() {
     ];
     for (list, refusal) in lists {
         let card = card(services(list));
-        assert_eq!(opened(&bytes(&card)), refusal, "{list:?}");
+        assert_eq!(opened(3, &bytes(&card)), refusal, "{list:?}");
         assert_eq!(plain::card_refusal(&card), refusal, "{list:?}");
         #[cfg(published)]
         assert_eq!(judge::card_refusal(&card), refusal, "{list:?}");
@@ -169,7 +138,7 @@ fn sixty_one_comes_after_4() {
         (bad, 61),
     ];
     for (card, refusal) in cards {
-        assert_eq!(opened(&bytes(&card)), refusal);
+        assert_eq!(opened(3, &bytes(&card)), refusal);
         assert_eq!(entries::open(3, &bytes(&card), &mut [], &mut []), refusal);
         assert_eq!(plain::card_refusal(&card), refusal);
         #[cfg(published)]
