@@ -59,6 +59,15 @@ for vector in 0 1 2 3 4 5 6 7 8 9 10 11; do
 done
 echo 'unknown.vec: 2 more disagree' >>../stdout
 expect unknown.vec 0 12
+# A list whose second start has no words: a standing loss is refused with 10, and its totals are the five numbers behind the first start's card.
+words=$(od -An -tu1 -j3 -N1 lists.vec)
+{
+    head -c $((4 + 8 * words)) lists.vec
+    printf '\000\062\000\000\000\063\000\014'
+    for word in 4 10 0 0 0 0 0; do printf "\\000\\000\\000\\000\\000\\000\\000\\$(printf %03o "$word")"; done
+    tail -c +$((5 + 8 * 24)) lists.vec | head -c 40
+} >unstarted.vec
+expect unstarted.vec 1 0
 
 # Three altered vectors. A substep's last outputs are the energy of its last zone and the logarithms.
 "$oracle" alter viscosity.vec altered.vec 17

@@ -10,7 +10,7 @@ use Rattle.zone.specs.Lent.{zone_salt}
 use Rattle.zone.proofs.Salts.{salts_one, one_salted}
 use Rattle.card.specs.declared.Card.{Card}
 use Rattle.card.specs.Derived.{salt_of, salts_of}
-use Rattle.zone.specs.LentSalts.{lent_salts}
+use Rattle.zone.specs.LentSalts.{lent_step, lent_salts}
 use Rattle.zone.specs.declared.lent.LentSalts.{LentSalts}
 use Rattle.card.specs.Lent.{figures_of, SaltsLent}
 
@@ -27,5 +27,5 @@ pub figures_salts : (c : Card) (figures : List Float) → figures ≡ figures_of
 figures_salts c figures e = rw e (its_figures c)
 
 -- what is lent of a card's own salts
-pub lent_own : {step : ℕ} (c : Card) (s : LentSalts step) → s.layers ≡ c.layers → lent_salts s ≡ salts_of c → (c.layers ≤ s.layers) × SaltsLent c s.figures.now step
-lent_own {step} c s few e = (rw few (le_refl c.layers), (rw (← few) s.salted.1, e))
+pub lent_own : {apart : ℕ} (c : Card) (s : LentSalts apart) → s.layers ≡ c.layers → lent_salts s ≡ salts_of c → (c.layers ≤ s.layers) × SaltsLent c s.figures.now (lent_step s)
+lent_own c s few e = (rw few (le_refl c.layers), (rw (← few) s.salted.1, e))

@@ -33,7 +33,7 @@ pub fn figures_of(card: Card) -> [f64; 5]
 }
 
 // Those figures as they are lent: one salt for all layers.
-#[tactic(auto, using(crate::proofs::Figures::figures_salts))]
+#[tactic(auto, unfolding(zone::specs::Lent::step_by), using(crate::proofs::Figures::figures_salts))]
 pub fn lent(card: Card, figures: &[f64; 5]) -> LentSalts<'_, 0>
     requires { (card.layers ≤ 64) × (figures.now ≡ figures_of card) }
     ensures layers { result.layers ≡ card.layers }
@@ -41,21 +41,22 @@ pub fn lent(card: Card, figures: &[f64; 5]) -> LentSalts<'_, 0>
 {
     LentSalts {
         figures,
+        step: 0,
         layers: card.layers,
     }
 }
 
 // The energy above ref of the whole battery at one temperature.
 #[tactic(auto, unfolding(crate::specs::Derived::energy_at), using(zone::proofs::Salts::salts_one, zone::proofs::Salts::salts_each, zone::proofs::Sums::stored_front))]
-pub fn energy_at<const STEP: usize>(
+pub fn energy_at<const APART: usize>(
     card: Card,
-    salts: LentSalts<'_, STEP>,
+    salts: LentSalts<'_, APART>,
     temperature: f64,
 ) -> Kilojoules
     requires { card.layers ≤ salts.layers }
     ensures { result ≡ energy_at (lent_salts salts.entry) card temperature }
 {
-    if STEP == 0 {
+    if salts.stride() == 0 {
         let salt = salts.zone(0);
         let layer = zone::layer::calculate_layer_energy_stored(temperature, card.reference, salt);
         let layers = card.layers as f64;

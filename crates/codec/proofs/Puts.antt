@@ -1,12 +1,12 @@
 -- Bytes written one after the other from a place on, and what a memory holds afterwards.
 use mathlib.Core.Path.{◌≡◌, refl, sym, ap, ◌∙◌}
-use mathlib.Core.List.{List, [], ◌++◌, append-nil, append_assoc}
-use Prim.Native.Nat.{ℕ, ◌+◌, ◌≤◌}
+use mathlib.Core.List.{List, [], ◌∷◌, ◌++◌, append-nil}
+use Prim.Native.Nat.{ℕ, ◌+◌, ◌≤◌, ◌<◌}
 use native.Mathlib.Nat.{add-zero, zero-add}
+use native.Mathlib.Numerals.{add-one}
 use native.Mathlib.Omega.{arith}
-use lib.ListN.{length, take, drop, length-append, length-drop, drop_of_length-le}
-use borrow.Rule.Slice.PartMut.{put_mid}
-use lib.Seq.{sets, sets-eq, length-sets, drop-drop}
+use lib.ListN.{length, take, drop, get_or, set, length-append, length-drop, drop_of_length-le}
+use lib.Seq.{sets, sets-eq, length-sets, take-suc, length-take-le}
 use lib.Ieee.{Float}
 use Rattle.codec.specs.Bytes.{be_bytes, f64_bytes, over}
 use Rattle.codec.proofs.Laws.{sets_sets, length_be_bytes, length_f64_bytes}
@@ -48,9 +48,13 @@ pub then_f64 : {l bs s t : List ℕ} {i p q : ℕ} (x : Float) → Written l i b
     → Written l i (bs ++ f64_bytes x) q t
 then_f64 x h e = then_sized (f64_bytes x) (length_f64_bytes x) h e
 
--- a part written anew, as a run of stores
-pub part_written : {A : Type 0} (l new vs : List A) (i k : ℕ) → k ≡ length vs → i + length vs ≤ length l → new ≡ vs → put_mid i k l new ≡ sets l i vs
-part_written l new vs i k e h n = rw (n, e, drop-drop) (sym (append_assoc (take i l) vs _) ∙ sym (sets-eq vs l i h))
+-- one byte more of a copy
+pub put_byte : (l s src : List ℕ) (at i : ℕ) → i < length src → s ≡ sets l at (take i src)
+    → set s (at + i) (get_or src i 0) ≡ sets l at (take (i + 1) src)
+put_byte l s src at i h e =
+    let w : length (take i src) ≡ i = length-take-le i src (omega arith) in
+    let v : Written l at (take i src) (at + i) s = record { place = omega arith; memory = e } in
+    (then (at + i + 1) (set s (at + i) (get_or src i 0)) (get_or src i 0 ∷ []) v refl refl).memory ∙ rw (add-one, take-suc src i 0 h)
 
 -- writing at the front, and up to the end
 pub put_front : (d bs : List ℕ) → length bs ≤ length d → sets d 0 bs ≡ over bs d

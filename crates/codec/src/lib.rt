@@ -121,13 +121,13 @@ pub fn put_u32(bytes: &mut [u8], at: usize, x: u32) -> usize
     put_be(bytes, at, 4, x as u64)
 }
 
-// Copies bytes to a place, and returns the place after them.
-#[tactic(auto, using(crate::proofs::Puts::part_written))]
+// Copies bytes to a place, and returns the place after them. Byte by byte: with `copy_from_slice` the archive for C asks for `memmove` too.
 pub fn put_bytes(bytes: &mut [u8], at: usize, src: &[u8]) -> usize
     requires { at + length src.now ≤ length bytes.old }
     ensures { (result ≡ at + length src.now) × (bytes.new ≡ sets bytes.old at src.now) }
 {
-    let end = at + src.len();
-    bytes[at..end].copy_from_slice(src);
-    end
+    for (i, byte) in src.iter().enumerate() {
+        bytes[at + i] = *byte;
+    }
+    at + src.len()
 }

@@ -43,8 +43,8 @@ fn demand_task(ledger: Ledger, demand: Demand, feed: f64) -> DemandTask
 }
 
 // The substeps of a demand. Here and below `feed` is the demand's return temperature, once it is there: the definitions take it beside the demand.
-fn demand_stopped<const STEP: usize>(
-    lent: Lent<'_, STEP>,
+fn demand_stopped<const APART: usize>(
+    lent: Lent<'_, APART>,
     demand: Demand,
     feed: f64,
     zones: &mut [f64; 64],
@@ -60,8 +60,8 @@ fn demand_stopped<const STEP: usize>(
 }
 
 // On the battery's own zones. Apart from `trial`: one function of both would copy the zones of each committed demand.
-fn committed<const STEP: usize>(
-    lent: Lent<'_, STEP>,
+fn committed<const APART: usize>(
+    lent: Lent<'_, APART>,
     demand: Demand,
     feed: f64,
     zones: &mut [f64; 64],
@@ -78,8 +78,8 @@ fn committed<const STEP: usize>(
 }
 
 // On a copy of the zones.
-fn trial<const STEP: usize>(
-    lent: Lent<'_, STEP>,
+fn trial<const APART: usize>(
+    lent: Lent<'_, APART>,
     demand: Demand,
     feed: f64,
     zones: &[f64; 64],
@@ -94,8 +94,8 @@ fn trial<const STEP: usize>(
 }
 
 #[tactic(auto, unfolding(crate::specs::Steps::demand_from, battery::specs::Answer::settled))]
-fn demand_from<const STEP: usize>(
-    lent: Lent<'_, STEP>,
+fn demand_from<const APART: usize>(
+    lent: Lent<'_, APART>,
     demand: Demand,
     feed: f64,
     zones: &mut [f64; 64],
@@ -114,8 +114,8 @@ fn demand_from<const STEP: usize>(
 }
 
 #[tactic(auto, unfolding(crate::specs::Steps::demand_given, battery::specs::Answer::settled))]
-fn demand_given<const STEP: usize>(
-    lent: Lent<'_, STEP>,
+fn demand_given<const APART: usize>(
+    lent: Lent<'_, APART>,
     demand: Demand,
     given: Option<f64>,
     zones: &mut [f64; 64],
@@ -130,8 +130,8 @@ fn demand_given<const STEP: usize>(
 }
 
 #[tactic(auto, unfolding(crate::specs::Steps::demand_energy), using(engine_replies::proofs::Settled::plain_with))]
-pub fn demand_energy<const STEP: usize>(
-    lent: Lent<'_, STEP>,
+pub fn demand_energy<const APART: usize>(
+    lent: Lent<'_, APART>,
     demand: Demand,
     zones: &mut [f64; 64],
 ) -> Result<Reply, Refusal>

@@ -17,9 +17,9 @@ use battery::{Answer, Battery, Call, Ledger, Reply};
 use refusals::Refusal;
 use runs::Source;
 
-fn charge<const STEP: usize>(
+fn charge<const APART: usize>(
     version: u8,
-    lent: Lent<'_, STEP>,
+    lent: Lent<'_, APART>,
     source: Source,
     target: f64,
     zones: &mut [f64; 64],
@@ -34,8 +34,8 @@ fn charge<const STEP: usize>(
     engine_replies::unless_refused(s.end, a)
 }
 
-fn heat_loss<const STEP: usize>(
-    lent: Lent<'_, STEP>,
+fn heat_loss<const APART: usize>(
+    lent: Lent<'_, APART>,
     floor: bool,
     zones: &mut [f64; 64],
 ) -> Result<Reply, Refusal>
@@ -47,7 +47,7 @@ fn heat_loss<const STEP: usize>(
     engine_replies::unless_refused(s.end, a)
 }
 
-fn level<const STEP: usize>(lent: Lent<'_, STEP>, zones: &[f64; 64]) -> Option<f64>
+fn level<const APART: usize>(lent: Lent<'_, APART>, zones: &[f64; 64]) -> Option<f64>
     ensures { result ≡ level_of (whole lent.entry.ledger zones.now) }
 {
     let card = lent.ledger.card;
@@ -71,8 +71,8 @@ fn read_level(ledger: Ledger, level: Option<f64>, zones: &[f64; 64]) -> Result<R
 }
 
 #[tactic(auto, unfolding(crate::specs::Steps::demand_to_level, battery::specs::Answer::settled), using(engine_replies::proofs::Settled::plain_with))]
-fn demand_to_level<const STEP: usize>(
-    lent: Lent<'_, STEP>,
+fn demand_to_level<const APART: usize>(
+    lent: Lent<'_, APART>,
     most: Option<f64>,
     target: f64,
     level: Option<f64>,
@@ -99,8 +99,8 @@ fn close_timestep(ledger: Ledger, zones: &[f64; 64]) -> Result<Reply, Refusal>
     engine_replies::checked(ledger, a, zones)
 }
 
-fn state_of_charge<const STEP: usize>(
-    lent: Lent<'_, STEP>,
+fn state_of_charge<const APART: usize>(
+    lent: Lent<'_, APART>,
     zones: &[f64; 64],
 ) -> Result<Reply, Refusal>
     ensures { settled lent.entry.ledger zones.now result zones.now ≡ read_level (whole lent.entry.ledger zones.now) (level_of (whole lent.entry.ledger zones.now)) }
@@ -109,8 +109,8 @@ fn state_of_charge<const STEP: usize>(
     read_level(lent.ledger, soc, zones)
 }
 
-fn charge_energy_demand<const STEP: usize>(
-    lent: Lent<'_, STEP>,
+fn charge_energy_demand<const APART: usize>(
+    lent: Lent<'_, APART>,
     most: Option<f64>,
     target: f64,
     zones: &[f64; 64],
@@ -124,9 +124,9 @@ fn charge_energy_demand<const STEP: usize>(
 // A match and no table of closures, which could leave a kind out. The electric and the wet charge are one call of `charge`, so that one copy of it is
 // compiled, in place.
 #[tactic(auto, unfolding(crate::specs::Operations::operation_step))]
-fn operation_step<const STEP: usize>(
+fn operation_step<const APART: usize>(
     version: u8,
-    lent: Lent<'_, STEP>,
+    lent: Lent<'_, APART>,
     what: Operation,
     zones: &mut [f64; 64],
 ) -> Result<Reply, Refusal>
@@ -147,9 +147,9 @@ fn operation_step<const STEP: usize>(
 
 // A call on an accepted battery, its zones apart and its salts lent: 10 where a field of the call is out of its range, or the steps.
 #[tactic(auto, using(crate::proofs::Accepted::accepted_finite, crate::proofs::Accepted::accepted_losses, crate::proofs::AdvanceKeeps::advance_is_step, crate::proofs::AdvanceKeeps::out_of_range_ten, engine_replies::proofs::Settled::settled_refusal, crate::proofs::ByKind::stepped))]
-pub fn advance_accepted<const STEP: usize>(
+pub fn advance_accepted<const APART: usize>(
     version: u8,
-    lent: Lent<'_, STEP>,
+    lent: Lent<'_, APART>,
     call: Call,
     zones: &mut [f64; 64],
 ) -> Result<Reply, Refusal>

@@ -53,6 +53,7 @@ fn advance(
     let Some(kind) = sheet_calls::kind_of(version, call) else {
         return Err(Refusal::BadCall);
     };
+    let kind = u8::from(kind);
     let listed = CardBytes {
         version,
         bytes: record,

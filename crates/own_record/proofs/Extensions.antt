@@ -10,7 +10,7 @@ use Rattle.card.proofs.Listed.{listed_length, entry_if}
 use Rattle.own_record.specs.Record.{own_service, own_services}
 
 module _ (version count : ℕ) (numbers classes : List ℕ) where
-  own_listed : lists_services version ≡ true → own_services version count numbers classes ≡ listed (own_service numbers classes) 0 count
+  pub own_listed : lists_services version ≡ true → own_services version count numbers classes ≡ listed (own_service numbers classes) 0 count
   unfolding own_services
   own_listed t = rw t
 

@@ -146,6 +146,7 @@ fn advance_read(
     let Some(kind) = sheet_calls::kind_of(version, call) else {
         return Err(Refusal::BadCall);
     };
+    let kind = u8::from(kind);
     let class = sheet_calls::demand_class(version, &extension, kind, call);
     let floor = card::extension::has_floor(&extension);
     let Some(read) = sheet_calls::call_by(version, kind, class, floor, call) else {

@@ -55,8 +55,8 @@ fn electric_ended(ledger: Ledger, outcome: Outcome) -> Stopped
 }
 
 #[tactic(auto, unfolding(runs::specs::Charge::electric_input, runs::specs::Charge::charge_electric), using(zone::proofs::Salts::salts_at))]
-pub fn charge_battery_electric<const STEP: usize>(
-    lent: Lent<'_, STEP>,
+pub fn charge_battery_electric<const APART: usize>(
+    lent: Lent<'_, APART>,
     power: f64,
     target: f64,
     zones: &mut [f64; 64],
@@ -96,8 +96,8 @@ fn hydronic_start(ledger: Ledger, wet: Exchanger) -> HydronicState
     }
 }
 
-pub fn charge_battery_hydronic<const STEP: usize>(
-    lent: Lent<'_, STEP>,
+pub fn charge_battery_hydronic<const APART: usize>(
+    lent: Lent<'_, APART>,
     wet: Exchanger,
     target: f64,
     zones: &mut [f64; 64],
@@ -114,8 +114,8 @@ pub fn charge_battery_hydronic<const STEP: usize>(
 
 // The charge step: by the source.
 #[tactic(auto, unfolding(runs::specs::Charge::charge_battery))]
-pub fn charge_battery<const STEP: usize>(
-    lent: Lent<'_, STEP>,
+pub fn charge_battery<const APART: usize>(
+    lent: Lent<'_, APART>,
     source: Source,
     target: f64,
     zones: &mut [f64; 64],
@@ -175,8 +175,8 @@ fn loss_ended(ledger: Ledger, outcome: Outcome) -> Stopped
 
 // No loss has heat of a charger, whatever its floor.
 #[tactic(auto, unfolding(substep::specs::Substep::charger_heat, runs::specs::Charge::loss_input, runs::specs::Charge::battery_heat_loss), using(zone::proofs::Salts::salts_at))]
-pub fn battery_heat_loss<const STEP: usize>(
-    lent: Lent<'_, STEP>,
+pub fn battery_heat_loss<const APART: usize>(
+    lent: Lent<'_, APART>,
     floor: bool,
     zones: &mut [f64; 64],
 ) -> Stopped
@@ -194,9 +194,9 @@ pub fn battery_heat_loss<const STEP: usize>(
 
 // The energy to the target, or to the flow maximum where that is less.
 #[tactic(auto, unfolding(runs::specs::Charge::energy_deficit))]
-fn energy_deficit<const STEP: usize>(
+fn energy_deficit<const APART: usize>(
     card: Card,
-    salts: LentSalts<'_, STEP>,
+    salts: LentSalts<'_, APART>,
     most: Option<f64>,
     current: Kilojoules,
     wanted: Kilojoules,
@@ -216,8 +216,8 @@ fn energy_deficit<const STEP: usize>(
 
 // `soc` is the battery's state of charge.
 #[tactic(auto, unfolding(runs::specs::Charge::charge_energy_demand))]
-pub fn calculate_charge_energy_demand<const STEP: usize>(
-    lent: Lent<'_, STEP>,
+pub fn calculate_charge_energy_demand<const APART: usize>(
+    lent: Lent<'_, APART>,
     most: Option<f64>,
     target: f64,
     soc: f64,

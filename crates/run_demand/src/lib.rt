@@ -162,9 +162,9 @@ fn demand_delivered(task: DemandTask, last: DemandState, outcome: Outcome) -> De
 }
 
 // A demand charges to level 0, which is the reference by any salt.
-fn demand_substep<const STEP: usize>(
+fn demand_substep<const APART: usize>(
     task: DemandTask,
-    salts: LentSalts<'_, STEP>,
+    salts: LentSalts<'_, APART>,
     state: DemandState,
     zones: &mut [f64; 64],
 ) -> DemandTurn
@@ -190,9 +190,9 @@ fn demand_substep<const STEP: usize>(
 }
 
 // The substeps from `start` on, at most `budget` of them.
-pub fn demand_run<const STEP: usize>(
+pub fn demand_run<const APART: usize>(
     task: DemandTask,
-    salts: LentSalts<'_, STEP>,
+    salts: LentSalts<'_, APART>,
     budget: u32,
     start: DemandState,
     zones: &mut [f64; 64],

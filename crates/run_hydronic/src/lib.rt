@@ -88,9 +88,9 @@ fn replay_by(
 
 // The fractional substep, from the zones before the whole one and with the Reynolds number after it. Here and below n goes beside the state, as in the
 // definitions, whose state is what a substep reads.
-fn replayed<const STEP: usize>(
+fn replayed<const APART: usize>(
     task: HydronicTask,
-    salts: LentSalts<'_, STEP>,
+    salts: LentSalts<'_, APART>,
     n: u32,
     state: HydronicState,
     seconds: f64,
@@ -123,9 +123,9 @@ fn fraction_seconds(task: HydronicTask, absorbed: Kilojoules, this: Kilojoules) 
 }
 
 // What the whole substep leads to. `before` are the zones that it began with.
-fn hydronic_whole<const STEP: usize>(
+fn hydronic_whole<const APART: usize>(
     task: HydronicTask,
-    salts: LentSalts<'_, STEP>,
+    salts: LentSalts<'_, APART>,
     n: u32,
     last: HydronicState,
     outcome: Outcome,
@@ -174,9 +174,9 @@ fn hydronic_whole<const STEP: usize>(
 }
 
 // One turn after n substeps.
-fn hydronic_step<const STEP: usize>(
+fn hydronic_step<const APART: usize>(
     task: HydronicTask,
-    salts: LentSalts<'_, STEP>,
+    salts: LentSalts<'_, APART>,
     n: u32,
     state: HydronicState,
     zones: &mut [f64; 64],
@@ -207,9 +207,9 @@ pub fn whole_substeps(task: HydronicTask) -> u64
 }
 
 // At most `steps` whole substeps from `start` on.
-pub fn hydronic_run<const STEP: usize>(
+pub fn hydronic_run<const APART: usize>(
     task: HydronicTask,
-    salts: LentSalts<'_, STEP>,
+    salts: LentSalts<'_, APART>,
     steps: u64,
     start: HydronicState,
     zones: &mut [f64; 64],

@@ -35,7 +35,7 @@ demand_long version kind n e h =
     let k = ap (call_length version) e in
     omega arith
 
-electric_length : (version : ℕ) → call_length version 2 ≡ 17
+pub electric_length : (version : ℕ) → call_length version 2 ≡ 17
 unfolding call_length
 electric_length version = refl
 

@@ -6,7 +6,7 @@ pub mod kind;
 
 ghost use Rattle.std.specs.Prelude.{◌≡◌, ◌+◌, ◌≤◌, length};
 ghost use Rattle.sheet_calls.specs.Calls.{commit_place, call_length, mark_ok, given_at, demand_at, demand_call, hydronic_at, charge_demand_call, kind_of, demand_class, call_by};
-ghost use Rattle.sheet_calls.specs.Kinds.{kind_number, kind_number_or_0};
+ghost use Rattle.sheet_calls.specs.Kinds.{kind_number_or_0};
 
 use battery::{Call, Demand, Hydronic};
 use card::extension::Extended;
@@ -33,19 +33,20 @@ fn commit_place(version: u8) -> usize
     2
 }
 
-// The bytes of a call of a kind.
+// The bytes of a call of a kind, 0 where there is no such kind.
 #[tactic(auto, unfolding(crate::specs::Calls::call_length), using(crate::proofs::Places::commit_place_lem))]
-pub fn call_length(version: u8, kind: Kind) -> usize
-    ensures { result ≡ call_length version (kind_number kind) }
+pub fn call_length(version: u8, kind: u8) -> usize
+    ensures { result ≡ call_length version kind }
 {
-    match kind {
-        Kind::DemandEnergy => commit_place(version) + RETURN + 9,
-        Kind::ChargeElectric => 17,
-        Kind::ChargeHydronic => 73,
-        Kind::HeatLoss => 1,
-        Kind::CloseTimestep => 1,
-        Kind::ReadStateOfCharge => 1,
-        Kind::ChargeEnergyDemand => 18,
+    match Kind::try_from(kind) {
+        Ok(Kind::DemandEnergy) => commit_place(version) + RETURN + 9,
+        Ok(Kind::ChargeElectric) => 17,
+        Ok(Kind::ChargeHydronic) => 73,
+        Ok(Kind::HeatLoss) => 1,
+        Ok(Kind::CloseTimestep) => 1,
+        Ok(Kind::ReadStateOfCharge) => 1,
+        Ok(Kind::ChargeEnergyDemand) => 18,
+        Err(_) => 0,
     }
 }
 
@@ -144,7 +145,7 @@ pub fn kind_of(version: u8, bytes: &[u8]) -> Option<Kind>
     let Ok(kind) = Kind::try_from(codec::byte_or_zero(bytes, 0)) else {
         return None;
     };
-    if bytes.len() == call_length(version, kind) {
+    if bytes.len() == call_length(version, u8::from(kind)) {
         return Some(kind);
     }
     None
@@ -152,10 +153,13 @@ pub fn kind_of(version: u8, bytes: &[u8]) -> Option<Kind>
 
 // The class of a demand's type by the services that a card lists; 0 for another kind.
 #[tactic(auto, unfolding(crate::specs::Calls::demand_class))]
-pub fn demand_class<E: Extended>(version: u8, card: &E, kind: Kind, bytes: &[u8]) -> u8
-    requires { (length (E.extension card.now).services ≤ E.room card.now) × (call_length version (kind_number kind) ≤ length bytes.now) }
-    ensures { result ≡ demand_class version (E.extension card.now).services (kind_number kind) bytes.now }
+pub fn demand_class<E: Extended>(version: u8, card: &E, kind: u8, bytes: &[u8]) -> u8
+    requires { (length (E.extension card.now).services ≤ E.room card.now) × (call_length version kind ≤ length bytes.now) }
+    ensures { result ≡ demand_class version (E.extension card.now).services kind bytes.now }
 {
+    let Ok(kind) = Kind::try_from(kind) else {
+        return 0;
+    };
     match kind {
         Kind::DemandEnergy => {
             if card::version::lists_services(version) {
@@ -171,11 +175,14 @@ pub fn demand_class<E: Extended>(version: u8, card: &E, kind: Kind, bytes: &[u8]
 // The call of a kind, with a demand's class and a standing loss's floor, in no fewer bytes than it has; none where they are bad, which A's entry
 // refuses with 10, the auditor with 42.
 #[tactic(auto, unfolding(crate::specs::Calls::call_by, crate::specs::Calls::bare_call))]
-pub fn call_by(version: u8, kind: Kind, class: u8, floor: bool, bytes: &[u8]) -> Option<Call>
-    requires { call_length version (kind_number kind) ≤ length bytes.now }
-    ensures { result ≡ call_by version (kind_number kind) class floor bytes.now }
+pub fn call_by(version: u8, kind: u8, class: u8, floor: bool, bytes: &[u8]) -> Option<Call>
+    requires { call_length version kind ≤ length bytes.now }
+    ensures { result ≡ call_by version kind class floor bytes.now }
 {
-    match kind {
+    let Ok(known) = Kind::try_from(kind) else {
+        return None;
+    };
+    match known {
         Kind::DemandEnergy => demand_call(version, class, bytes),
         Kind::ChargeElectric => {
             let power = codec::nth_f64(bytes, FIELDS, 0);

@@ -24,7 +24,7 @@ pub fn line_head(version: u8, card: Card, bytes: &[u8]) -> Option<LineHead>
     let Ok(kind) = Kind::try_from(codec::byte_or_zero(bytes, 2)) else {
         return None;
     };
-    let call = sheet_calls::call_length(version, kind);
+    let call = sheet_calls::call_length(version, u8::from(kind));
     let follows = crate::lines::line_length(version, card, call);
     let size = 2 + follows;
     if bytes.len() < size {
@@ -53,9 +53,10 @@ pub fn line_call(
     };
     let answer = 2 + head.call;
     if crate::answers::marks_ok(version, &bytes[answer..head.size]) {
-        let class = sheet_calls::demand_class(version, &line0, head.kind, &bytes[2..answer]);
+        let kind = u8::from(head.kind);
+        let class = sheet_calls::demand_class(version, &line0, kind, &bytes[2..answer]);
         let floor = card::extension::has_floor(&line0);
-        return sheet_calls::call_by(version, head.kind, class, floor, &bytes[2..answer]);
+        return sheet_calls::call_by(version, kind, class, floor, &bytes[2..answer]);
     }
     None
 }

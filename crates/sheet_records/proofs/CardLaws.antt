@@ -48,7 +48,7 @@ pub card_fits : (version : ℕ) (bs : List ℕ) → card_length version bs ≤ l
 card_fits version bs h = let l = card_least version bs in omega arith
 
 -- where services are listed, all of them are there
-services_fit : (version : ℕ) (bs : List ℕ) → lists_services version ≡ true → card_length version bs ≤ length bs → service_place (get_or bs count_place 0) ≤ length bs
+pub services_fit : (version : ℕ) (bs : List ℕ) → lists_services version ≡ true → card_length version bs ≤ length bs → service_place (get_or bs count_place 0) ≤ length bs
 unfolding card_length
 services_fit version bs t h =
     let k : flag_place bs + flag_length version ≤ length bs = rw t at h in

@@ -92,7 +92,7 @@ no_more_logarithms x s t inlet q k z taken logarithms e h =
     omega arith
 
 -- charging alone gives no heat to the water
-no_energy : (x : Common) (s : Salt) (t inlet : Float) (q : Kilojoules) (e : KilowattHours) → x.mode ≡ OnlyCharging → (zone_step x s t inlet q e).energy.0 ≡ Constants.zero
+pub no_energy : (x : Common) (s : Salt) (t inlet : Float) (q : Kilojoules) (e : KilowattHours) → x.mode ≡ OnlyCharging → (zone_step x s t inlet q e).energy.0 ≡ Constants.zero
 unfolding zone_step zone_properties counted_energy
 no_energy x s t inlet q e m = rw m
 

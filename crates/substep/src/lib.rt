@@ -229,7 +229,7 @@ fn per_layer(card: Card, whole: Option<f64>) -> Option<f64>
 }
 
 // The temperature of a charge level by the first zone's salt: worked out once for the zones of one salt.
-pub fn target_of<const STEP: usize>(card: Card, salts: LentSalts<'_, STEP>, level: f64) -> f64
+pub fn target_of<const APART: usize>(card: Card, salts: LentSalts<'_, APART>, level: f64) -> f64
     ensures { result ≡ target_of card (lent_salt salts.entry 0) level }
 {
     zone::layer::soc_to_temp(salts.zone(0), card.reference, card.max, level)

@@ -65,10 +65,10 @@ impl ZoneStepping for ChargingAlone {
 }
 
 // A substep of charging alone, in place.
-pub fn charge_in_place<const STEP: usize>(
+pub fn charge_in_place<const APART: usize>(
     card: Card,
     pcm: HeatBatteryPcm,
-    salts: LentSalts<'_, STEP>,
+    salts: LentSalts<'_, APART>,
     input: SubstepInput,
     zones: &mut [f64; 64],
 ) -> Outcome
@@ -77,7 +77,7 @@ pub fn charge_in_place<const STEP: usize>(
 {
     let common = substep::common_of(Mode::OnlyCharging, card, pcm, input, 0.0);
     let first = substep::target_of(card, salts, input.target);
-    let target = (STEP == 0).then_some(first);
+    let target = (salts.stride() == 0).then_some(first);
     let stepping = ChargingAlone { common, target };
     crate::over_zones(card, stepping, salts, input, 0, &mut Unkept, zones)
 }

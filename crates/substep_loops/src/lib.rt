@@ -11,7 +11,7 @@ ghost use Rattle.floats.specs.Constants.{zero};
 ghost use Rattle.floats.specs.F64.{◌⊕◌};
 ghost use Rattle.zone.specs.declared.Kilojoules.{Kilojoules};
 ghost use Rattle.zone.specs.declared.Salt.{Salt};
-ghost use Rattle.zone.specs.LentSalts.{lent_salt};
+ghost use Rattle.zone.specs.LentSalts.{lent_step, lent_salt};
 ghost use Rattle.substep.specs.declared.Common.{Common};
 ghost use Rattle.substep.specs.Substep.{zone_step, zones_after, progress_from, InPlace, substep_from};
 ghost use Rattle.substep_loops.specs.Found.{AtEachZone};
@@ -68,10 +68,10 @@ impl Energies for Unkept {
 // downward, since the energies there are 0. Places above the zones are neither read nor written.
 // `taken` are the logarithms of the heat transfer; each zone's own are added. It is compiled for each stepping alone.
 // It counts: salts and energies go by the index too, and an iterator over the zones would need a loop for each order.
-fn over_zones<S: ZoneStepping, E: Energies, const STEP: usize>(
+fn over_zones<S: ZoneStepping, E: Energies, const APART: usize>(
     card: Card,
     stepping: S,
-    salts: LentSalts<'_, STEP>,
+    salts: LentSalts<'_, APART>,
     input: SubstepInput,
     taken: u32,
     energies: &mut E,
@@ -116,11 +116,11 @@ fn over_zones<S: ZoneStepping, E: Energies, const STEP: usize>(
 
 // The salt of zone j. `first` is zone 0's, read before the loop: where one salt serves all, the compiler keeps what it works out of it.
 #[tactic(auto, using(zone::proofs::Salts::one_salt))]
-fn own_salt<const STEP: usize>(first: Salt, salts: LentSalts<'_, STEP>, j: usize) -> Salt
-    requires { (j * STEP + 5 ≤ length salts.figures.now) × (first ≡ lent_salt salts 0) }
+fn own_salt<const APART: usize>(first: Salt, salts: LentSalts<'_, APART>, j: usize) -> Salt
+    requires { (j * lent_step salts + 5 ≤ length salts.figures.now) × (first ≡ lent_salt salts 0) }
     ensures { result ≡ lent_salt salts.entry j }
 {
-    if STEP == 0 {
+    if salts.stride() == 0 {
         return first;
     }
     salts.zone(j)

@@ -109,10 +109,10 @@ impl ZoneStepping for LosingTo {
 // A substep of losses, in place; no loss has heat of a charger. That is a clause here, of a run of losses and of the step: an input of losses as a
 // type of its own would be copied for this one fact.
 #[tactic(auto, using(substep::proofs::SubstepLaws::passed, substep::proofs::SubstepLaws::without_logarithm_loss, substep::proofs::SubstepLaws::none_in_a_loss, crate::proofs::Steppings::heat_stays))]
-pub fn lose_in_place<const STEP: usize>(
+pub fn lose_in_place<const APART: usize>(
     card: Card,
     pcm: HeatBatteryPcm,
-    salts: LentSalts<'_, STEP>,
+    salts: LentSalts<'_, APART>,
     lowest: Option<f64>,
     input: SubstepInput,
     zones: &mut [f64; 64],

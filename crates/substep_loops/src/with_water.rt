@@ -44,10 +44,10 @@ impl ZoneStepping for WithWater {
 // `taken` are the logarithms of the heat transfer; each zone's own are added.
 // `target` is every zone's where the charger has heat; without one each zone's is worked out where it is asked.
 #[tactic(auto, unfolding(substep::specs::Substep::progress_from), using(substep::proofs::SubstepLaws::left_at_first, substep::proofs::SubstepLaws::index_below))]
-pub fn zones_in_place<E: Energies, const STEP: usize>(
+pub fn zones_in_place<E: Energies, const APART: usize>(
     card: Card,
     common: Common,
-    salts: LentSalts<'_, STEP>,
+    salts: LentSalts<'_, APART>,
     input: SubstepInput,
     taken: u32,
     target: Option<f64>,
@@ -64,10 +64,10 @@ pub fn zones_in_place<E: Energies, const STEP: usize>(
 // A substep with water in place, without its energies: the engine's. The mode is written out, so that the loop is compiled for it alone;
 // `charging_alone` and `losses` have the others. `target` is the temperature of the input's level in every zone, where the
 // charger has heat.
-pub fn process_in_place<const STEP: usize>(
+pub fn process_in_place<const APART: usize>(
     card: Card,
     pcm: HeatBatteryPcm,
-    salts: LentSalts<'_, STEP>,
+    salts: LentSalts<'_, APART>,
     input: SubstepInput,
     target: f64,
     zones: &mut [f64; 64],

@@ -17,11 +17,11 @@ fn compared(record: Record<'_>, held: &mut Held) -> Result<u64, Wrong> {
     let words = Words(record.words);
     let agrees = match id {
         Id::Start => {
-            *held = vectors_lists::start(words).unwrap_or_default();
+            *held = vectors_lists::start(words).unwrap_or(held.unstarted());
             return Ok(0);
         }
         Id::Call => calls::call(words, held),
-        _ => vectors_replays::replay(id, words),
+        _ => vectors_replays::replay(record.id, words),
     };
     if agrees {
         Ok(1)

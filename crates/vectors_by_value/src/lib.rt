@@ -57,10 +57,10 @@ fn bare(outcome: Outcome, zones: [f64; 64]) -> Substep
 }
 
 // In any mode, by value and with each zone's energy.
-pub fn process_heat_battery_zones<const STEP: usize>(
+pub fn process_heat_battery_zones<const APART: usize>(
     card: Card,
     pcm: HeatBatteryPcm,
-    salts: LentSalts<'_, STEP>,
+    salts: LentSalts<'_, APART>,
     input: SubstepInput,
     zones: [f64; 64],
 ) -> Substep

@@ -6,6 +6,7 @@ pub mod calls;
 ghost use Rattle.std.specs.Prelude.{◌≤◌};
 
 use battery::{Answer, Battery};
+use card::Card;
 use vectors_words::Words;
 
 // What the last record of a list left.
@@ -25,6 +26,35 @@ impl Default for Held {
             floor: false,
             battery: battery(Words(&[]), 0),
         }
+    }
+}
+
+impl Held {
+    // What a record 50 leaves that is no start: a battery without layers, on which a call is refused with 10. Its totals are the five numbers behind the card
+    // in the words of the battery before it.
+    pub fn unstarted(self) -> Held {
+        let b = self.battery;
+        let totals = [b.total, b.pump, b.direct, b.charged, b.electric];
+        let n = (b.count as usize).min(5);
+        let mut behind = totals;
+        for i in 0..5 {
+            behind[i] = if i < n { b.zones[i] } else { totals[i - n] };
+        }
+        let card = Card {
+            layers: 0,
+            ..b.card
+        };
+        let battery = Battery {
+            card,
+            zones: [0.0; 64],
+            count: 0,
+            total: behind[0],
+            pump: behind[1],
+            direct: behind[2],
+            charged: behind[3],
+            electric: behind[4],
+        };
+        Held { battery, ..self }
     }
 }
 

@@ -8,6 +8,7 @@ use lib.ListN.{length}
 use lib.Ieee.{Float}
 use Rattle.zone.specs.Layer.{Salts, One, Each, salt_at}
 use Rattle.zone.specs.Lent.{zone_salt, salts_in, Salted}
+use Rattle.zone.specs.LentSalts.{lent_step}
 use Rattle.zone.specs.declared.lent.LentSalts.{LentSalts}
 use native.Mathlib.Nat.{le_trans, lt_of_lt_of_le}
 
@@ -37,8 +38,8 @@ pub one_salted : (figures : List Float) (n : ℕ) → 5 ≤ length figures → S
 one_salted figures n h = (h, λ j l. let e : j * 0 ≡ 0 = omega arith in rw e h)
 
 -- what is lent has salts for at most 64 zones, and one for each zone of fewer
-pub few_layers : {step : ℕ} (salts : LentSalts step) (n : ℕ) → n ≤ salts.layers → n ≤ 64
+pub few_layers : {apart : ℕ} (salts : LentSalts apart) (n : ℕ) → n ≤ salts.layers → n ≤ 64
 few_layers salts n h = le_trans h salts.salted.0
 
-pub has_salt : {step : ℕ} (salts : LentSalts step) (n j : ℕ) → n ≤ salts.layers → j < n → j * step + 5 ≤ length salts.figures.now
+pub has_salt : {apart : ℕ} (salts : LentSalts apart) (n j : ℕ) → n ≤ salts.layers → j < n → j * lent_step salts + 5 ≤ length salts.figures.now
 has_salt salts n j h l = salts.salted.1.1 j (lt_of_lt_of_le l h)

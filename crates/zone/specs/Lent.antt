@@ -15,6 +15,10 @@ zone_salt figures step j =
       above = get_or figures (j * step + 4) nan;
     }
 
+-- the step from one salt to the next: 0 where `apart` is, else the one that is given
+unfoldable pub step_by : ℕ → ℕ → ℕ
+step_by apart step = cond (eqb apart 0) 0 step
+
 -- the salts among the figures
 unfoldable pub salts_in : List Float → ℕ → Salts
 salts_in figures step = cond (eqb step 0) (One (zone_salt figures step 0)) (Each (zone_salt figures step))

@@ -78,8 +78,8 @@ pub fn soc_to_temp(salt: Salt, reference: f64, max: f64, soc: f64) -> f64
 
 // The energy of zones above `reference`.
 #[tactic(auto, using(crate::proofs::Sums::stored_more, crate::proofs::Sums::stored_end), unfolding(crate::specs::Layer::stored_energy))]
-pub fn stored_energy<const STEP: usize>(
-    salts: LentSalts<'_, STEP>,
+pub fn stored_energy<const APART: usize>(
+    salts: LentSalts<'_, APART>,
     reference: f64,
     zones: &[f64],
 ) -> Kilojoules
@@ -108,8 +108,8 @@ fn level_of(soc: f64) -> Option<f64>
 
 // `stored` is the stored maximum; none where 25 refuses.
 #[tactic(auto, unfolding(crate::specs::Layer::state_of_charge))]
-pub fn calc_state_of_charge<const STEP: usize>(
-    salts: LentSalts<'_, STEP>,
+pub fn calc_state_of_charge<const APART: usize>(
+    salts: LentSalts<'_, APART>,
     reference: f64,
     stored: Kilojoules,
     zones: &[f64],

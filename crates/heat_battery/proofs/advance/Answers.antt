@@ -47,10 +47,10 @@ invariant_of-listed c = record { fits = (record_laid_lem c.args.version c.args.�
 
 pub demand_class-class-requires : goal.demand_class-class-requires
 demand_class-class-requires c =
-    (le_refl _, rw c.in-Some.ensures (kind_fits c.args.version c.args.call.now))
+    (le_refl _, rw (c.from-kind.ensures ∙ c.in-Some.ensures) (kind_fits c.args.version c.args.call.now))
 
 pub call_by-requires : goal.call_by-requires
-call_by-requires c = let a = c.args in rw c.in-Some.ensures (kind_fits a.version a.call.now)
+call_by-requires c = let a = c.args in rw (c.from-kind.ensures ∙ c.in-Some.ensures) (kind_fits a.version a.call.now)
 
 pub advance-a-requires : goal.advance-a-requires
 advance-a-requires c = c.requires.2
@@ -63,7 +63,7 @@ enter-requires c =
     let l = record_laid_lem a.version rec c.requires.0 in
     let e = answer_card a.version rec a.battery c.advance-a.result _ c.requires.1 c.advance-a.ensures in (
       rw e (accepted_layers a.version (card_at a.version rec) (fields_accepted a.version rec l.card_accepted)).1,
-      read_short a.version (extension_at a.version rec) a.call.now _ (sym (read_by_kind a.version (extension_at a.version a.«record».now) a.call.now _ _ _ _ c.in-Some.ensures c.demand_class-class.ensures c.has_floor-floor.ensures c.call_by.ensures) ∙ c.in-Some-call_by.is),
+      read_short a.version (extension_at a.version rec) a.call.now _ (sym (read_by_kind a.version (extension_at a.version a.«record».now) a.call.now _ _ _ _ (c.from-kind.ensures ∙ c.in-Some.ensures) c.demand_class-class.ensures c.has_floor-floor.ensures c.call_by.ensures) ∙ c.in-Some-call_by.is),
       rw e l.long,
     )
 
@@ -71,11 +71,11 @@ pub returns-in_default-call_by : goal.returns-in_default-call_by
 unfolding entry_read
 returns-in_default-call_by c =
     let a = c.args in
-    rw (← (read_by_kind a.version (extension_at a.version a.«record».now) a.call.now _ _ _ _ c.in-Some.ensures c.demand_class-class.ensures c.has_floor-floor.ensures c.call_by.ensures), c.in_default-call_by.is) (record { code_is = refl; record_is = refl; sheet_is = refl })
+    rw (← (read_by_kind a.version (extension_at a.version a.«record».now) a.call.now _ _ _ _ (c.from-kind.ensures ∙ c.in-Some.ensures) c.demand_class-class.ensures c.has_floor-floor.ensures c.call_by.ensures), c.in_default-call_by.is) (record { code_is = refl; record_is = refl; sheet_is = refl })
 
 pub returns : goal.returns
 unfolding entry_read
 returns c =
     let a = c.args in
-    rw (← (read_by_kind a.version (extension_at a.version a.«record».now) a.call.now _ _ _ _ c.in-Some.ensures c.demand_class-class.ensures c.has_floor-floor.ensures c.call_by.ensures), c.in-Some-call_by.is, ← (answer_is a.version a.«record».now a.battery c.advance-a.result _ c.requires.1 c.advance-a.ensures))
+    rw (← (read_by_kind a.version (extension_at a.version a.«record».now) a.call.now _ _ _ _ (c.from-kind.ensures ∙ c.in-Some.ensures) c.demand_class-class.ensures c.has_floor-floor.ensures c.call_by.ensures), c.in-Some-call_by.is, ← (answer_is a.version a.«record».now a.battery c.advance-a.result _ c.requires.1 c.advance-a.ensures))
     c.enter.ensures

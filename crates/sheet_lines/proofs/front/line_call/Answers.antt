@@ -6,7 +6,6 @@ use Rattle.logic.proofs.Branch.{via_true, via_false}
 use mathlib.Core.Bool.{Bool}
 use Rattle.card.specs.Extension.{has_floor}
 use Rattle.sheet_records.specs.Cards.{extension_at}
-use Rattle.sheet_calls.specs.Kinds.{kind_number}
 use Rattle.sheet_calls.specs.Calls.{demand_class, call_by}
 use Rattle.sheet_lines.specs.Answers.{marks_ok}
 use Rattle.sheet_lines.specs.Front.{head_numbers, line_call, call_part}
@@ -53,7 +52,7 @@ pub demand_class-class-requires : goal.demand_class-class-requires
 demand_class-class-requires c =
     let a = c.args in
     let h = headed a.line0.version a.card a.bytes.now _ (ap head_numbers (sym c.in-Some.is) ∙ c.requires) in
-    (le_refl _, rw (h.calls, h.kind_is) (omega (arith, call_long a.line0.version a.card a.bytes.now h.fits)))
+    (le_refl _, rw (h.calls, c.from-kind.ensures, h.kind_is) (omega (arith, call_long a.line0.version a.card a.bytes.now h.fits)))
 
 pub slice_bounds-call_by-end : goal.slice_bounds-call_by-end
 slice_bounds-call_by-end c =
@@ -65,7 +64,7 @@ pub call_by-requires : goal.call_by-requires
 call_by-requires c =
     let a = c.args in
     let h = headed a.line0.version a.card a.bytes.now _ (ap head_numbers (sym c.in-Some.is) ∙ c.requires) in
-    rw (h.calls, h.kind_is) (omega (arith, call_long a.line0.version a.card a.bytes.now h.fits))
+    rw (h.calls, c.from-kind.ensures, h.kind_is) (omega (arith, call_long a.line0.version a.card a.bytes.now h.fits))
 
 pub returns-then-marks_ok : goal.returns-then-marks_ok
 unfolding line_call
@@ -74,12 +73,12 @@ returns-then-marks_ok c =
     let h = headed a.line0.version a.card a.bytes.now _ (ap head_numbers (sym c.in-Some.is) ∙ c.requires) in
     let extension = extension_at a.line0.version a.line0.bytes.now in
     let part = call_part a.line0.version a.bytes.now in
-    let class = c.demand_class-class.ensures ∙ ap (demand_class a.line0.version extension.services (kind_number c.in-Some.head.kind)) h.calls in
+    let class = c.demand_class-class.ensures ∙ ap (demand_class a.line0.version extension.services c.from-kind.result) h.calls in
     let marks = ap (marks_ok a.line0.version) (sym h.answers) ∙ sym c.marks_ok.ensures ∙ c.if-marks_ok.true in
-    c.call_by.ensures ∙ ap (call_by a.line0.version (kind_number c.in-Some.head.kind) c.demand_class-class.result c.has_floor-floor.result) h.calls
-    ∙ ap (λ (k : ℕ). call_by a.line0.version (kind_number c.in-Some.head.kind) k c.has_floor-floor.result part) class
-    ∙ ap (λ (t : Bool). call_by a.line0.version (kind_number c.in-Some.head.kind) (demand_class a.line0.version extension.services (kind_number c.in-Some.head.kind) part) t part) c.has_floor-floor.ensures
-    ∙ ap (λ (k : ℕ). call_by a.line0.version k (demand_class a.line0.version extension.services k part) (has_floor extension) part) h.kind_is
+    c.call_by.ensures ∙ ap (call_by a.line0.version c.from-kind.result c.demand_class-class.result c.has_floor-floor.result) h.calls
+    ∙ ap (λ (k : ℕ). call_by a.line0.version c.from-kind.result k c.has_floor-floor.result part) class
+    ∙ ap (λ (t : Bool). call_by a.line0.version c.from-kind.result (demand_class a.line0.version extension.services c.from-kind.result part) t part) c.has_floor-floor.ensures
+    ∙ ap (λ (k : ℕ). call_by a.line0.version k (demand_class a.line0.version extension.services k part) (has_floor extension) part) (c.from-kind.ensures ∙ h.kind_is)
     ∙ sym (call_known a.line0.version a.card a.bytes.now extension h.fits)
     ∙ via_true _ _ h.ok (via_true _ _ marks refl)
 

@@ -14,7 +14,7 @@ pub over_zones-requires : goal.over_zones-requires
 over_zones-requires g c =
     let p = c.requires in
     let first = c.target_of-first.ensures ∙ sym (common_level _ _ _ _ _ _ c.common_of-common.ensures.value) in
-    (omega arith, (p.0, λ k b. (c.common_of-common.ensures.its_mode, rw c.then_some-target.ensures (IfSome-then_some (eqb g.row.STEP 0) _ _ (λ e. rw (one_salt _ _ _ (eqb-true g.row.STEP 0 e)) first)))))
+    (omega arith, (p.0, λ k b. (c.common_of-common.ensures.its_mode, rw c.then_some-target.ensures (IfSome-then_some (eqb c.stride.result 0) _ _ (λ e. rw (one_salt _ _ _ (sym c.stride.ensures ∙ eqb-true c.stride.result 0 e)) first)))))
 
 pub returns : goal.returns
 returns g c =
