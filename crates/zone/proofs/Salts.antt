@@ -7,10 +7,21 @@ use borrow.Author.Tests.{ne_eqb}
 use lib.ListN.{length}
 use lib.Ieee.{Float}
 use Rattle.zone.specs.Layer.{Salts, One, Each, salt_at}
-use Rattle.zone.specs.Lent.{zone_salt, salts_in, Salted}
+use Rattle.zone.specs.Lent.{zone_salt, salts_in, Salted, step_by}
 use Rattle.zone.specs.LentSalts.{lent_step}
 use Rattle.zone.specs.declared.lent.LentSalts.{LentSalts}
 use native.Mathlib.Nat.{le_trans, lt_of_lt_of_le}
+
+-- with APART 0 the step is 0, whatever the field holds
+pub step_by_none : (step : ℕ) → step_by 0 step ≡ 0
+unfolding step_by
+step_by_none step = refl
+
+-- a caller who knows the step when the code is compiled gives it as APART and as the field
+pub step_by_same : (step : ℕ) → step_by step step ≡ step
+unfolding step_by
+step_by_same zero = refl
+step_by_same (suc k) = rw (ne_eqb (suc k) 0 (λ h. omega arith))
 
 -- with the step 0 every zone has the first salt
 pub one_salt : (figures : List Float) (step j : ℕ) → step ≡ 0 → zone_salt figures step j ≡ zone_salt figures step 0

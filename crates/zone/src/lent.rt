@@ -6,8 +6,8 @@ ghost use Rattle.zone.specs.Lent.{Salted, step_by};
 use crate::Salt;
 
 // Five figures for each salt, those of zone j from j × the step on: one salt serves all zones where the step is 0, each has its own where it is 5. With APART 0
-// the step is 0, whatever the field holds, so that what zones of one salt share is worked out once; with any other it is the field. Numbers and no `Salt`s:
-// document 02, Ten, has five for each zone.
+// the step is 0, whatever the field holds, so that what zones of one salt share is worked out once; with any other it is the field. A caller who knows the step
+// when the code is compiled gives it as both. Numbers and no `Salt`s: document 02, Ten, has five for each zone.
 #[derive(Clone, Copy)]
 pub struct LentSalts<'a, const APART: usize> {
     pub figures: &'a [f64],
