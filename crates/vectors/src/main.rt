@@ -21,7 +21,7 @@ fn compared(record: Record<'_>, held: &mut Held) -> Result<u64, Wrong> {
             return Ok(0);
         }
         Id::Call => calls::call(words, held),
-        _ => vectors_replays::replay(record.id, words),
+        _ => vectors_replays::replay_number(record.id, words),
     };
     if agrees {
         Ok(1)

@@ -8,6 +8,11 @@ mod standins;
 mod substeps;
 mod zones;
 
+ghost use Rattle.std.specs.Prelude.{◌≡◌, ◌≢◌, ◌⊎◌, false};
+ghost use Rattle.vectors_files.specs.Ids.{number_of};
+ghost use Rattle.vectors_files.specs.declared.ids.Id.{Id};
+ghost use Rattle.vectors_files.specs.declared.ids.Id.TheVariants.{Start, Call};
+
 use vectors_files::ids::Id;
 use vectors_words::Words;
 use zone_water::Mode;
@@ -21,11 +26,10 @@ fn mode_of(word: u64) -> Mode {
     }
 }
 
-// Whether a record of these words agrees; none of a list does, and none whose number is no id. A match and no table of closures, which could leave an id out.
-pub fn replay(number: u64, words: Words<'_>) -> bool {
-    let Ok(id) = Id::try_from(number) else {
-        return false;
-    };
+// Whether a record of this id and these words agrees; none of a list does. A match and no table of closures, which could leave an id out.
+pub fn replay(id: Id, words: Words<'_>) -> bool
+    ensures lists { ((id ≡ Start) ⊎ (id ≡ Call)) → result ≡ false }
+{
     match id {
         Id::Finite => standins::finite(words),
         Id::NearlyEqual => standins::nearly_equal(words),
@@ -51,5 +55,15 @@ pub fn replay(number: u64, words: Words<'_>) -> bool {
         Id::Substep => substeps::substep(words),
         Id::ChargeEnergyDemand => levels::charge_energy_demand(words),
         Id::Start | Id::Call => false,
+    }
+}
+
+// The same of the number that a file has: none agrees whose number is no id.
+pub fn replay_number(number: u64, words: Words<'_>) -> bool
+    ensures no_id { ((id : Id) → number_of id ≢ number) → result ≡ false }
+{
+    match Id::try_from(number) {
+        Ok(id) => replay(id, words),
+        Err(_) => false,
     }
 }
