@@ -33,7 +33,7 @@ pub fn figures_of(card: Card) -> [f64; 5]
 }
 
 // Those figures as they are lent: one salt for all layers.
-#[tactic(auto, unfolding(zone::specs::Lent::step_by), using(crate::proofs::Figures::figures_salts))]
+#[tactic(auto, using(zone::proofs::Salts::step_by_none, crate::proofs::Figures::figures_salts))]
 pub fn lent(card: Card, figures: &[f64; 5]) -> LentSalts<'_, 0>
     requires { (card.layers ≤ 64) × (figures.now ≡ figures_of card) }
     ensures layers { result.layers ≡ card.layers }

@@ -8,7 +8,7 @@ mod standins;
 mod substeps;
 mod zones;
 
-ghost use Rattle.std.specs.Prelude.{◌≡◌, ◌≢◌, ◌⊎◌, false};
+ghost use Rattle.std.specs.Prelude.{◌≡◌, ◌⊎◌, false};
 ghost use Rattle.vectors_files.specs.Ids.{number_of};
 ghost use Rattle.vectors_files.specs.declared.ids.Id.{Id};
 ghost use Rattle.vectors_files.specs.declared.ids.Id.TheVariants.{Start, Call};
@@ -58,9 +58,9 @@ pub fn replay(id: Id, words: Words<'_>) -> bool
     }
 }
 
-// The same of the number that a file has: none agrees whose number is no id.
+// The same of the number that a file has: none agrees whose number is no id, or only a list's.
 pub fn replay_number(number: u64, words: Words<'_>) -> bool
-    ensures no_id { ((id : Id) → number_of id ≢ number) → result ≡ false }
+    ensures lists { ((id : Id) → number_of id ≡ number → (id ≡ Start) ⊎ (id ≡ Call)) → result ≡ false }
 {
     match Id::try_from(number) {
         Ok(id) => replay(id, words),
